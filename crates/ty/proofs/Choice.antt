@@ -1,0 +1,45 @@
+-- Laws of tests: `choose`, and, or. Assumes nothing.
+use mathlib.Core.Path.{_≡_, refl, sym, _∙_}
+use borrow.Author.Tests.{eq-eqb, ne-eqb, lt-ltb, le-ltb, le-leb, lt-leb}
+use mathlib.Core.Bool.{Bool, true, false, not, true≢false, false≢true, _&&_, _||_}
+use Rattle.ty.specs.Choose.{choose}
+
+-- a property of `choose t x y` is shown of x where t is true and of y where it is false
+pub by-choice : {A : Type 0} (P : A → Type 0) (t : Bool) {x y : A} → (t ≡ true → P x) → (t ≡ false → P y) → P (choose t x y)
+unfolding choose
+by-choice P true f g = f refl
+by-choice P false f g = g refl
+
+pub and-left : (s t : Bool) → s && t ≡ true → s ≡ true
+and-left true t e = refl
+and-left false t e = e
+
+pub and-right : (s t : Bool) → s && t ≡ true → t ≡ true
+and-right true t e = e
+and-right false true e = refl
+and-right false false e = e
+
+-- t where s holds, and s does
+pub or-else : (s t : Bool) → not s || t ≡ true → s ≡ true → t ≡ true
+or-else true t e h = e
+or-else false true e h = refl
+or-else false false e h = h
+
+-- what a chain of `choose` is, by its first test
+pub chosen : {A : Type 0} (t : Bool) (r x y : A) → t ≡ true → r ≡ x → r ≡ choose t x y
+unfolding choose
+chosen true r x y e h = h
+chosen false r x y e h = absurd (false≢true e)
+
+pub passed : {A : Type 0} (t : Bool) (r x y : A) → t ≡ false → r ≡ y → r ≡ choose t x y
+unfolding choose
+passed true r x y e h = absurd (true≢false e)
+passed false r x y e h = h
+
+-- a call's result u was tested
+pub tested : (t u v : Bool) → u ≡ t → u ≡ v → t ≡ v
+tested t u v e h = sym e ∙ h
+
+pub ruleset chain = (chosen, passed, eq-eqb, ne-eqb, lt-ltb, le-ltb, le-leb, lt-leb)
+
+pub ruleset chain-calls = (chain, tested)

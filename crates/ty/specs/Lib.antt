@@ -1,0 +1,5 @@
+pub mod Choose
+pub mod Kind
+pub mod Name
+pub mod Bytes
+pub mod Read
