@@ -1,0 +1,65 @@
+-- The question's tree. Document 01, "Table and question": one tree, parent first, its nodes numbered from 0 in byte order.
+use Prim.Native.Nat.{ℕ, suc, _+_}
+use mathlib.Core.Option.{Option, none, some}
+use Rattle.ty.specs.Bytes.{Ty}
+
+-- node kinds 0 to 6: leaf, binary, unary, named argument, member, call, method call (object first)
+mutual
+  pub data Node : Type 0 where
+    leaf : Ty → Node
+    binary : ℕ → Node → Node → Node
+    unary : ℕ → Node → Node
+    named : ℕ → Node → Node
+    member : ℕ → Node → Node
+    call : ℕ → Row → Node
+    method : ℕ → Node → Row → Node
+
+  -- the arguments of a call
+  pub data Row : Type 0 where
+    nil : Row
+    cons : Node → Row → Row
+
+-- the number behind a tree whose root has number n
+unfoldable mutual
+  pub after : Node → ℕ → ℕ
+  after (leaf t) n = suc n
+  after (binary op l r) n = after r (after l (suc n))
+  after (unary op x) n = after x (suc n)
+  after (named id x) n = after x (suc n)
+  after (member id x) n = after x (suc n)
+  after (call id r) n = afters r (suc n)
+  after (method id x r) n = afters r (after x (suc n))
+
+  pub afters : Row → ℕ → ℕ
+  afters nil n = n
+  afters (cons x r) n = afters r (after x n)
+
+-- how many nodes a tree has
+unfoldable mutual
+  pub size : Node → ℕ
+  size (leaf t) = 1
+  size (binary op l r) = suc (size l + size r)
+  size (unary op x) = suc (size x)
+  size (named id x) = suc (size x)
+  size (member id x) = suc (size x)
+  size (call id r) = suc (sizes r)
+  size (method id x r) = suc (size x + sizes r)
+
+  pub sizes : Row → ℕ
+  sizes nil = 0
+  sizes (cons x r) = size x + sizes r
+
+-- how many arguments a row has
+unfoldable pub count : Row → ℕ
+count nil = 0
+count (cons x r) = suc (count r)
+
+-- the name that a node gives to the argument that it is
+unfoldable pub nameOf : Node → Option ℕ
+nameOf (leaf t) = none
+nameOf (binary op l r) = none
+nameOf (unary op x) = none
+nameOf (named id x) = some id
+nameOf (member id x) = none
+nameOf (call id r) = none
+nameOf (method id x r) = none

@@ -1,0 +1,1 @@
+// The symbol table (sema/symbol.rs): a table's records, its refusals and its lookups.
