@@ -1,7 +1,7 @@
 -- Laws of tests: `choose`, and, or. Assumes nothing.
-use mathlib.Core.Path.{_≡_, refl, sym, _∙_}
 use borrow.Author.Tests.{eq-eqb, ne-eqb, lt-ltb, le-ltb, le-leb, lt-leb}
 use mathlib.Core.Bool.{Bool, true, false, not, true≢false, false≢true, _&&_, _||_}
+use mathlib.Core.Path.{_≡_, refl, sym, _∙_}
 use Rattle.ty.specs.Choose.{choose}
 
 -- a property of `choose t x y` is shown of x where t is true and of y where it is false
@@ -24,6 +24,11 @@ pub or-else : (s t : Bool) → not s || t ≡ true → s ≡ true → t ≡ true
 or-else true t e h = e
 or-else false true e h = refl
 or-else false false e h = h
+
+-- what follows from each of two follows from one or the other
+pub or-cases : {P : Type 0} (s t : Bool) → s || t ≡ true → (s ≡ true → P) → (t ≡ true → P) → P
+or-cases true t e f g = f refl
+or-cases false t e f g = g e
 
 -- what a chain of `choose` is, by its first test
 pub chosen : {A : Type 0} (t : Bool) (r x y : A) → t ≡ true → r ≡ x → r ≡ choose t x y

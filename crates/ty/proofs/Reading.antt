@@ -1,20 +1,19 @@
 -- Laws of reading a type: an item lies within the end and has few children, and what one turn of the reading does. Assumes nothing.
-use mathlib.Core.Path.{_≡_, refl, _∙_}
+use Prim.Native.Nat.{ℕ, zero, suc, _+_, _-_, _≤_, _<_, min, max}
+use borrow.Author.Tests.{leb-true, leb-false, ltb-false, ne-eqb, eq-eqb}
+use lib.Dec.{eqb, leb}
+use lib.ListN.{length, getD}
 use mathlib.Core.Bool.{Bool, true, false, _&&_, _||_, not}
 use mathlib.Core.List.{List}
-use Prim.Native.Nat.{ℕ, zero, suc, _+_, _-_, _≤_, _<_, min, max}
+use mathlib.Core.Path.{_≡_, refl, _∙_}
 use native.Mathlib.Omega.{arith}
-use lib.ListN.{length, getD}
-use lib.Dec.{eqb, leb}
-use borrow.Author.Tests.{leb-true, leb-false, ltb-false, ne-eqb, eq-eqb}
+use Rattle.ty.proofs.Choice.{by-choice, and-right, or-else}
 use Rattle.ty.specs.Choose.{choose}
 use Rattle.ty.specs.Kind.{arrayKind, functionKind}
 use Rattle.ty.specs.Read.{bodyLength, children, goodBody, itemOf, zeros, itemAt, stopped, after, readFrom, readType}
-use Rattle.ty.specs.declared.read.TypeRead.{TypeRead}
-use Rattle.ty.specs.declared.read.TypeRead.the-variants.{Whole, Malformed}
-use Rattle.ty.specs.declared.read.Item.{Item}
 use Rattle.ty.specs.declared.read.Item.the-variants.{Part, Broken, Out}
-use Rattle.ty.proofs.Choice.{by-choice, and-right, or-else}
+use Rattle.ty.specs.declared.read.Item.{Item}
+use Rattle.ty.specs.declared.read.TypeRead.the-variants.{Whole, Malformed}
 
 -- an item lies behind `at` and within `end`, and has at most 17 children
 unfoldable pub Within : ℕ → ℕ → Item → Type 0

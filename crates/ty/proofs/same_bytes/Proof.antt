@@ -3,7 +3,7 @@ use lib.ListN.{length, drop}
 use mathlib.Core.Path.{_≡_, refl, sym, _∙_}
 use native.Mathlib.Numerals.{add-one}
 use native.Mathlib.Omega.{arith}
-use Rattle.ty.proofs.Laws.{same-length, same-differ, same-more, same-end}
+use Rattle.ty.proofs.Same.{same-length, same-differ, same-more, same-end}
 use Rattle.ty.proofs.same_bytes.Statement.{statement}
 use Rattle.ty.proofs.same_bytes.Tie as tie
 use Rattle.ty.specs.Bytes.{sameBytes}
