@@ -1,7 +1,9 @@
 -- The question's tree. Document 01, "Table and question": one tree, parent first, its nodes numbered from 0 in byte order.
-use Prim.Native.Nat.{ℕ, suc, _+_}
+use Prim.Native.Nat.{ℕ, suc, _+_, _≤_}
 use mathlib.Core.Option.{Option, none, some}
+use lib.ListN.{length}
 use Rattle.ty.specs.Bytes.{Ty}
+use Rattle.ty.specs.Read.{longestType}
 
 -- node kinds 0 to 6: leaf, binary, unary, named argument, member, call, method call (object first)
 mutual
@@ -63,3 +65,33 @@ nameOf (named id x) = some id
 nameOf (member id x) = none
 nameOf (call id r) = none
 nameOf (method id x r) = none
+
+-- how many bytes a tree takes: a node's kind, its operator, id or type, its count, and its children
+unfoldable mutual
+  pub bytes : Node → ℕ
+  bytes (leaf t) = 1 + length t
+  bytes (binary op l r) = 2 + bytes l + bytes r
+  bytes (unary op x) = 2 + bytes x
+  bytes (named id x) = 3 + bytes x
+  bytes (member id x) = 3 + bytes x
+  bytes (call id r) = 4 + bytess r
+  bytes (method id x r) = 4 + bytes x + bytess r
+
+  pub bytess : Row → ℕ
+  bytess nil = 0
+  bytess (cons x r) = bytes x + bytess r
+
+-- every leaf's type has at most 192 bytes
+unfoldable mutual
+  pub LeavesFit : Node → Type 0
+  LeavesFit (leaf t) = length t ≤ longestType
+  LeavesFit (binary op l r) = LeavesFit l × LeavesFit r
+  LeavesFit (unary op x) = LeavesFit x
+  LeavesFit (named id x) = LeavesFit x
+  LeavesFit (member id x) = LeavesFit x
+  LeavesFit (call id r) = RowFits r
+  LeavesFit (method id x r) = LeavesFit x × RowFits r
+
+  pub RowFits : Row → Type 0
+  RowFits nil = Unit {0}
+  RowFits (cons x r) = LeavesFit x × RowFits r
