@@ -1,0 +1,222 @@
+//! Exhaustive sweeps, by index.
+
+use super::Profile;
+use crate::bytes::*;
+use crate::name::{BUILT_IN, NONE};
+
+type Pair = (Bytes, Bytes);
+
+/// Names that the sweeps' table adds: 40 T (a type variable), 41 U (in `types`), 42 Page, 43 Scan, 44 f, 45 x.
+fn small_table() -> Table {
+    let mut table = Table::new();
+    for name in ["T", "U", "Page", "Scan", "f", "x"] {
+        table.name(name);
+    }
+    table.class(41, NONE, NONE, true);
+    table.class(42, NONE, NONE, true);
+    table.class(43, 42, NONE, true);
+    table
+}
+
+/// At least 60 types: every kind, nested and not.
+pub fn type_list() -> Vec<Bytes> {
+    let mut types: Vec<Bytes> = (0..12).map(|k| vec![k]).collect();
+    types.push(vec![ERROR]);
+    for k in [INT, LONG, DOUBLE, STRING, BOOLEAN, ANY, NOTHING, ERROR] {
+        types.push(nullable(&[k]));
+    }
+    types.push(nullable(&nullable(&[INT])));
+    types.push(nullable(&nullable(&[NOTHING])));
+    for k in [INT, STRING, ANY, ERROR] {
+        types.push(pointer(&[k]));
+    }
+    for k in [INT, LONG, STRING, ANY, NOTHING, ERROR] {
+        types.push(list(&[k]));
+        types.push(array(None, &[k]));
+    }
+    types.push(array(Some(3), &[INT]));
+    types.push(array(Some(4), &[INT]));
+    types.push(array(None, &list(&[INT])));
+    types.push(list(&list(&[INT])));
+    types.push(nullable(&list(&[INT])));
+    types.push(list(&nullable(&[INT])));
+    types.push(map(&[STRING], &[INT]));
+    types.push(map(&[STRING], &[STRING]));
+    types.push(nullable(&map(&[INT], &[INT])));
+    for id in [0, 1, 2, 3, 4, 5, 40, 41, 42, 43] {
+        types.push(named(id));
+    }
+    types.push(nullable(&named(1)));
+    types.push(nullable(&named(42)));
+    types.push(nullable(&named(40)));
+    types.push(array(None, &named(42)));
+    types.push(function(&[], &[INT]));
+    types.push(function(&[&[INT]], &[INT]));
+    types.push(function(&[&[INT], &[STRING]], &[UNIT]));
+    types.push(type_var(0));
+    types.push(type_var(1));
+    types.push(module(42));
+    types.push(nullable(&module(0)));
+    types.push(pointer(&named(42)));
+    types
+}
+
+fn short_bytes(at: usize) -> Bytes {
+    match at {
+        0 => vec![],
+        1..=256 => vec![(at - 1) as u8],
+        _ => vec![((at - 257) / 256) as u8, ((at - 257) % 256) as u8],
+    }
+}
+
+const SHORTS: usize = 1 + 256 + 65_536;
+
+pub fn short_count() -> usize {
+    3 * SHORTS
+}
+
+/// Tables, questions and trees of up to 2 bytes.
+pub fn short(at: usize) -> Pair {
+    let bytes = short_bytes(at % SHORTS);
+    match at / SHORTS {
+        0 => (bytes, question(&leaf(&[INT]))),
+        1 => (vec![], bytes),
+        _ => (vec![], question(&bytes)),
+    }
+}
+
+/// Leaves of the type list, calls without arguments of every name, and every kind byte.
+pub fn one_node_count() -> usize {
+    type_list().len() + BUILT_IN.len() + 7 + 256
+}
+
+pub fn one_node(at: usize) -> Pair {
+    let mut table = small_table();
+    table.plain(44, &[INT], &[]);
+    table.plain(45, &[INT], &[(44, DEFAULT, vec![INT])]);
+    table.plain(45, &[INT], &[(44, VARARG, vec![INT])]);
+    let types = type_list();
+    let calls = BUILT_IN.len() + 7;
+    let tree = if at < types.len() {
+        leaf(&types[at])
+    } else if at < types.len() + calls {
+        call((at - types.len()) as u16, &[])
+    } else {
+        vec![(at - types.len() - calls) as u8, 0, 0, 0]
+    };
+    (table.bytes(), question(&tree))
+}
+
+pub fn pairs_count() -> usize {
+    let n = type_list().len();
+    23 * n * n
+}
+
+pub fn pairs(at: usize) -> Pair {
+    let types = type_list();
+    let n = types.len();
+    let op = (at % 23) as u8;
+    let (left, right) = (&types[at / 23 / n % n], &types[at / 23 % n]);
+    let mut table = small_table();
+    table.operators(43, 0x21);
+    table.function(43, 6, 0, false, &[LONG], &[]);
+    (table.bytes(), question(&binary(op, &leaf(left), &leaf(right))))
+}
+
+pub fn singles_count() -> usize {
+    (7 + BUILT_IN.len() + 6) * type_list().len() * 2
+}
+
+/// Unary operators; members; and the same names as methods.
+pub fn singles(at: usize) -> Pair {
+    let types = type_list();
+    let ty = &types[at / 2 % types.len()];
+    let what = at / 2 / types.len();
+    let mut table = small_table();
+    table.function(42, 45, 0, false, &[LONG], &[]);
+    table.function(43, 22, 3, false, &[STRING], &[(45, 0, vec![INT])]);
+    table.field(42, 22, &[DOUBLE]);
+    table.visibility(42, 22, 3);
+    table.visibility(43, 20, 1);
+    table.variant(42, 20);
+    table.field(41, 17, &[CHAR]);
+    let tree = match (what, at % 2) {
+        (0..=6, 0) => unary(what as u8, &leaf(ty)),
+        (0..=6, _) => unary(what as u8, &unary(ADDR_OF, &leaf(ty))),
+        (_, 0) => member((what - 7) as u16, &leaf(ty)),
+        _ => method((what - 7) as u16, &leaf(ty), &[leaf(ty)]),
+    };
+    (table.bytes(), question(&tree))
+}
+
+pub fn assign_count() -> usize {
+    let n = type_list().len();
+    2 * n * n
+}
+
+/// Whether a type goes where another is expected, by a call with one parameter: alone (17 or none),
+/// and beside an overload whose parameter has the argument's own type (which score is higher).
+pub fn assign(at: usize) -> Pair {
+    let types: Vec<Bytes> = type_list();
+    let n = types.len();
+    let (from, to) = (&types[at / 2 / n % n], &types[at / 2 % n]);
+    let mut table = small_table();
+    let allowed = |ty: &[u8]| !ty.contains(&ERROR) || ty[0] == 17 || ty[0] == 20;
+    let to = if allowed(to) { to.clone() } else { vec![UNIT] };
+    table.plain(44, &[STRING], &[(45, 0, to)]);
+    if at % 2 == 1 {
+        table.plain(44, &[DOUBLE], &[(45, 0, vec![CHAR])]);
+    }
+    (table.bytes(), question(&call(44, &[leaf(from)])))
+}
+
+/// The inputs that `flips` changes byte by byte.
+fn flip_inputs() -> Vec<Pair> {
+    let mut table = Table::new();
+    let c = table.name("C");
+    let d = table.name("D");
+    let f = table.name("f");
+    table.class(c, NONE, NONE, true);
+    table.class(d, c, f, true);
+    table.operators(d, 3);
+    table.function(NONE, f, 0, false, &[INT], &[(c, 1, vec![INT]), (d, 2, list(&named(c)))]);
+    table.function(d, f, 3, true, &[STRING], &[]);
+    table.field(c, f, &array(Some(2), &[INT]));
+    table.visibility(c, f, 3);
+    table.suspend(NONE, f);
+    table.variant(d, c);
+    let tree = call(
+        f,
+        &[
+            named_arg(c, &unary(MINUS, &leaf(&[INT]))),
+            binary(ADD, &leaf(&named(d)), &member(f, &leaf(&named(c)))),
+            method(f, &leaf(&named(d)), &[]),
+        ],
+    );
+    vec![
+        (table.bytes(), question_in(c, f, false, &tree)),
+        (vec![], question(&binary(SUB, &leaf(&function(&[&[INT]], &type_var(3))), &leaf(&map(&[INT], &[ANY]))))),
+    ]
+}
+
+pub fn flips_count() -> usize {
+    flip_inputs().iter().map(|(t, q)| 256 * (t.len() + q.len())).sum()
+}
+
+pub fn flips(at: usize) -> Pair {
+    let mut at = at;
+    for (mut table, mut question) in flip_inputs() {
+        let all = 256 * (table.len() + question.len());
+        if at < all {
+            let (place, value) = (at / 256, (at % 256) as u8);
+            if place < table.len() {
+                table[place] = value;
+            } else {
+                question[place - table.len()] = value;
+            }
+            return (table, question);
+        }
+        at -= all;
+    }
+    unreachable!("{:?} has no such case", Profile::Flips)
+}

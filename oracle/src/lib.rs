@@ -1,0 +1,31 @@
+//! The yardstick of the Aura page-script type judge: the Rust's own methods,
+//! cut out of its sources at build time, behind document 01's bytes.
+
+pub mod answer;
+pub mod bytes;
+pub mod diagnostic;
+pub mod gen;
+pub mod name;
+pub mod question;
+pub mod rng;
+pub mod rust;
+mod stubs;
+pub mod sample;
+pub mod table;
+pub mod types;
+
+pub use answer::{answer, answer_and_domain, in_domain, print_answer, printed, program, split_input, Answer};
+pub use question::question_number;
+pub use table::table_number;
+
+// The cut text names these modules by their full paths.
+mod sema {
+    pub mod std_sigs {
+        pub use crate::stubs::{llvm_type_to_ty, std_signature_table};
+    }
+}
+mod std {
+    pub mod decl {
+        pub use crate::stubs::{is_builtin, is_prelude};
+    }
+}
