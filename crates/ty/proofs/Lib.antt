@@ -3,4 +3,7 @@ pub mod Laws
 pub mod Same
 pub mod Reading
 pub mod Sized
+pub mod Bodies
 pub mod Moved
+pub mod Held
+pub mod Examples

@@ -1,66 +1,23 @@
 -- Reading looks at nothing behind the type's end, nor before its start: a whole type is read alike wherever its bytes stand. Assumes nothing.
 use Prim.Native.Nat.{ℕ, zero, suc, _+_, _-_, _≤_, _<_, min, max}
-use borrow.Author.Tests.{eqb-true, lt-leb, le-ltb}
+use borrow.Author.Tests.{lt-leb, le-ltb}
 use lib.Dec.{eqb, leb, ltb}
-use lib.ListN.{length, getD, take, length-take}
-use lib.Seq.{getD-take, take-take, take-append-le}
-use mathlib.Core.Bool.{Bool, true, false, _&&_, _||_, not}
+use lib.ListN.{length, getD, take, drop, length-take, length-drop}
+use lib.Seq.{getD-take, getD-drop, take-take, take-append-le}
+use mathlib.Core.Bool.{Bool, false, _||_}
 use mathlib.Core.List.{List, _++_}
 use mathlib.Core.Path.{_≡_, refl, sym, ap, _∙_}
 use native.Mathlib.Omega.{arith}
-use Rattle.ty.proofs.Choice.{by-choice, chosen, passed, or-cases}
+use Rattle.ty.proofs.Bodies.{same-item, array-body, function-body, id-body}
+use Rattle.ty.proofs.Choice.{by-choice, chosen, passed}
 use Rattle.ty.proofs.Reading.{Within, within}
-use Rattle.ty.proofs.Sized.{ends-behind, whole}
+use Rattle.ty.proofs.Sized.{ends-behind, never-whole, whole}
 use Rattle.ty.specs.Bytes.{idAt}
-use Rattle.ty.specs.Choose.{choose}
-use Rattle.ty.specs.Kind.{arrayKind, namedKind, functionKind, moduleKind, errorKind}
+use Rattle.ty.specs.Kind.{errorKind}
 use Rattle.ty.specs.Read.{bodyLength, children, goodBody, idIn, itemOf, zeros, itemAt, stopped, after, readFrom, readType}
 use Rattle.ty.specs.declared.read.Item.the-variants.{Part, Broken, Out}
 use Rattle.ty.specs.declared.read.Item.{Item}
 use Rattle.ty.specs.declared.read.TypeRead.the-variants.{Whole}
-
--- a body's bytes matter only to the kinds that have them
-same-good : (a f : Bool) (c c′ : ℕ) (z z′ : Bool) → (a ≡ true → c ≡ c′) → (f ≡ true → c ≡ c′) → (a ≡ true → z ≡ z′)
-    → (not a || (eqb c 1 || (eqb c 0 && z))) && (not f || leb c 16) ≡ (not a || (eqb c′ 1 || (eqb c′ 0 && z′))) && (not f || leb c′ 16)
-same-good true f c c′ z z′ p q r = rw (p refl, r refl)
-same-good false true c c′ z z′ p q r = rw (q refl)
-same-good false false c c′ z z′ p q r = refl
-
-same-choose : (t : Bool) (x x′ y : ℕ) → (t ≡ true → x ≡ x′) → choose t x y ≡ choose t x′ y
-unfolding choose
-same-choose true x x′ y h = h refl
-same-choose false x x′ y h = refl
-
-same-item : (k c c′ : ℕ) (z z′ : Bool) (i i′ next : ℕ) → (eqb k arrayKind ≡ true → c ≡ c′) → (eqb k functionKind ≡ true → c ≡ c′)
-    → (eqb k arrayKind ≡ true → z ≡ z′) → (eqb k namedKind || eqb k moduleKind ≡ true → i ≡ i′) → itemOf k c z i next ≡ itemOf k c′ z′ i′ next
-unfolding itemOf children idIn
-same-item k c c′ z z′ i i′ next p q r t =
-    rw (
-      same-good (eqb k arrayKind) (eqb k functionKind) c c′ z z′ p q r,
-      same-choose (eqb k functionKind) (c + 1) (c′ + 1) _ (λ e. ap (λ (n : ℕ). n + 1) (q e)),
-      same-choose (eqb k namedKind || eqb k moduleKind) i i′ 0 t,
-    )
-
--- a reading that stops is not whole
-never-whole : (len limit top n t : ℕ) (e e₁ : Bool) → stopped len limit top e ≡ Whole n t e₁ → ⊥
-unfolding stopped
-never-whole len limit top n t e e₁ =
-    by-choice (λ x. x ≡ Whole n t e₁ → ⊥) (ltb len limit)
-    (λ _ r. let z : _≡_ {A = ℕ} 0 1 = cc in omega arith)
-    (λ _ r. let z : _≡_ {A = ℕ} 0 1 = cc in omega arith)
-
--- how long those bodies are
-array-body : (k : ℕ) → eqb k arrayKind ≡ true → bodyLength k ≡ 5
-unfolding bodyLength choose
-array-body k e = rw (eqb-true k arrayKind e)
-
-function-body : (k : ℕ) → eqb k functionKind ≡ true → bodyLength k ≡ 1
-unfolding bodyLength choose
-function-body k e = rw (eqb-true k functionKind e)
-
-id-body : (k : ℕ) → eqb k namedKind || eqb k moduleKind ≡ true → bodyLength k ≡ 2
-unfolding bodyLength choose
-id-body k e = or-cases (eqb k namedKind) (eqb k moduleKind) e (λ h. rw (eqb-true k namedKind h)) (λ h. rw (eqb-true k moduleKind h))
 
 -- s from d on and s′ from d′ on have the same bytes, up to the byte n of s and n′ of s′
 module _ (s s′ : List ℕ) (n n′ d d′ : ℕ) (q : n + d ≡ n′ + d′) (same : (i j : ℕ) → i + d ≡ j + d′ → i < n → getD s i 0 ≡ getD s′ j 0) where
@@ -127,7 +84,7 @@ module _ (s s′ : List ℕ) (n n′ d d′ : ℕ) (q : n + d ≡ n′ + d′) (
 
   module _ (limit limit′ t : ℕ) (e′ : Bool) (w : n′ ≤ min (length s′) limit′) where
     -- that a reading which ends at n ends at n′ in s′, with the fuel f and f′
-    abbrev Goes : ℕ → ℕ → Type 0
+    abbrev pub Goes : ℕ → ℕ → Type 0
     Goes f f′ =
         (at at′ p top : ℕ) (e : Bool) → at ≤ min (length s) limit → at + d ≡ at′ + d′ → n′ < at′ + f′ → readFrom f s limit at p top e ≡ Whole n t e′
         → readFrom f′ s′ limit′ at′ p top e ≡ Whole n′ t e′
@@ -146,7 +103,7 @@ module _ (s s′ : List ℕ) (n n′ d d′ : ℕ) (q : n + d ≡ n′ + d′) (
     onward f f′ at at′ p top e Broken a l v m k r = let z : _≡_ {A = ℕ} 0 1 = cc in absurd (omega arith)
     onward f f′ at at′ p top e Out a l v m k r = absurd (never-whole (length s) limit top n t e e′ r)
 
-    go : (f f′ : ℕ) → Goes f f′
+    pub go : (f f′ : ℕ) → Goes f f′
     unfolding readFrom
     go zero f′ at at′ p top e h a l r = let z : _≡_ {A = ℕ} 0 1 = cc in absurd (omega arith)
     go (suc f) zero at at′ p top e h a l r = let b = ends-behind s limit (suc f) at p top n t e e′ h r in absurd (omega arith)
@@ -183,3 +140,16 @@ pub reads-more : (s t : List ℕ) (limit n top : ℕ) (e : Bool) → readType s 
 reads-more s t limit n top e r =
     let b = whole s limit n top e r in
     reads-alike s (s ++ t) limit limit n top e (take-append-le n s t (b .2)) (b .1) r
+
+-- one type read from m on, with nothing found before, is the type of the bytes from m on
+pub reads-dropped : (s : List ℕ) (limit f m n top : ℕ) (e : Bool) → m ≤ min (length s) limit → readFrom f s limit m 1 0 false ≡ Whole n top e
+    → readType (drop m s) limit ≡ Whole (n - m) top e
+unfolding readType
+reads-dropped s limit f m n top e h r =
+    let b = ends-behind s limit f m 1 0 n top false e h r in
+    let l : n - m ≤ min (length (drop m s)) limit = simp length-drop (omega arith) in
+    go s (drop m s) n (n - m) 0 m (omega arith)
+    (λ i j p k.
+    let q : i ≡ m + j = omega arith in
+    rw q (sym (getD-drop m s j 0)))
+    limit limit top e l f (suc (min (length (drop m s)) limit)) m 0 1 0 false h (omega arith) (omega arith) r

@@ -1,6 +1,6 @@
 -- A type that was read whole has at least a byte, and at most the limit and what there was. Assumes nothing.
 use Prim.Native.Nat.{ℕ, zero, suc, _+_, _-_, _≤_, min, max}
-use lib.Dec.{eqb}
+use lib.Dec.{eqb, ltb}
 use lib.ListN.{length}
 use mathlib.Core.Bool.{Bool, false, _||_}
 use mathlib.Core.List.{List}
@@ -55,6 +55,14 @@ unfolding Within
 onward at hi (Part n c i e) o k w h g = weaker (suc at) n hi (w .0) (k n c i e) (g n c i e (w .1))
 onward at hi Broken o k w h g = at-malformed (suc at) hi
 onward at hi Out o k w h g = h
+
+-- a reading that stops is not whole
+pub never-whole : (len limit top n t : ℕ) (e e₁ : Bool) → stopped len limit top e ≡ Whole n t e₁ → ⊥
+unfolding stopped
+never-whole len limit top n t e e₁ =
+    by-choice (λ x. x ≡ Whole n t e₁ → ⊥) (ltb len limit)
+    (λ _ r. let z : _≡_ {A = ℕ} 0 1 = cc in omega arith)
+    (λ _ r. let z : _≡_ {A = ℕ} 0 1 = cc in omega arith)
 
 module _ (s : List ℕ) (limit : ℕ) where
   abbrev end : ℕ
