@@ -1,0 +1,136 @@
+-- Laws of the area: what a slot holds after a store, and what leaves it alone. Assumes nothing.
+use Prim.Native.Nat.{ℕ, zero, suc, _+_, _*_, _≤_, _<_}
+use lib.ListN.{length, getD, take, drop, set, drop-of-length-le, length-map, length-set, List·getD-map, List·getD-eq-default}
+use lib.Seq.{sets, sets-eq, length-sets, length-take-le, getD-take, getD-set-same, getD-set-other, take-at, drop-at, take-nil}
+use mathlib.Core.List.{List, [], _∷_, _++_, map, append-assoc}
+use mathlib.Core.Path.{_≡_, refl, sym, ap, _∙_, subst}
+use native.Mathlib.Omega.{arith}
+use Rattle.area.proofs.Lists.{part-length, part-sets, getD-any}
+use Rattle.area.specs.Slot.{Lent, Slot, Stored, Held, Helds, store, storeLen, slotOf, typesIn}
+use Rattle.ty.specs.Bytes.{Ty}
+
+-- ---- reading a slot
+-- no length, no type
+pub slot-none : (a l : List ℕ) (m : ℕ) → length l ≤ m → [] ≡ slotOf a l m
+unfolding slotOf
+slot-none a l m h = sym (ap (λ (k : ℕ). take k (drop (256 * m) a)) (List·getD-eq-default l 0 h))
+
+-- past the area's end there is nothing
+pub slot-past : (a l : List ℕ) (m : ℕ) → length a ≤ 256 * m → [] ≡ slotOf a l m
+unfolding slotOf
+slot-past a l m h = sym (ap (λ (s : List ℕ). take (getD l m 0) s) (drop-of-length-le a h) ∙ take-nil (getD l m 0))
+
+pub part-slot : (a l : List ℕ) (m : ℕ) → take (getD l m 0) (drop (256 * m) a) ≡ slotOf a l m
+unfolding slotOf
+part-slot a l m = refl
+
+module _ (a l : List ℕ) (lent : Lent a l) (node m : ℕ) (s : Slot l node m) where
+  pub slot-in : 256 * m + getD l m 0 ≤ length a
+  slot-in = omega (arith, lent .wide, s .inside, s .small)
+
+  pub slot-length : length (slotOf a l m) ≡ getD l m 0
+  unfolding slotOf
+  slot-length = part-length a (256 * m) (getD l m 0) slot-in
+
+-- ---- a store
+pub held-here : (a l : List ℕ) (m : ℕ) (t : Ty) → Lent a l → m < 64 → length t ≤ 256 → Held (store a m t) (storeLen l m t) m t
+unfolding store storeLen slotOf
+held-here a l m t lent h small =
+    let p : ℕ = 256 * m in
+    let n : ℕ = length t in
+    let e : getD (set l m n) m 0 ≡ n = getD-set-same l m n 0 (omega (arith, lent .long)) in
+    let room : p + n ≤ length a = omega (arith, lent .wide) in
+    let r : List ℕ = drop (p + n) a in
+    record {
+      is = ap (λ (k : ℕ). take k (drop p (sets a p t))) e
+          ∙ ap (λ (ws : List ℕ). take n (drop p ws)) (sets-eq t a p room ∙ append-assoc (take p a) t r)
+          ∙ ap (λ (ws : List ℕ). take n ws) (drop-at (take p a) (t ++ r) p (length-take-le p a (omega arith)))
+          ∙ take-at t r n refl;
+      len = e;
+      small = small;
+      inside = h;
+    }
+
+-- a store at n leaves every slot before n
+pub held-under : (a l : List ℕ) (m n : ℕ) (t u : Ty) → m < n → Held a l m u → Held (store a n t) (storeLen l n t) m u
+unfolding store storeLen slotOf
+held-under a l m n t u h w =
+    let e : getD (set l n (length t)) m 0 ≡ getD l m 0 = getD-set-other l n m (length t) 0 (λ e. omega arith) in
+    record {
+      is = ap (λ (k : ℕ). take k (drop (256 * m) (sets a (256 * n) t))) e
+          ∙ part-sets t a (256 * m) (getD l m 0) (256 * n) (omega (arith, w .len, w .small)) ∙ w .is;
+      len = e ∙ w .len;
+      small = w .small;
+      inside = w .inside;
+    }
+
+pub held-stored : (a a′ l l′ : List ℕ) (m : ℕ) (t : Ty) → Stored a a′ l l′ m t → Lent a l → m < 64 → length t ≤ 256 → Held a′ l′ m t
+held-stored a a′ l l′ m t s lent h small = rw (s .area, s .lens) (held-here a l m t lent h small)
+
+pub under-stored : (a a′ l l′ : List ℕ) (n : ℕ) (t : Ty) → Stored a a′ l l′ n t → (m : ℕ) (u : Ty) → m < n → Held a l m u → Held a′ l′ m u
+under-stored a a′ l l′ n t s m u h w = rw (s .area, s .lens) (held-under a l m n t u h w)
+
+-- what is lent stays lent
+pub lent-stored : (a a′ l l′ : List ℕ) (n : ℕ) (t : Ty) → Stored a a′ l l′ n t → Lent a l → Lent a′ l′
+unfolding store storeLen
+lent-stored a a′ l l′ n t s lent =
+    record {
+      wide = ap (λ (w : List ℕ). length w) (s .area) ∙ length-sets a (256 * n) t ∙ lent .wide;
+      long = ap (λ (w : List ℕ). length w) (s .lens) ∙ length-set l n (length t) ∙ lent .long;
+    }
+
+pub stored-as : {a a′ l l′ : List ℕ} {node : ℕ} {t u : Ty} → u ≡ t → Stored a a′ l l′ node t → Stored a a′ l l′ node u
+stored-as {a} {a′} {l} {l′} {node} e w = subst (λ (u : Ty). Stored a a′ l l′ node u) (sym e) w
+
+-- a slot that holds something can be read
+pub held-slot : (a l : List ℕ) (node m : ℕ) (t : Ty) → node < m → Held a l m t → Slot l node m
+held-slot a l node m t h w = record { past = h; inside = w .inside; small = omega (arith, w .len, w .small) }
+
+-- ---- several slots
+pub helds-more : (a l : List ℕ) (lo hi : ℕ) (ms : List ℕ) (ts : List Ty) → lo ≤ hi → Helds a l hi ms ts → Helds a l lo ms ts
+unfolding Helds
+helds-more a l lo hi [] [] h w = tt
+helds-more a l lo hi [] (t ∷ ts) h w = absurd w
+helds-more a l lo hi (m ∷ ms) [] h w = absurd w
+helds-more a l lo hi (m ∷ ms) (t ∷ ts) h w = (omega (arith, w .0), w .1, helds-more a l lo hi ms ts h (w .2))
+
+pub helds-types : (a l : List ℕ) (lo : ℕ) (ms : List ℕ) (ts : List Ty) → Helds a l lo ms ts → map (slotOf a l) ms ≡ ts
+unfolding Helds
+helds-types a l lo [] [] w = refl
+helds-types a l lo [] (t ∷ ts) w = absurd w
+helds-types a l lo (m ∷ ms) [] w = absurd w
+helds-types a l lo (m ∷ ms) (t ∷ ts) w =
+    let e : slotOf a l m ≡ t = w .1 .is in
+    let f : map (slotOf a l) ms ≡ ts = helds-types a l lo ms ts (w .2) in
+    cc
+
+pub helds-slot : (a l : List ℕ) (node lo : ℕ) (ms : List ℕ) (ts : List Ty) → node < lo → Helds a l lo ms ts → (i : ℕ) → i < length ms → Slot l node (getD ms i 0)
+unfolding Helds
+helds-slot a l node lo [] [] h w i g = absurd (omega arith)
+helds-slot a l node lo [] (t ∷ ts) h w i g = absurd w
+helds-slot a l node lo (m ∷ ms) [] h w i g = absurd w
+helds-slot a l node lo (m ∷ ms) (t ∷ ts) h w zero g = held-slot a l node m t (omega (arith, w .0)) (w .1)
+helds-slot a l node lo (m ∷ ms) (t ∷ ts) h w (suc i) g = helds-slot a l node lo ms ts h (w .2) i (omega arith)
+
+-- what leaves every slot before n leaves several such
+pub helds-under : (a l a′ l′ : List ℕ) (lo n : ℕ) (ms : List ℕ) (ts : List Ty) → ((m : ℕ) (u : Ty) → m < n → Held a l m u → Held a′ l′ m u)
+    → ((i : ℕ) → i < length ms → getD ms i 0 < n) → Helds a l lo ms ts → Helds a′ l′ lo ms ts
+unfolding Helds
+helds-under a l a′ l′ lo n [] [] f h w = tt
+helds-under a l a′ l′ lo n [] (t ∷ ts) f h w = absurd w
+helds-under a l a′ l′ lo n (m ∷ ms) [] f h w = absurd w
+helds-under a l a′ l′ lo n (m ∷ ms) (t ∷ ts) f h w =
+    (w .0, f m t (h 0 (omega arith)) (w .1), helds-under a l a′ l′ lo n ms ts f (λ i g. h (suc i) (omega arith)) (w .2))
+
+-- ---- the types in the first n of some slots
+module _ (a l nodes : List ℕ) (n : ℕ) (there : n ≤ length nodes) where
+  pub types-length : length (typesIn a l nodes n) ≡ n
+  unfolding typesIn
+  types-length = length-map (take n nodes) (slotOf a l) ∙ length-take-le n nodes there
+
+  pub type-at : (i : ℕ) → i < n → getD (typesIn a l nodes n) i [] ≡ slotOf a l (getD nodes i 0)
+  unfolding typesIn
+  type-at i h =
+      let room : i < length (map (slotOf a l) (take n nodes)) = omega (arith, types-length) in
+      getD-any (map (slotOf a l) (take n nodes)) i [] (slotOf a l 0) room ∙ List·getD-map (slotOf a l) (take n nodes) i 0
+      ∙ ap (λ (m : ℕ). slotOf a l m) (getD-take n nodes i 0 h)

@@ -1,0 +1,8 @@
+-- Zeros behind some bytes. Document 01, "Answer": the type in 256 bytes with zeros behind its length; the rest of the buffer is zero.
+use Prim.Native.Nat.{ℕ, _-_}
+use mathlib.Core.List.{List, _++_}
+use lib.ListN.{length, replicate}
+
+-- s in n bytes
+unfoldable pub padded : ℕ → List ℕ → List ℕ
+padded n s = s ++ replicate (n - length s) 0

@@ -1,0 +1,65 @@
+-- Where the types of a question's nodes are kept while it is judged: an area of 64 slots of 256 bytes, and the 64 lengths of what lies in them.
+-- Node n's type is in slot n. Document 01: at most 64 nodes ("Table and question"), a type in 256 bytes ("Answer").
+use Prim.Native.Nat.{ℕ, _+_, _*_, _≤_, _<_}
+use mathlib.Core.Path.{_≡_}
+use mathlib.Core.List.{List, [], _∷_, map}
+use lib.ListN.{length, getD, take, drop, set}
+use lib.Seq.{sets}
+use Rattle.ty.specs.Bytes.{Ty}
+
+abbrev pub slotSize : ℕ
+slotSize = 256
+
+abbrev pub slotCount : ℕ
+slotCount = 64
+
+-- the area a and the lengths l that are lent
+pub record Lent (a l : List ℕ) : Type 0 where
+  pub wide : length a ≡ 16384
+  pub long : length l ≡ slotCount
+
+-- the type in slot m
+unfoldable pub slotOf : List ℕ → List ℕ → ℕ → Ty
+slotOf a l m = take (getD l m 0) (drop (slotSize * m) a)
+
+-- the types in the first n of some slots
+unfoldable pub typesIn : List ℕ → List ℕ → List ℕ → ℕ → List Ty
+typesIn a l nodes n = map (slotOf a l) (take n nodes)
+
+-- the area and the lengths once t is stored in slot `node`
+unfoldable pub store : List ℕ → ℕ → Ty → List ℕ
+store a node t = sets a (slotSize * node) t
+
+unfoldable pub storeLen : List ℕ → ℕ → Ty → List ℕ
+storeLen l node t = set l node (length t)
+
+-- t has been stored in slot `node`: a and l were before, a′ and l′ are after
+pub record Stored (a a′ l l′ : List ℕ) (node : ℕ) (t : Ty) : Type 0 where
+  pub area : a′ ≡ store a node t
+  pub lens : l′ ≡ storeLen l node t
+
+-- slot m holds t
+pub record Held (a l : List ℕ) (m : ℕ) (t : Ty) : Type 0 where
+  pub is : slotOf a l m ≡ t
+  pub len : getD l m 0 ≡ length t
+  pub small : length t ≤ slotSize
+  pub inside : m < slotCount
+
+-- slots ms hold ts, and none of them is before lo
+unfoldable pub Helds : List ℕ → List ℕ → ℕ → List ℕ → List Ty → Type 0
+Helds a l lo [] [] = Unit {0}
+Helds a l lo [] (t ∷ ts) = ⊥
+Helds a l lo (m ∷ ms) [] = ⊥
+Helds a l lo (m ∷ ms) (t ∷ ts) = (lo ≤ m) × Held a l m t × Helds a l lo ms ts
+
+-- slot m can be read, and is behind slot `node`: a child's number is higher than its parent's
+pub record Slot (l : List ℕ) (node m : ℕ) : Type 0 where
+  pub past : node < m
+  pub inside : m < slotCount
+  pub small : getD l m 0 ≤ slotSize
+
+-- the first n numbers are such slots; a call has at most 16 arguments
+pub record Slots (l : List ℕ) (node : ℕ) (nodes : List ℕ) (n : ℕ) : Type 0 where
+  pub fits : n ≤ 16
+  pub there : n ≤ length nodes
+  pub each : (i : ℕ) → i < n → Slot l node (getD nodes i 0)

@@ -1,0 +1,38 @@
+-- Where a node's type comes from. Document 01, "Clean rules" and "Leaves to root, and forms in the way": a rule's type is a plain kind, a child's
+-- type, a part of it, a part of the table, or one of these behind a kind of its own; so a rule answers with a source, and the type is made where it is kept.
+use Prim.Native.Nat.{ℕ, _/_, _%_, _≤_, _<_}
+use mathlib.Core.List.{List, [], _∷_}
+use lib.ListN.{length, take, drop}
+use Rattle.ty.specs.Kind.{namedKind, pointerKind, functionKind}
+use Rattle.ty.specs.Bytes.{Ty, plainTy, innerOf}
+use Rattle.area.specs.declared.Source.{Source}
+use Rattle.area.specs.declared.Source.the-variants.{Kind, Name, First, Second, Inner, Pointer, Part, Function}
+use Rattle.area.specs.Slot.{Slot, slotOf, slotSize, slotCount}
+
+-- the type that a source stands for, with a table, the first child's type x and the second's y
+unfoldable pub typeFrom : List ℕ → Ty → Ty → Source → Ty
+typeFrom table x y (Kind k) = plainTy k
+typeFrom table x y (Name id) = namedKind ∷ id % 256 ∷ id / 256 % 256 ∷ []
+typeFrom table x y First = x
+typeFrom table x y Second = y
+typeFrom table x y Inner = innerOf x
+typeFrom table x y Pointer = pointerKind ∷ x
+typeFrom table x y (Part start len) = take len (drop start table)
+typeFrom table x y (Function start len) = functionKind ∷ 0 ∷ take len (drop start table)
+
+-- the slots that a source reads can be read, and lie behind slot `node`
+unfoldable pub Reads : List ℕ → ℕ → ℕ → ℕ → Source → Type 0
+Reads l node first second (Kind k) = Unit {0}
+Reads l node first second (Name id) = Unit {0}
+Reads l node first second First = Slot l node first
+Reads l node first second Second = Slot l node second
+Reads l node first second Inner = Slot l node first
+Reads l node first second Pointer = Slot l node first
+Reads l node first second (Part start len) = Unit {0}
+Reads l node first second (Function start len) = Unit {0}
+
+-- what a store of a source into slot `node` asks
+pub record Storable (table a l : List ℕ) (node first second : ℕ) (source : Source) : Type 0 where
+  pub room : node < slotCount
+  pub reads : Reads l node first second source
+  pub short : length (typeFrom table (slotOf a l first) (slotOf a l second) source) ≤ slotSize
