@@ -1,1 +1,10 @@
 pub mod Symbols
+pub mod Spelling
+pub mod Front
+pub mod Table
+pub mod Refused
+pub mod Lookup
+pub mod Subclass
+pub mod Sections
+pub mod Walk
+pub mod Answer

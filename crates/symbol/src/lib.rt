@@ -1,1 +1,7 @@
 // The symbol table (sema/symbol.rs): a table's records, its refusals and its lookups.
+pub mod checks;
+pub mod front;
+pub mod functions;
+pub mod lookups;
+pub mod params;
+pub mod walk;

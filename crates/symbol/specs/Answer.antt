@@ -1,0 +1,103 @@
+-- What the lookups answer.
+use Prim.Native.Nat.{ℕ, zero, suc, _+_, _≤_, _<_}
+use mathlib.Core.Path.{_≡_}
+use mathlib.Core.Bool.{Bool, false}
+use mathlib.Core.List.{List, [], _∷_, map}
+use mathlib.Core.Option.{Option, none, some}
+use lib.ListN.{length, getD, drop, take}
+use Rattle.ty.specs.Bytes.{Ty}
+use Rattle.symbol.specs.declared.front.Head.{Head}
+use Rattle.symbol.specs.declared.walk.Cursor.{Cursor}
+use Rattle.symbol.specs.declared.lookups.Place.{Place}
+use Rattle.symbol.specs.declared.lookups.Found.{Found}
+use Rattle.symbol.specs.declared.lookups.Found.the-variants as found
+use Rattle.symbol.specs.declared.lookups.Part.{Part}
+use Rattle.symbol.specs.declared.lookups.Part.the-variants as part
+use Rattle.symbol.specs.declared.lookups.Mask.{Mask}
+use Rattle.symbol.specs.declared.lookups.Mask.the-variants as mask
+use Rattle.symbol.specs.declared.lookups.Visibility.{Visibility}
+use Rattle.symbol.specs.declared.lookups.Visibility.the-variants as visibility
+use Rattle.symbol.specs.declared.functions.Params.{Params}
+use Rattle.symbol.specs.declared.functions.Function.{Function}
+use Rattle.symbol.specs.Symbols.{Param, Overload}
+use Rattle.symbol.specs.Front.{headOf}
+use Rattle.symbol.specs.Table.{Record, recordsOf, frontRecord}
+use Rattle.symbol.specs.Lookup.{recordsWith, overloadOf}
+use Rattle.symbol.specs.Walk.{At}
+
+-- ---- parts of the table, masks, visibilities
+abbrev pub partOf : List ℕ → Part → Option Ty
+partOf t part.Nothing = none
+partOf t (part.At a n) = some (take n (drop a t))
+
+-- a part lies in the table
+abbrev pub PartIn : List ℕ → Part → Type 0
+PartIn t part.Nothing = Unit
+PartIn t (part.At a n) = a + n ≤ length t
+
+abbrev pub maskOf : Mask → Option ℕ
+maskOf mask.Nothing = none
+maskOf (mask.Is m) = some m
+
+abbrev pub visibilityOf : Visibility → Option ℕ
+visibilityOf visibility.Nothing = none
+visibilityOf (visibility.Is v) = some v
+
+-- ---- functions
+
+-- the functions of an owner and a name from the cursor on
+unfoldable pub functionsFrom : List ℕ → Cursor → ℕ → ℕ → List Overload
+functionsFrom t c owner name = map overloadOf (recordsWith 4 owner name (recordsOf (drop (c .at) t)))
+
+-- the overload at a place
+unfoldable pub overloadAt : List ℕ → Place → Overload
+overloadAt t p = overloadOf (frontRecord (drop (p .at) t))
+
+-- a whole function record without Error stands at the place, and the cursor behind it stands in the table
+pub record FunctionAt (t : List ℕ) (p : Place) : Type 0 where
+  pub head : p .head ≡ headOf (drop (p .at) t)
+  pub kind : p .head .kind ≡ 4
+  pub error : p .head .error ≡ false
+  pub inside : p .at ≤ length t
+  pub next : At t (p .next)
+
+-- a search among `all` finds nothing, or the first at a place and the others behind it
+pub record FunctionIs (t : List ℕ) (all : List Overload) (owner name : ℕ) (p : Place) : Type 0 where
+  pub first : all ≡ overloadAt t p ∷ functionsFrom t (p .next) owner name
+  pub here : FunctionAt t p
+  pub later : p .at < p .next .at
+
+abbrev pub FunctionFound : List ℕ → List Overload → ℕ → ℕ → Found → Type 0
+FunctionFound t all owner name found.Nothing = all ≡ []
+FunctionFound t all owner name (found.Here p) = FunctionIs t all owner name p
+
+-- ---- a function that was read: its types are parts of the table
+abbrev pub paramAt : List ℕ → Params → ℕ → Param
+paramAt t p i =
+    record {
+      name = getD (p .names) i 0;
+      default = getD (p .defaults) i false;
+      vararg = getD (p .varargs) i false;
+      ty = take (getD (p .lens) i 0) (drop (getD (p .starts) i 0) t);
+    }
+
+-- n parameters from number i on
+unfoldable pub paramsRow : List ℕ → Params → ℕ → ℕ → List Param
+paramsRow t p i zero = []
+paramsRow t p i (suc n) = paramAt t p i ∷ paramsRow t p (suc i) n
+
+abbrev pub overloadIn : List ℕ → Function → Overload
+overloadIn t f =
+    record {
+      builtin = f .builtin;
+      visibility = f .visibility;
+      params = paramsRow t (f .params) 0 (f .params .count);
+      result = take (f .len) (drop (f .start) t);
+    }
+
+-- a function that was read: it is that overload, and its types lie in the table
+pub record FunctionRead (t : List ℕ) (o : Overload) (f : Function) : Type 0 where
+  pub same : overloadIn t f ≡ o
+  pub result : f .start + f .len ≤ length t
+  pub count : f .params .count ≤ 16
+  pub types : (i : ℕ) → i < f .params .count → getD (f .params .starts) i 0 + getD (f .params .lens) i 0 ≤ length t

@@ -1,0 +1,40 @@
+-- The table's cursor.
+use Prim.Native.Nat.{ℕ, zero, suc, _+_, _≤_, _<_}
+use mathlib.Core.Path.{_≡_}
+use mathlib.Core.List.{List, [], _∷_}
+use lib.ListN.{length, getD, drop, take}
+use Rattle.symbol.specs.declared.front.Head.{Head}
+use Rattle.symbol.specs.declared.walk.Cursor.{Cursor}
+use Rattle.symbol.specs.declared.walk.Step.{Step}
+use Rattle.symbol.specs.Front.{headOf}
+use Rattle.symbol.specs.Table.{Record, recordsOf, frontRecord}
+
+-- what a reader of a record's front answers: the head, and where the record ends
+pub record HeadIs (f : List ℕ → Head) (s : List ℕ) (r : Head) : Type 0 where
+  pub same : r ≡ f s
+  pub low : 1 ≤ r .len
+  pub high : r .len ≤ length s
+
+-- the cursor stands where record number `index` begins, or at the end
+pub record At (t : List ℕ) (c : Cursor) : Type 0 where
+  pub sits : recordsOf (drop (c .at) t) ≡ drop (c .index) (recordsOf t)
+  pub behind : c .index ≤ c .at
+  pub inside : c .at ≤ length t
+  pub count : c .index ≤ length (recordsOf t)
+
+-- the record at the cursor
+abbrev pub recordAt : List ℕ → Cursor → Record
+recordAt t c = frontRecord (drop (c .at) t)
+
+-- a step: the record's front, and the cursor behind it
+pub record StepIs (t : List ℕ) (c : Cursor) (r : Step) : Type 0 where
+  pub head : r .head ≡ headOf (drop (c .at) t)
+  pub next : r .next .at ≡ c .at + headOf (drop (c .at) t) .len
+  pub index : r .next .index ≡ c .index + 1
+  pub low : c .at < r .next .at
+  pub high : r .next .at ≤ length t
+
+-- the first k records, the latest first
+unfoldable pub before : ℕ → List Record → List Record
+before zero rs = []
+before (suc k) rs = getD rs k [] ∷ before k rs
