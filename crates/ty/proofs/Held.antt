@@ -12,7 +12,7 @@ use Rattle.ty.proofs.Choice.{by-choice}
 use Rattle.ty.proofs.Laws.{head-any}
 use Rattle.ty.proofs.Moved.{reads-dropped}
 use Rattle.ty.proofs.Reading.{Within, within}
-use Rattle.ty.proofs.Sized.{never-whole, whole}
+use Rattle.ty.proofs.Sized.{never-whole}
 use Rattle.ty.specs.Bytes.{kindOf, isArray, innerOf, nonNull}
 use Rattle.ty.specs.Choose.{choose}
 use Rattle.ty.specs.Kind.{nullableKind, listKind, namedKind, functionKind, mapKind, moduleKind, errorKind, noKind}

@@ -2,11 +2,7 @@ use borrow.Author.Needs.{needs}
 use Rattle.ty.proofs.is_boolean.Statement.{statement}
 use Rattle.ty.proofs.is_boolean.Tie as tie
 
-kind-of-requires : tie.Need-kind-of-requires
-kind-of-requires c κs = search needs
-
-returns : tie.Need-returns
-returns c = cc
-
 pub is-boolean-spec : {M : Type 1} → statement M
-is-boolean-spec = tie.close (tie.spec kind-of-requires returns)
+is-boolean-spec = tie.close (tie.spec
+    (λ c κs. search needs)
+    (λ c. cc))

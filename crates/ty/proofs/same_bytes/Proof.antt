@@ -1,3 +1,4 @@
+-- The loop's invariant: what is left of both from `i` on decides. The measure is how much that is. Assumes nothing.
 use Prim.Native.Nat.{_≤_, _-_}
 use lib.ListN.{length, drop}
 use mathlib.Core.Path.{_≡_, refl, sym, _∙_}
@@ -27,7 +28,10 @@ shared-slice-read-if2-2 : tie.Need-shared-slice-read-if2-2 Inv-loop μ-loop
 shared-slice-read-if2-2 c = omega arith
 
 returns-2 : tie.Need-returns-2 Inv-loop μ-loop
-returns-2 c = let l = c .before .before .before .before in let s = l .before .before .args in sym (l .loop .inv .1 ∙ same-differ (s .a .now) (s .b .now) (l .loop .i) (omega arith) (omega arith) (c .if2 .taken))
+returns-2 c =
+    let l = c .before .before .before .before in
+    let s = l .before .before .args in
+    sym (l .loop .inv .1 ∙ same-differ (s .a .now) (s .b .now) (l .loop .i) (omega arith) (omega arith) (c .if2 .taken))
 
 add-i : tie.Need-add-i Inv-loop μ-loop
 add-i c = omega arith
@@ -36,10 +40,18 @@ loop-less : tie.Need-loop-less Inv-loop μ-loop
 loop-less c = omega arith
 
 loop-again : tie.Need-loop-again Inv-loop μ-loop
-loop-again c = let l = c .before .before .before .before in let s = l .before .before .args in (omega arith, rw add-one (l .loop .inv .1 ∙ same-more (s .a .now) (s .b .now) (l .loop .i) (omega arith) (omega arith) (c .if2 .left)))
+loop-again c =
+    let l = c .before .before .before .before in
+    let s = l .before .before .args in (
+      omega arith,
+      rw add-one (l .loop .inv .1 ∙ same-more (s .a .now) (s .b .now) (l .loop .i) (omega arith) (omega arith) (c .if2 .left)),
+    )
 
 returns-3 : tie.Need-returns-3 Inv-loop μ-loop
-returns-3 c = let l = c .before in let s = l .before .before .args in sym (l .loop .inv .1 ∙ same-end (s .a .now) (s .b .now) (l .loop .i) (omega arith) (omega arith))
+returns-3 c =
+    let l = c .before in
+    let s = l .before .before .args in
+    sym (l .loop .inv .1 ∙ same-end (s .a .now) (s .b .now) (l .loop .i) (omega arith) (omega arith))
 
 pub same-bytes-spec : {M : Type 1} → statement M
 same-bytes-spec =

@@ -1,3 +1,5 @@
+-- The loop's invariant: what is to be found is what is found from `at` on, where at most 17 types a byte wait to be read. The measure is what is left
+-- of the bytes that are examined. Assumes nothing.
 use Prim.Native.Nat.{_≤_, _-_, _+_, _*_}
 use borrow.Author.Needs.{needs}
 use mathlib.Core.Path.{_≡_, sym, _∙_}
@@ -22,21 +24,33 @@ at-loop c = c .before .before
 abbrev start : tie.After-item-at Inv-loop μ-loop → tie.Start Inv-loop μ-loop
 start c = at-loop c .before .before .before
 
--- what a turn finds, by what the call gave
-found : (c : tie.After-item-at Inv-loop μ-loop) (r : Item) → c .item-at .result ≡ r
-    → Turned (start c .args .s .now) (start c .args .limit) (at-loop c .before .least .result)
-    (at-loop c .loop .at) (at-loop c .loop .pending) (at-loop c .loop .top) (at-loop c .loop .error) r
+-- what a turn finds, by the item that the call gave
+abbrev Found : tie.After-item-at Inv-loop μ-loop → Item → Type 0
+Found c r =
+    let l = at-loop c in
+    Turned (start c .args .s .now) (start c .args .limit) (l .before .least .result) (l .loop .at) (l .loop .pending) (l .loop .top) (l .loop .error) r
+
+found : (c : tie.After-item-at Inv-loop μ-loop) (r : Item) → c .item-at .result ≡ r → Found c r
 found c r e =
     let l = at-loop c in
     let a = start c .args in
     turn (a .s .now) (a .limit) (l .before .least .result) (l .loop .at) (l .loop .pending) (l .loop .top) (l .loop .error)
     (l .before .least .ensures) (l .loop .inv .0) (l .loop .inv .2) (c .before .loop-test .taken) r (sym e ∙ c .item-at .ensures)
 
+-- the item in the last arm
+abbrev item : tie.After-known-told Inv-loop μ-loop → Item
+item c = let x = c .before .found .given .0 in Part (x .0) (x .1 .0) (x .1 .1 .0) (x .1 .1 .1 .0)
+
+more : (c : tie.After-known-told Inv-loop μ-loop) → Found (c .before .before .before) (item c)
+more c = found (c .before .before .before) (item c) (c .before .found .given .1)
+
 least-requires : tie.Need-least-requires Inv-loop μ-loop
 least-requires c κs = search needs
 
 loop-holds : tie.Need-loop-holds Inv-loop μ-loop
-loop-holds c = (omega arith, omega arith, starts (c .before .before .args .s .now) (c .before .before .args .limit) (c .least .result) (c .least .ensures))
+loop-holds c =
+    let a = c .before .before .args in
+    (omega arith, omega arith, starts (a .s .now) (a .limit) (c .least .result) (c .least .ensures))
 
 item-at-requires : tie.Need-item-at-requires Inv-loop μ-loop
 item-at-requires c κs = omega arith
@@ -63,19 +77,24 @@ sub-pending : tie.Need-sub-pending Inv-loop μ-loop
 sub-pending c = omega arith
 
 add-pending : tie.Need-add-pending Inv-loop μ-loop
-add-pending c = let x = c .before .found .given in let w = found (c .before .before .before) (Part (x .0 .0) (x .0 .1 .0) (x .0 .1 .1 .0) (x .0 .1 .1 .1 .0)) (x .1) in omega arith
+add-pending c = let w = more c in omega arith
 
 highest-requires : tie.Need-highest-requires Inv-loop μ-loop
 highest-requires c κs = search needs
 
 loop-less : tie.Need-loop-less Inv-loop μ-loop
-loop-less c = let x = c .before .before .found .given in let w = found (c .before .before .before .before) (Part (x .0 .0) (x .0 .1 .0) (x .0 .1 .1 .0) (x .0 .1 .1 .1 .0)) (x .1) in omega arith
+loop-less c = let w = more (c .before) in omega arith
 
 loop-again : tie.Need-loop-again Inv-loop μ-loop
-loop-again c = let x = c .before .before .found .given in let w = found (c .before .before .before .before) (Part (x .0 .0) (x .0 .1 .0) (x .0 .1 .1 .0) (x .0 .1 .1 .1 .0)) (x .1) in (omega arith, omega arith, rw (c .highest .ensures) (w .3))
+loop-again c = let w = more (c .before) in (omega arith, omega arith, rw (c .highest .ensures) (w .3))
 
 returns-3 : tie.Need-returns-3 Inv-loop μ-loop
-returns-3 c = let l = c .before in let a = l .before .before .before .args in sym (ends (a .s .now) (a .limit) (l .before .least .result) (l .loop .at) (l .loop .pending) (l .loop .top) (l .loop .error) (l .before .least .ensures) (l .loop .inv .0) (l .loop .inv .2) (c .loop-test .left))
+returns-3 c =
+    let l = c .before in
+    let a = l .before .before .before .args in
+    sym
+    (ends (a .s .now) (a .limit) (l .before .least .result) (l .loop .at) (l .loop .pending) (l .loop .top) (l .loop .error) (l .before .least .ensures)
+    (l .loop .inv .0) (l .loop .inv .2) (c .loop-test .left))
 
 pub read-type-spec : {M : Type 1} → statement M
 read-type-spec =
