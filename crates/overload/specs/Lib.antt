@@ -1,0 +1,9 @@
+pub mod Arg
+pub mod Before
+pub mod Arity
+pub mod Score
+pub mod Unnamed
+pub mod Best
+pub mod ByIndex
+pub mod Resolve
+pub mod Walk

@@ -1,0 +1,1 @@
+// Overload resolution: `check_call_args` of sema/checker.rs.

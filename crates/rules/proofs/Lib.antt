@@ -1,0 +1,3 @@
+pub mod Assigns
+pub mod Arm
+pub mod Climbs

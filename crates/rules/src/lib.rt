@@ -1,0 +1,2 @@
+// The typing rules that a node's type comes by: assignability (sema/ty.rs), access, operators and members (sema/checker.rs).
+pub mod assign;
