@@ -10,7 +10,7 @@ use Rattle.question.specs.Header.{headerOf}
 use Rattle.question.specs.Read.{leafOf, nodeOf, nodeIn, nodeAt, ownBytes, children}
 use Rattle.question.specs.Tree.{Node, Row, leaf, binary, unary, named, member, call, method, nil, cons}
 use Rattle.question.specs.Parse.{first, rest, takeRow, dropRow, onto, rowAt, treeOf}
-use Rattle.question.specs.Refused.{headerFault, idFault, nodeFault, moreFault, endFault, nodesFault, questionFault}
+use Rattle.question.specs.Refused.{headerFault, idFault, endlessFault, nodeFault, moreFault, endFault, nodesFault, treeFault, questionFault}
 
 -- the number of a question under so many table names
 abbrev number : ℕ → List ℕ → ℕ
@@ -89,7 +89,7 @@ record Numbers : Type 0 where
   nodesPastCut : number 0 (under (nest 64 (0 ∷ []))) ≡ 8
 
 numbers : Numbers
-unfolding choose nest headerOf leafOf nodeOf nodeIn nodeAt ownBytes children first rest takeRow dropRow onto rowAt treeOf headerFault idFault nodeFault moreFault endFault nodesFault questionFault bodyLength tyChildren idIn itemOf itemAt stopped readFrom readType
+unfolding choose nest headerOf leafOf nodeOf nodeIn nodeAt ownBytes children first rest takeRow dropRow onto rowAt treeOf headerFault idFault endlessFault nodeFault moreFault endFault nodesFault treeFault questionFault bodyLength tyChildren idIn itemOf itemAt stopped readFrom readType
 numbers =
     record {
       sample = refl;
@@ -134,5 +134,5 @@ numbers =
 tree-of : treeOf (under (1 ∷ 0 ∷ 5 ∷ 6 ∷ 0 ∷ 2 ∷ 0 ∷ 0 ∷ 4 ∷ 22 ∷ 0 ∷ 0 ∷ 12 ∷ 8 ∷ 6 ∷ 29 ∷ 0 ∷ 1 ∷ 0 ∷ 6 ∷ 3 ∷ 7 ∷ 0 ∷ 2 ∷ 1 ∷ 0 ∷ 3 ∷ []))
     ≡ binary 0 (call 6 (cons (leaf (0 ∷ [])) (cons (member 22 (leaf (12 ∷ 8 ∷ []))) nil)))
     (method 29 (leaf (6 ∷ [])) (cons (named 7 (unary 1 (leaf (3 ∷ [])))) nil))
-unfolding choose headerOf leafOf nodeOf nodeIn nodeAt ownBytes children first rest takeRow dropRow onto rowAt treeOf headerFault idFault nodeFault moreFault endFault nodesFault questionFault bodyLength tyChildren idIn itemOf itemAt stopped readFrom readType
+unfolding choose headerOf leafOf nodeOf nodeIn nodeAt ownBytes children first rest takeRow dropRow onto rowAt treeOf headerFault idFault endlessFault nodeFault moreFault endFault nodesFault treeFault questionFault bodyLength tyChildren idIn itemOf itemAt stopped readFrom readType
 tree-of = refl

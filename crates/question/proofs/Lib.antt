@@ -1,1 +1,3 @@
 pub mod Cases
+pub mod Reading
+pub mod Walking

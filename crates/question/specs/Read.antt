@@ -55,7 +55,7 @@ nodeAt q at = nodeIn (drop at q)
 -- how many bytes of its own a node has
 unfoldable pub ownBytes : NodeRead → ℕ
 ownBytes Bad = 0
-ownBytes (Leaf len top) = 1 + len
+ownBytes (Leaf len top) = len + 1
 ownBytes (Endless top) = 0
 ownBytes (Binary op) = 2
 ownBytes (Unary op) = 2

@@ -34,11 +34,15 @@ headerFault N q =
 unfoldable pub idFault : Names → ℕ → ℕ
 idFault N id = choose (defined N id) 0 10
 
--- the number of one of the first 64 nodes, 0 for none; an undefined id in a type without end has the lower number
+-- a leaf type without end: an undefined id in it has the lower number
+unfoldable pub endlessFault : Names → ℕ → ℕ
+endlessFault N top = choose (defined N top) 11 10
+
+-- the number of one of the first 64 nodes, 0 for none
 unfoldable pub nodeFault : Names → NodeRead → ℕ
 nodeFault N Bad = 8
 nodeFault N (Leaf len top) = idFault N top
-nodeFault N (Endless top) = choose (defined N top) 11 10
+nodeFault N (Endless top) = endlessFault N top
 nodeFault N (Binary op) = 0
 nodeFault N (Unary op) = 0
 nodeFault N (Named id) = idFault N id
@@ -72,8 +76,12 @@ nodesFault N (suc left) q at (suc pending) =
     (nodesFault N left q (at + ownBytes (nodeAt q at)) (pending + children (nodeAt q at)))
     (nodeFault N (nodeAt q at))
 
+-- the tree's number, which stands behind the header, and that of the bytes behind it
+unfoldable pub treeFault : Names → List ℕ → ℕ
+treeFault N q = nodesFault N mostNodes q headerBytes 1
+
 -- the question's number, 0 for none
 unfoldable pub questionFault : Names → List ℕ → ℕ
 questionFault N q =
     choose (ltb longestQuestion (length q)) 8
-    (choose (eqb (headerFault N q) 0) (nodesFault N mostNodes q headerBytes 1) (headerFault N q))
+    (choose (eqb (headerFault N q) 0) (treeFault N q) (headerFault N q))
