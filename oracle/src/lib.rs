@@ -4,6 +4,7 @@
 pub mod answer;
 pub mod bytes;
 pub mod diagnostic;
+pub mod examples;
 pub mod gen;
 pub mod name;
 pub mod question;
