@@ -1,8 +1,136 @@
-//! Stored answers: their binary and their text form.
+//! Stored answers: which cases, and their text and binary forms.
+
+use crate::bytes::Bytes;
+use crate::examples;
+use crate::gen::{self, Profile};
+use std::fmt::Write;
+
+/// A stored case; the answer is the oracle's.
+#[derive(Debug, Clone, PartialEq, Eq)]
+pub struct Stored {
+    pub name: String,
+    pub table: Bytes,
+    pub question: Bytes,
+}
+
+/// The seed of the generated part.
+pub const SEED: u64 = 2026;
+
+/// Per profile: how many cases, the longest input taken, and the step through the indices (a sweep
+/// is too long to be stored whole).
+const GENERATED: [(Profile, usize, usize, u64); 15] = [
+    (Profile::Rich, 250, 480, 1),
+    (Profile::Calls, 500, 400, 1),
+    (Profile::Wide, 300, 400, 1),
+    (Profile::Members, 200, 480, 1),
+    (Profile::Operators, 150, 480, 1),
+    (Profile::Outside, 40, 900, 1),
+    (Profile::Damaged, 300, 400, 1),
+    (Profile::Boundary, 300, 700, 1),
+    (Profile::Random, 200, 300, 1),
+    (Profile::Short, 60, 900, 3_301),
+    (Profile::OneNode, 120, 900, 3),
+    (Profile::Pairs, 300, 900, 419),
+    (Profile::Singles, 200, 900, 41),
+    (Profile::Assign, 200, 900, 59),
+    (Profile::Flips, 200, 900, 263),
+];
+
+/// The cases in order: the named examples, then the generated ones inside the compared domain.
+pub fn stored() -> Vec<Stored> {
+    let mut all: Vec<Stored> = Vec::new();
+    for e in examples::all() {
+        all.push(Stored { name: e.name, table: e.table, question: e.question });
+    }
+    for (profile, count, longest, step) in GENERATED {
+        let mut index = 0;
+        let mut taken = 0;
+        while taken < count {
+            let case = gen::case(profile, SEED, index);
+            let short = case.table.len() + case.question.len() <= longest;
+            if short && crate::in_domain(&case.table, &case.question) {
+                let name = format!("{}.{}", profile.name(), index);
+                all.push(Stored { name, table: case.table, question: case.question });
+                taken += 1;
+            }
+            index += step;
+        }
+    }
+    all
+}
+
+/// Bytes in hex; a part that is repeated stands once with `*` and how often, and `.` parts such runs.
+pub fn hex(bytes: &[u8]) -> String {
+    if bytes.is_empty() {
+        return "-".to_string();
+    }
+    let mut parts: Vec<String> = Vec::new();
+    let mut plain = String::new();
+    let mut at = 0;
+    while at < bytes.len() {
+        let (period, times) = best_run(&bytes[at..]);
+        if period * times >= 10 && times >= 3 {
+            if !plain.is_empty() {
+                parts.push(std::mem::take(&mut plain));
+            }
+            let one: String = bytes[at..at + period].iter().map(|b| format!("{:02x}", b)).collect();
+            parts.push(format!("{}*{}", one, times));
+            at += period * times;
+        } else {
+            let _ = write!(plain, "{:02x}", bytes[at]);
+            at += 1;
+        }
+    }
+    if !plain.is_empty() {
+        parts.push(plain);
+    }
+    parts.join(".")
+}
+
+/// The period of at most 16 bytes whose repetition covers the most, the shortest of these.
+fn best_run(bytes: &[u8]) -> (usize, usize) {
+    let mut best = (1, 1);
+    for period in 1..=16.min(bytes.len()) {
+        let mut times = 1;
+        while bytes.len() >= period * (times + 1) && bytes[..period] == bytes[period * times..period * (times + 1)] {
+            times += 1;
+        }
+        if times > 1 && period * times > best.0 * best.1 {
+            best = (period, times);
+        }
+    }
+    best
+}
+
+/// Reads what `hex` wrote.
+pub fn unhex(text: &str) -> Option<Bytes> {
+    if text == "-" {
+        return Some(Vec::new());
+    }
+    let mut bytes = Vec::new();
+    for part in text.split('.') {
+        let (digits, times) = match part.split_once('*') {
+            Some((digits, times)) => (digits, times.parse().ok()?),
+            None => (part, 1),
+        };
+        if digits.len() % 2 != 0 {
+            return None;
+        }
+        let one: Option<Bytes> =
+            (0..digits.len() / 2).map(|i| u8::from_str_radix(digits.get(2 * i..2 * i + 2)?, 16).ok()).collect();
+        bytes.extend(one?.repeat(times));
+    }
+    Some(bytes)
+}
+
+/// One line: name, table, question, then the printed answer with `/` for its inner line breaks.
+pub fn text_line(name: &str, table: &[u8], question: &[u8], printed: &str) -> String {
+    format!("{} {} {} {}\n", name, hex(table), hex(question), printed.trim_end().replace('\n', "/"))
+}
 
 /// One case as samples/answers.bin has it: table, question and printed answer, each behind a
 /// 2-byte length, low byte first. None where a length does not fit.
-pub fn binary_case(table: &[u8], question: &[u8], printed: &str) -> Option<Vec<u8>> {
+pub fn binary_case(table: &[u8], question: &[u8], printed: &str) -> Option<Bytes> {
     let mut bytes = Vec::new();
     for part in [table, question, printed.as_bytes()] {
         let len = u16::try_from(part.len()).ok()?;
@@ -11,3 +139,24 @@ pub fn binary_case(table: &[u8], question: &[u8], printed: &str) -> Option<Vec<u
     }
     Some(bytes)
 }
+
+/// The two files' contents.
+pub fn files() -> (String, Bytes) {
+    let mut text = String::from(HEADER);
+    let mut binary = Vec::new();
+    for case in stored() {
+        let printed = crate::printed(&case.table, &case.question);
+        text.push_str(&text_line(&case.name, &case.table, &case.question, &printed));
+        match binary_case(&case.table, &case.question, &printed) {
+            Some(bytes) => binary.extend(bytes),
+            None => panic!("{} is too long to be stored", case.name),
+        }
+    }
+    (text, binary)
+}
+
+const HEADER: &str = "\
+# Stored answers of the oracle. One case per line: name, table, question, then what the program prints, with / for
+# its inner line breaks. Bytes are in hex; - is none; xx*N stands for N times xx; . parts such runs.
+# Made by: cargo run --release --bin samples (in oracle/). See oracle/README.md.
+";

@@ -84,7 +84,9 @@ pub fn random_type(rng: &mut Rng, depth: usize, types: &[u16], error: bool) -> B
 }
 
 fn some_names(rng: &mut Rng, table: &mut Table, pool: &[&str], at_least: usize) -> Vec<u16> {
-    let count = at_least + rng.below(pool.len() + 1 - at_least);
+    let more = pool.len() - at_least;
+    let most = if rng.chance(70) { more.min(2) } else { more };
+    let count = at_least + rng.below(most + 1);
     let start = rng.below(pool.len());
     (0..count).map(|i| table.name(pool[(start + i) % pool.len()])).collect()
 }
@@ -97,7 +99,12 @@ impl Model {
         let letters = some_names(rng, &mut table, &LETTERS, 1);
         types.extend(&letters);
         let packages = some_names(rng, &mut table, &PACKAGES, 1);
-        let params = some_names(rng, &mut table, &PARAMS, 3);
+        // Built-in names serve as parameters as well as any; they keep a table short.
+        let params = if rng.chance(60) {
+            (20..36 + rng.below(4) as u16).collect()
+        } else {
+            some_names(rng, &mut table, &PARAMS, 3)
+        };
         let functions = some_names(rng, &mut table, &FUNCTIONS, 2);
         let mut fields = some_names(rng, &mut table, &FIELDS, 1);
         fields.push(built_in("size"));
@@ -505,8 +512,8 @@ pub fn wide(rng: &mut Rng) -> Pair {
     let mut table = Table::new();
     let f = table.name("f");
     let owner = if rng.chance(25) { table.name("Page") } else { NONE };
-    let params: Vec<u16> = (0..16).map(|i| table.name(&format!("p{}", i))).collect();
-    let stranger = table.name("other");
+    let params: Vec<u16> = (20..36).collect();
+    let stranger = 36;
     let count = rng.below(17);
     let suspend = rng.chance(10);
     let int: Bytes = vec![INT];
