@@ -24,7 +24,14 @@ id-body k e = or-cases (eqb k namedKind) (eqb k moduleKind) e (λ h. rw (eqb-tru
 
 pub no-body : (k : ℕ) → nullableKind ≤ k → k ≤ listKind → eqb k arrayKind ≡ false → bodyLength k ≡ 0
 unfolding bodyLength choose
-no-body k lo hi a = rw (a, ne-eqb k namedKind (omega arith), ne-eqb k moduleKind (omega arith), ne-eqb k typeVarKind (omega arith), ne-eqb k functionKind (omega arith))
+no-body k lo hi a =
+    rw (
+      a,
+      ne-eqb k namedKind (omega arith),
+      ne-eqb k moduleKind (omega arith),
+      ne-eqb k typeVarKind (omega arith),
+      ne-eqb k functionKind (omega arith),
+    )
 
 -- a body's bytes matter only to the kinds that have them
 same-good : (a f : Bool) (c c′ : ℕ) (z z′ : Bool) → (a ≡ true → c ≡ c′) → (f ≡ true → c ≡ c′) → (a ≡ true → z ≡ z′)

@@ -4,6 +4,15 @@ use mathlib.Core.Bool.{Bool, true, false, not, true≢false, false≢true, _&&_,
 use mathlib.Core.Path.{_≡_, refl, sym, _∙_}
 use Rattle.ty.specs.Choose.{choose}
 
+-- `choose` by its test
+pub choose-yes : {A : Type 0} (t : Bool) (x y : A) → t ≡ true → choose t x y ≡ x
+unfolding choose
+choose-yes t x y e = rw e
+
+pub choose-no : {A : Type 0} (t : Bool) (x y : A) → t ≡ false → choose t x y ≡ y
+unfolding choose
+choose-no t x y e = rw e
+
 -- a property of `choose t x y` is shown of x where t is true and of y where it is false
 pub by-choice : {A : Type 0} (P : A → Type 0) (t : Bool) {x y : A} → (t ≡ true → P x) → (t ≡ false → P y) → P (choose t x y)
 unfolding choose
@@ -45,6 +54,8 @@ passed false r x y e h = h
 pub tested : (t u v : Bool) → u ≡ t → u ≡ v → t ≡ v
 tested t u v e h = sym e ∙ h
 
+-- `search chain depth N` proves a `return` of an if-chain against nested `choose`, N being four more than the tests before it
 pub ruleset chain = (chosen, passed, eq-eqb, ne-eqb, lt-ltb, le-ltb, le-leb, lt-leb)
 
+-- the same where a test is a call's result
 pub ruleset chain-calls = (chain, tested)

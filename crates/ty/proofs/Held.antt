@@ -26,19 +26,20 @@ pub some-bytes : (s : List ℕ) → (kindOf s ≡ noKind → ⊥) → 0 < length
 some-bytes [] h = absurd (h refl)
 some-bytes (x ∷ s) h = omega arith
 
--- WHAT A TYPE HOLDS IS SHORTER
+-- what a type holds is shorter
 pub inner-shorter : (s : List ℕ) → 0 < length s → length (innerOf s) < length s
 unfolding innerOf
 inner-shorter s h =
     by-choice (λ x. length x < length s) (isArray s) {x = drop 6 s} {y = drop 1 s} (λ _. simp length-drop (omega arith)) (λ _. simp length-drop (omega arith))
 
--- the same where the kind is known
+-- the same where the kind is known, and where it was tested
 pub inner-shorter-of : (s : List ℕ) (k : ℕ) → kindOf s ≡ k → k < noKind → length (innerOf s) < length s
 inner-shorter-of s k e h = inner-shorter s (some-bytes s (λ q. omega arith))
 
 pub inner-shorter-if : (s : List ℕ) (k : ℕ) → eqb (kindOf s) k ≡ true → k < noKind → length (innerOf s) < length s
 inner-shorter-if s k e h = inner-shorter-of s k (eqb-true (kindOf s) k e) h
 
+-- one Nullable less is no longer
 pub non-null-length : (s : List ℕ) → length (nonNull s) ≤ length s
 unfolding nonNull
 non-null-length s =
@@ -107,14 +108,17 @@ module _ (s : List ℕ) (limit top : ℕ) (e : Bool) (lo : nullableKind ≤ kind
       (holds s (min (length s) limit) (kindOf s) (head-any s 0 noKind 0 b) lo hi)
       (within s (min (length s) limit) 0) r
 
-  -- WHAT A WHOLE TYPE HOLDS IS A WHOLE TYPE, with the same highest id and the same Error
+  -- what a whole type holds is a whole type, with the same highest id, and an Error in the one is in the other
   pub inner-reads : (n : ℕ) → readType s limit ≡ Whole n top e → readType (innerOf s) limit ≡ Whole (n - (1 + bodyLength (kindOf s))) top e
   inner-reads n r =
       let h = held n r in
       rw (← inner-drop s lo hi) (reads-dropped s limit (min (length s) limit) (1 + bodyLength (kindOf s)) n top e (h .0) (h .1))
 
+  -- and as long as what it holds where the type is all of the bytes
   pub inner-whole : readType s limit ≡ Whole (length s) top e → readType (innerOf s) limit ≡ Whole (length (innerOf s)) top e
-  inner-whole r = let l : length s - (1 + bodyLength (kindOf s)) ≡ length (innerOf s) = rw (← inner-drop s lo hi) (simp length-drop) in rw l at (inner-reads (length s) r)
+  inner-whole r =
+      let l : length s - (1 + bodyLength (kindOf s)) ≡ length (innerOf s) = rw (← inner-drop s lo hi) (simp length-drop) in
+      rw l at (inner-reads (length s) r)
 
 -- and so is a whole type with one Nullable taken off
 pub non-null-whole : (s : List ℕ) (limit top : ℕ) (e : Bool) → readType s limit ≡ Whole (length s) top e

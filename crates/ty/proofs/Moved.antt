@@ -84,7 +84,7 @@ module _ (s s′ : List ℕ) (n n′ d d′ : ℕ) (q : n + d ≡ n′ + d′) (
 
   module _ (limit limit′ t : ℕ) (e′ : Bool) (w : n′ ≤ min (length s′) limit′) where
     -- that a reading which ends at n ends at n′ in s′, with the fuel f and f′
-    abbrev pub Goes : ℕ → ℕ → Type 0
+    abbrev Goes : ℕ → ℕ → Type 0
     Goes f f′ =
         (at at′ p top : ℕ) (e : Bool) → at ≤ min (length s) limit → at + d ≡ at′ + d′ → n′ < at′ + f′ → readFrom f s limit at p top e ≡ Whole n t e′
         → readFrom f′ s′ limit′ at′ p top e ≡ Whole n′ t e′
@@ -103,7 +103,7 @@ module _ (s s′ : List ℕ) (n n′ d d′ : ℕ) (q : n + d ≡ n′ + d′) (
     onward f f′ at at′ p top e Broken a l v m k r = let z : _≡_ {A = ℕ} 0 1 = cc in absurd (omega arith)
     onward f f′ at at′ p top e Out a l v m k r = absurd (never-whole (length s) limit top n t e e′ r)
 
-    pub go : (f f′ : ℕ) → Goes f f′
+    go : (f f′ : ℕ) → Goes f f′
     unfolding readFrom
     go zero f′ at at′ p top e h a l r = let z : _≡_ {A = ℕ} 0 1 = cc in absurd (omega arith)
     go (suc f) zero at at′ p top e h a l r = let b = ends-behind s limit (suc f) at p top n t e e′ h r in absurd (omega arith)
@@ -120,7 +120,7 @@ module _ (s s′ : List ℕ) (n n′ d d′ : ℕ) (q : n + d ≡ n′ + d′) (
         r))))
         r
 
--- READING LOOKS AT NOTHING BEHIND THE TYPE'S END: bytes that begin alike, as far as the type goes, have the same type, and any limit that lets it in does
+-- reading looks at nothing behind the type's end: bytes that begin alike, as far as the type goes, have the same type, under any limit that lets it in
 pub reads-alike : (s s′ : List ℕ) (limit limit′ n top : ℕ) (e : Bool) → take n s′ ≡ take n s → n ≤ limit′ → readType s limit ≡ Whole n top e
     → readType s′ limit′ ≡ Whole n top e
 unfolding readType
@@ -133,9 +133,11 @@ reads-alike s s′ limit limit′ n top e q h r =
     rw (← m) (sym (getD-take n s i 0 k) ∙ ap (λ (x : List ℕ). getD x i 0) (sym q) ∙ getD-take n s′ i 0 k))
     limit limit′ top e (omega arith) (suc (min (length s) limit)) (suc (min (length s′) limit′)) 0 0 1 0 false (omega arith) refl (omega arith) r
 
+-- so of a part that has the whole type
 pub reads-taken : (s : List ℕ) (limit m n top : ℕ) (e : Bool) → n ≤ m → readType s limit ≡ Whole n top e → readType (take m s) limit ≡ Whole n top e
 reads-taken s limit m n top e h r = let b = whole s limit n top e r in reads-alike s (take m s) limit limit n top e (take-take n m s h) (b .1) r
 
+-- and with other bytes behind
 pub reads-more : (s t : List ℕ) (limit n top : ℕ) (e : Bool) → readType s limit ≡ Whole n top e → readType (s ++ t) limit ≡ Whole n top e
 reads-more s t limit n top e r =
     let b = whole s limit n top e r in

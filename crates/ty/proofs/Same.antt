@@ -10,7 +10,7 @@ use native.Mathlib.Nat.{not-suc-le-zero, le-of-suc-le-suc}
 use Rattle.ty.proofs.Choice.{and-left, and-right}
 use Rattle.ty.specs.Bytes.{sameBytes}
 
--- THE SAME BYTES ARE EQUAL LISTS, and the other way round
+-- the same bytes are equal lists, and the other way round
 pub same-eq : (a b : List ℕ) → sameBytes a b ≡ true → a ≡ b
 unfolding sameBytes
 same-eq [] [] e = refl

@@ -96,7 +96,7 @@ module _ (s : List ℕ) (limit : ℕ) where
   unfolding Ends
   ends-behind f at p top n t e e₁ h q = rw q at (ends-from f at p top e h)
 
-  -- THE BOUNDS of a whole type
+  -- the bounds of a whole type
   pub whole : (n top : ℕ) (e : Bool) → readType s limit ≡ Whole n top e → (1 ≤ n) × (n ≤ limit) × (n ≤ length s)
   unfolding Ends
   whole n top e q = let h = rw q at sized in omega arith

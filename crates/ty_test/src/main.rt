@@ -1,4 +1,6 @@
 // Runs the routines on types at the limits, each answer being what the definitions compute.
+mod constants;
+
 ghost use mathlib.Core.Path.{_≡_};
 ghost use Rattle.ty_test.specs.Found.{lengthFound};
 
