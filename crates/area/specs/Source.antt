@@ -3,15 +3,16 @@
 use Prim.Native.Nat.{ℕ, _/_, _%_, _≤_, _<_}
 use mathlib.Core.List.{List, [], _∷_}
 use lib.ListN.{length, take, drop}
-use Rattle.ty.specs.Kind.{namedKind, pointerKind, functionKind}
+use Rattle.ty.specs.Kind.{namedKind, pointerKind, listKind, functionKind}
 use Rattle.ty.specs.Bytes.{Ty, plainTy, innerOf}
 use Rattle.area.specs.declared.Source.{Source}
-use Rattle.area.specs.declared.Source.the-variants.{Kind, Name, First, Second, Inner, Pointer, Part, Function}
+use Rattle.area.specs.declared.Source.the-variants.{Kind, ListOf, Name, First, Second, Inner, Pointer, Part, Function}
 use Rattle.area.specs.Slot.{Slot, slotOf, slotSize, slotCount}
 
 -- the type that a source stands for, with a table, the first child's type x and the second's y
 unfoldable pub typeFrom : List ℕ → Ty → Ty → Source → Ty
 typeFrom table x y (Kind k) = plainTy k
+typeFrom table x y (ListOf k) = listKind ∷ plainTy k
 typeFrom table x y (Name id) = namedKind ∷ id % 256 ∷ id / 256 % 256 ∷ []
 typeFrom table x y First = x
 typeFrom table x y Second = y
@@ -23,6 +24,7 @@ typeFrom table x y (Function start len) = functionKind ∷ 0 ∷ take len (drop 
 -- the slots that a source reads can be read, and lie behind slot `node`
 unfoldable pub Reads : List ℕ → ℕ → ℕ → ℕ → Source → Type 0
 Reads l node first second (Kind k) = Unit {0}
+Reads l node first second (ListOf k) = Unit {0}
 Reads l node first second (Name id) = Unit {0}
 Reads l node first second First = Slot l node first
 Reads l node first second Second = Slot l node second

@@ -12,10 +12,11 @@ ghost use Rattle.area.specs.Slot.{Lent, Slot, Stored, slotOf};
 ghost use Rattle.area.specs.Source.{typeFrom, Storable};
 use ty::Kind;
 
-// Where a node's type comes from: a kind without body, a name, a child's type, what the first child's type holds, a Pointer to it, a part of the
+// Where a node's type comes from: a kind without body, a List of one, a name, a child's type, what the first child's type holds, a Pointer to it, a part of the
 // table, or a Function without parameters whose result is such a part.
 pub enum Source {
     Kind(u8),
+    ListOf(u8),
     Name(u16),
     First,
     Second,
