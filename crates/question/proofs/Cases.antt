@@ -1,16 +1,15 @@
 -- Worked questions, computed from the definitions. Assumes nothing.
-use mathlib.Core.Path.{_≡_, refl}
-use mathlib.Core.List.{List, [], _∷_, _++_}
 use Prim.Native.Nat.{ℕ, zero, suc}
 use lib.ListN.{replicate}
+use mathlib.Core.List.{List, [], _∷_, _++_}
+use mathlib.Core.Path.{_≡_, refl}
+use Rattle.question.specs.Header.{headerOf}
+use Rattle.question.specs.Parse.{first, rest, takeRow, dropRow, onto, rowAt, treeOf}
+use Rattle.question.specs.Read.{leafOf, nodeOf, nodeIn, nodeAt, ownBytes, children}
+use Rattle.question.specs.Refused.{headerFault, idFault, endlessFault, nodeFault, moreFault, endFault, nodesFault, treeFault, questionFault}
+use Rattle.question.specs.Tree.{leaf, binary, unary, named, member, call, method, nil, cons}
 use Rattle.ty.specs.Choose.{choose}
 use Rattle.ty.specs.Read.{bodyLength, children as tyChildren, idIn, itemOf, itemAt, stopped, readFrom, readType}
-use Rattle.question.specs.declared.Names.{Names}
-use Rattle.question.specs.Header.{headerOf}
-use Rattle.question.specs.Read.{leafOf, nodeOf, nodeIn, nodeAt, ownBytes, children}
-use Rattle.question.specs.Tree.{Node, Row, leaf, binary, unary, named, member, call, method, nil, cons}
-use Rattle.question.specs.Parse.{first, rest, takeRow, dropRow, onto, rowAt, treeOf}
-use Rattle.question.specs.Refused.{headerFault, idFault, endlessFault, nodeFault, moreFault, endFault, nodesFault, treeFault, questionFault}
 
 -- the number of a question under so many table names
 abbrev number : ℕ → List ℕ → ℕ

@@ -1,3 +1,9 @@
 pub mod Cases
 pub mod Reading
 pub mod Walking
+pub mod Trees
+pub mod Standing
+pub mod Opened
+pub mod Finds
+pub mod Found
+pub mod Accepted

@@ -1,22 +1,22 @@
 -- What a node that was read says of the bytes at its position. Assumes nothing.
-use mathlib.Core.Path.{_≡_, refl, sym, ap, _∙_, subst}
-use mathlib.Core.Bool.{Bool, true, false, _&&_}
-use mathlib.Core.List.{List}
-use Prim.Native.Nat.{ℕ, zero, suc, _+_, _-_, _≤_, _<_, max}
-use native.Mathlib.Omega.{arith}
-use lib.ListN.{length, getD, take, drop, length-drop}
-use lib.Seq.{drop-drop, length-take-le}
-use lib.Dec.{leb, eqb}
+use Prim.Native.Nat.{ℕ, _+_, _≤_, max}
 use borrow.Author.Tests.{leb-true}
-use Rattle.ty.specs.Read.{readType, longestType}
-use Rattle.ty.specs.declared.read.TypeRead.{TypeRead}
-use Rattle.ty.specs.declared.read.TypeRead.the-variants.{Whole, Cut, Malformed, Endless as Unended}
-use Rattle.ty.proofs.Choice.{by-choice, and-left, and-right}
-use Rattle.ty.proofs.Sized.{whole}
-use Rattle.ty.proofs.Moved.{reads-taken}
-use Rattle.question.specs.declared.node.NodeRead.{NodeRead}
-use Rattle.question.specs.declared.node.NodeRead.the-variants.{Bad, Leaf, Endless, Binary, Unary, Named, Member, Call, Method}
+use lib.Dec.{leb, eqb}
+use lib.ListN.{length, take, drop, length-drop}
+use lib.Seq.{drop-drop, length-take-le}
+use mathlib.Core.Bool.{Bool, true, _&&_}
+use mathlib.Core.List.{List}
+use mathlib.Core.Path.{_≡_, refl}
+use native.Mathlib.Omega.{arith}
 use Rattle.question.specs.Read.{lastBinary, lastUnary, mostArguments, leafOf, nodeOf, nodeIn, nodeAt, ownBytes, children}
+use Rattle.question.specs.declared.node.NodeRead.the-variants.{Bad, Leaf, Endless, Binary, Unary, Named, Member, Call, Method}
+use Rattle.question.specs.declared.node.NodeRead.{NodeRead}
+use Rattle.ty.proofs.Choice.{by-choice, and-left, and-right}
+use Rattle.ty.proofs.Moved.{reads-taken}
+use Rattle.ty.proofs.Sized.{whole}
+use Rattle.ty.specs.Read.{readType, longestType}
+use Rattle.ty.specs.declared.read.TypeRead.the-variants.{Whole, Cut, Malformed, Endless as Unended}
+use Rattle.ty.specs.declared.read.TypeRead.{TypeRead}
 
 -- the node's own bytes are there, and its operator or count is in range; behind a leaf's kind stands a whole type
 unfoldable pub Front : List ℕ → NodeRead → Type 0

@@ -1,16 +1,14 @@
 -- One step of the walk over the nodes: of the check and of `skip`. Assumes nothing.
-use mathlib.Core.Path.{_≡_, refl, ap}
-use mathlib.Core.List.{List}
-use Prim.Native.Nat.{ℕ, zero, suc, _+_, _-_, _≤_}
-use native.Mathlib.Omega.{arith}
+use Prim.Native.Nat.{ℕ, zero, suc, _+_, _-_}
 use borrow.Author.Tests.{eq-eqb, ne-eqb}
-use Rattle.ty.specs.Choose.{choose}
-use Rattle.question.specs.declared.Names.{Names}
-use Rattle.question.specs.declared.node.Skipped.{Skipped}
+use mathlib.Core.List.{List}
+use mathlib.Core.Path.{_≡_, refl}
+use native.Mathlib.Omega.{arith}
 use Rattle.question.specs.Read.{nodeAt, ownBytes, children}
-use Rattle.question.specs.Parse.{mostNodes}
-use Rattle.question.specs.Skip.{skipFrom}
 use Rattle.question.specs.Refused.{nodeFault, moreFault, endFault, nodesFault}
+use Rattle.question.specs.Skip.{skipFrom}
+use Rattle.question.specs.declared.Names.{Names}
+use Rattle.ty.specs.Choose.{choose}
 
 module _ (N : Names) (q : List ℕ) (at : ℕ) where
   pub fault-end : (left pending : ℕ) → pending ≡ 0 → nodesFault N left q at pending ≡ endFault q at

@@ -1,22 +1,14 @@
-use Rattle.question.proofs.Walking.{fault-end, fault-more, fault-stop, fault-on}
-use Rattle.question.proofs.Reading.{step-small, step-few}
-use Rattle.question.specs.Refused.{nodeFault, moreFault, nodesFault, treeFault}
-use Rattle.question.specs.Read.{nodeAt, ownBytes, children}
+use Prim.Native.Nat.{_+_, _*_, _≤_, max}
 use borrow.Author.Needs.{needs}
 use lib.ListN.{length}
-use Prim.Native.Nat.{_+_, _*_, _≤_, _-_, max}
 use mathlib.Core.Path.{_≡_, refl, sym, ap, _∙_}
 use native.Mathlib.Omega.{arith}
+use Rattle.question.proofs.Reading.{step-small, step-few}
+use Rattle.question.proofs.Walking.{fault-end, fault-more, fault-stop, fault-on}
 use Rattle.question.proofs.tree_fault.Statement.{statement}
 use Rattle.question.proofs.tree_fault.Tie as tie
-use Rattle.question.proofs.tree_fault.Reads as reads
-use Rattle.question.proofs.tree_fault.Lts as lts
-use Rattle.question.proofs.end_fault.Reads as end-fault-reads
-use Rattle.question.proofs.more_fault.Reads as more-fault-reads
-use Rattle.question.proofs.node.children.Reads as children-reads
-use Rattle.question.proofs.node.node_at.Reads as node-at-reads
-use Rattle.question.proofs.node.own_bytes.Reads as own-bytes-reads
-use Rattle.question.proofs.node_fault.Reads as node-fault-reads
+use Rattle.question.specs.Read.{ownBytes, children}
+use Rattle.question.specs.Refused.{nodeFault, moreFault, nodesFault, treeFault}
 
 abbrev Inv-loop : tie.InvT-loop
 Inv-loop question names at₀ pending₀ left₀ at pending left = (nodesFault names left question at pending ≡ treeFault names question) × (left ≤ 64) × (pending + 17 * left ≤ 1089) × (at ≤ max 5 (length question))
@@ -24,67 +16,51 @@ Inv-loop question names at₀ pending₀ left₀ at pending left = (nodesFault n
 abbrev μ-loop : tie.MeasureT-loop
 μ-loop question names at₀ pending₀ left₀ at pending left = left
 
--- src/lib.rt:119:5
 loop-holds : tie.Need-loop-holds Inv-loop μ-loop
 loop-holds c = (unfold treeFault in refl, omega arith, omega arith, omega arith)
 
--- src/lib.rt:120:13
 node-at-requires : tie.Need-node-at-requires Inv-loop μ-loop
 node-at-requires c κs = search needs
 
--- src/lib.rt:122:13
 more-fault-requires : tie.Need-more-fault-requires Inv-loop μ-loop
 more-fault-requires c κs = search needs
 
--- src/lib.rt:122:13
 returns : tie.Need-returns Inv-loop μ-loop
 returns c = (c .more-fault .ensures) ∙ ap moreFault (c .before .before .node-at .ensures) ∙ sym (fault-more (c .before .before .before .before .before .before .args .names) ((c .before .before .before .before .before .before .args .question) .now) (c .before .before .before .before .loop .at) (c .before .before .before .before .loop .left) (c .before .before .before .before .loop .pending) (c .before .before .before .loop-test .taken) (c .before .if1 .taken)) ∙ (c .before .before .before .before .loop .inv .0)
 
--- src/lib.rt:124:13
 node-fault-requires : tie.Need-node-fault-requires Inv-loop μ-loop
 node-fault-requires c κs = search needs
 
--- src/lib.rt:126:13
 returns-2 : tie.Need-returns-2 Inv-loop μ-loop
 returns-2 c = let e = (c .before .node-fault .ensures) ∙ ap (nodeFault (c .before .before .before .before .before .before .before .args .names)) (c .before .before .before .node-at .ensures) in e ∙ sym (fault-stop (c .before .before .before .before .before .before .before .args .names) ((c .before .before .before .before .before .before .before .args .question) .now) (c .before .before .before .before .before .loop .at) (c .before .before .before .before .before .loop .left) (c .before .before .before .before .before .loop .pending) (c .before .before .before .before .loop-test .taken) (c .before .before .if1 .left) (λ z. (c .if2 .taken) (e ∙ z))) ∙ (c .before .before .before .before .before .loop .inv .0)
 
--- src/lib.rt:128:15
 own-bytes-requires : tie.Need-own-bytes-requires Inv-loop μ-loop
 own-bytes-requires c κs = search needs
 
--- src/lib.rt:128:9
 add-at : tie.Need-add-at Inv-loop μ-loop
 add-at c = omega (arith, ((c .own-bytes .ensures) ∙ ap ownBytes (c .before .before .before .before .node-at .ensures)), step-small ((c .before .before .before .before .before .before .before .before .args .question) .now) (c .before .before .before .before .before .before .loop .at))
 
--- src/lib.rt:129:19
 sub-pending : tie.Need-sub-pending Inv-loop μ-loop
 sub-pending c = omega arith
 
--- src/lib.rt:129:33
 children-requires : tie.Need-children-requires Inv-loop μ-loop
 children-requires c κs = search needs
 
--- src/lib.rt:129:19
 add-pending : tie.Need-add-pending Inv-loop μ-loop
 add-pending c = omega (arith, ((c .children .ensures) ∙ ap children (c .before .before .before .before .before .node-at .ensures)), step-few ((c .before .before .before .before .before .before .before .before .before .args .question) .now) (c .before .before .before .before .before .before .before .loop .at), (c .before .before .before .before .before .before .before .loop .inv))
 
--- src/lib.rt:130:9
 sub-left : tie.Need-sub-left Inv-loop μ-loop
 sub-left c = omega arith
 
--- src/lib.rt:119:5
 loop-less : tie.Need-loop-less Inv-loop μ-loop
 loop-less c = omega arith
 
--- src/lib.rt:119:5
 loop-again : tie.Need-loop-again Inv-loop μ-loop
 loop-again c = let o = ((c .before .own-bytes .ensures) ∙ ap ownBytes (c .before .before .before .before .before .node-at .ensures)) in let k = ((c .children .ensures) ∙ ap children (c .before .before .before .before .before .node-at .ensures)) in let e = (c .before .before .before .node-fault .ensures) ∙ ap (nodeFault (c .before .before .before .before .before .before .before .before .before .args .names)) (c .before .before .before .before .before .node-at .ensures) in (rw (o, k) (sym (fault-on (c .before .before .before .before .before .before .before .before .before .args .names) ((c .before .before .before .before .before .before .before .before .before .args .question) .now) (c .before .before .before .before .before .before .before .loop .at) (c .before .before .before .before .before .before .before .loop .left) (c .before .before .before .before .before .before .before .loop .pending) (c .before .before .before .before .before .before .loop-test .taken) (c .before .before .before .before .if1 .left) (sym e ∙ (c .before .before .if2 .left))) ∙ (c .before .before .before .before .before .before .before .loop .inv .0)), omega arith, omega (arith, k, step-few ((c .before .before .before .before .before .before .before .before .before .args .question) .now) (c .before .before .before .before .before .before .before .loop .at), (c .before .before .before .before .before .before .before .loop .inv)), omega (arith, o, step-small ((c .before .before .before .before .before .before .before .before .before .args .question) .now) (c .before .before .before .before .before .before .before .loop .at), (c .before .before .before .before .before .before .before .loop .inv)))
 
--- src/lib.rt:132:5
 end-fault-requires : tie.Need-end-fault-requires Inv-loop μ-loop
 end-fault-requires c κs = search needs
 
--- src/lib.rt:113:1
 returns-3 : tie.Need-returns-3 Inv-loop μ-loop
 returns-3 c = (c .end-fault .ensures) ∙ sym (fault-end (c .before .before .before .before .args .names) ((c .before .before .before .before .args .question) .now) (c .before .before .loop .at) (c .before .before .loop .left) (c .before .before .loop .pending) (c .before .loop-test .left)) ∙ (c .before .before .loop .inv .0)
 
