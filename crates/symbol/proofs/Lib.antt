@@ -1,1 +1,4 @@
+pub mod Types
+pub mod Turns
+pub mod Bounds
 pub mod Cases

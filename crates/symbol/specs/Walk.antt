@@ -3,17 +3,26 @@ use Prim.Native.Nat.{ℕ, zero, suc, _+_, _≤_, _<_}
 use mathlib.Core.Path.{_≡_}
 use mathlib.Core.List.{List, [], _∷_}
 use lib.ListN.{length, getD, drop, take}
+use Rattle.ty.specs.declared.read.TypeRead.{TypeRead}
+use Rattle.ty.specs.declared.read.TypeRead.the-variants.{Whole, Cut, Malformed, Endless}
 use Rattle.symbol.specs.declared.front.Head.{Head}
 use Rattle.symbol.specs.declared.walk.Cursor.{Cursor}
 use Rattle.symbol.specs.declared.walk.Step.{Step}
 use Rattle.symbol.specs.Front.{headOf}
 use Rattle.symbol.specs.Table.{Record, recordsOf, frontRecord}
 
--- what a reader of a record's front answers: the head, and where the record ends
-pub record HeadIs (f : List ℕ → Head) (s : List ℕ) (r : Head) : Type 0 where
-  pub same : r ≡ f s
+-- the front of some bytes: the head, and where the record ends
+pub record HeadIs (s : List ℕ) (r : Head) : Type 0 where
+  pub same : r ≡ headOf s
   pub low : 1 ≤ r .len
   pub high : r .len ≤ length s
+
+-- a type that begins at byte n of s ends in s
+abbrev pub EndsIn : ℕ → List ℕ → TypeRead → Type 0
+EndsIn n s (Whole len top e) = n + len ≤ length s
+EndsIn n s Cut = Unit
+EndsIn n s Malformed = Unit
+EndsIn n s (Endless top e) = Unit
 
 -- the cursor stands where record number `index` begins, or at the end
 pub record At (t : List ℕ) (c : Cursor) : Type 0 where

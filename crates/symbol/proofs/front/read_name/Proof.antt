@@ -1,0 +1,25 @@
+use borrow.Author.Needs.{needs}
+use Rattle.symbol.proofs.front.read_name.Statement.{statement}
+use Rattle.symbol.proofs.front.read_name.Tie as tie
+use Rattle.symbol.specs.Front.{nameHead}
+
+byte-at-requires : tie.Need-byte-at-requires
+byte-at-requires c κs = search needs
+
+cast-good-bytes : tie.Need-cast-good-bytes
+cast-good-bytes c = search needs
+
+good-bytes-requires : tie.Need-good-bytes-requires
+good-bytes-requires c κs = search needs
+
+plain-requires : tie.Need-plain-requires
+plain-requires c κs = search needs
+
+returns : tie.Need-returns
+unfolding nameHead
+returns c = cc
+
+pub read-name-spec : {M : Type 1} → statement M
+read-name-spec =
+    tie.close
+    (tie.spec byte-at-requires cast-good-bytes good-bytes-requires plain-requires returns)

@@ -1,0 +1,16 @@
+use borrow.Author.Needs.{needs}
+use Rattle.symbol.proofs.Bounds.{head-bounded}
+use Rattle.symbol.proofs.front.read_record.Statement.{statement}
+use Rattle.symbol.proofs.front.read_record.Tie as tie
+
+shared-slice-read-read-kind : tie.Need-shared-slice-read-read-kind
+shared-slice-read-read-kind c = search needs
+
+read-kind-requires : tie.Need-read-kind-requires
+read-kind-requires c κs = search needs
+
+returns : tie.Need-returns
+returns c = let b = rw (← (c .read-kind .ensures)) at (head-bounded ((c .before .before .before .args .s .now)) ((c .before .before .before .pre))) in record { same = (c .read-kind .ensures); low = b .low; high = b .high }
+
+pub read-record-spec : {M : Type 1} → statement M
+read-record-spec = tie.close (tie.spec shared-slice-read-read-kind read-kind-requires returns)
