@@ -1,3 +1,6 @@
 pub mod Lists
+pub mod Paddings
 pub mod Diagnostics
 pub mod Slots
+pub mod Stores
+pub mod Sources

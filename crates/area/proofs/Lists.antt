@@ -2,7 +2,7 @@
 use Prim.Native.Nat.{ℕ, zero, suc, _+_, _-_, _≤_, _<_}
 use borrow.Author.Fill.{fill-more}
 use lib.ListN.{length, getD, take, drop, set, replicate, length-append, length-drop, length-take, length-replicate}
-use lib.Seq.{sets, sets-eq, length-take-le, take-suc, take-all, getD-drop, getD-set-other, drop-set-add, take-set-le, drop-length, take-append-seam, drop-append-add}
+use lib.Seq.{sets, sets-eq, length-take-le, take-suc, take-all, take-nil, getD-drop, getD-set-other, drop-set-add, take-set-le, drop-length, take-append-seam, drop-append-add}
 use mathlib.Core.List.{List, [], _∷_, _++_, append-nil}
 use mathlib.Core.Path.{_≡_, refl, sym, ap, _∙_}
 use native.Mathlib.Nat.{add-zero, zero-sub, suc-sub-suc, sub-zero, not-suc-le-zero, le-of-suc-le-suc}
@@ -27,13 +27,12 @@ part-next s at i h =
 pub part-rest : (r d : List ℕ) (n : ℕ) → r ≡ d → length r < n → r ≡ take n d
 part-rest r d n e h = let f : length r ≡ length d = ap (λ (l : List ℕ). length l) e in e ∙ sym (take-all n d (omega arith))
 
--- what is left behind some bytes is told by its length
-pub drop-last : (n : ℕ) (s : List ℕ) → drop n s ≡ drop (length s - length (drop n s)) s
-drop-last zero s = let e : length s - length s ≡ 0 = omega arith in ap (λ (k : ℕ). drop k s) (sym e)
-drop-last (suc n) [] = refl
-drop-last (suc n) (x ∷ s) =
-    let e : suc (length s) - length (drop n s) ≡ suc (length s - length (drop n s)) = omega (arith, length-drop n s) in
-    drop-last n s ∙ ap (λ (k : ℕ). drop k (x ∷ s)) (sym e)
+-- the end of a front
+pub drop-take : (j n : ℕ) (s : List ℕ) → drop j (take n s) ≡ take (n - j) (drop j s)
+drop-take zero n s = ap (λ (k : ℕ). take k s) (sym (sub-zero n))
+drop-take (suc j) zero s = ap (λ (k : ℕ). take k (drop (suc j) s)) (sym (zero-sub (suc j)))
+drop-take (suc j) (suc n) [] = sym (take-nil (suc n - suc j))
+drop-take (suc j) (suc n) (x ∷ s) = drop-take j n s ∙ ap (λ (k : ℕ). take k (drop j s)) (sym (suc-sub-suc n j))
 
 -- inside the list the default does not matter
 pub getD-any {ℓ} : {A : Type ℓ} (l : List A) (i : ℕ) (d e : A) → i < length l → getD l i d ≡ getD l i e
@@ -52,6 +51,10 @@ sets-snoc (v ∷ vs) a p x =
 pub sets-behind : (vs a : List ℕ) (p j : ℕ) → p + length vs ≤ j → getD (sets a p vs) j 0 ≡ getD a j 0
 sets-behind [] a p j h = refl
 sets-behind (v ∷ vs) a p j h = sets-behind vs (set a p v) (suc p) j (omega arith) ∙ getD-set-other a p j v 0 (λ e. omega arith)
+
+-- what a store at the start puts there
+pub sets-front : (vs a : List ℕ) → length vs ≤ length a → take (length vs) (sets a 0 vs) ≡ vs
+sets-front vs a h = ap (λ (l : List ℕ). take (length vs) l) (sets-eq vs a 0 (omega arith)) ∙ take-append-seam vs (drop (0 + length vs) a)
 
 -- a part that ends before a store stays
 pub part-set : (a : List ℕ) (p k i v : ℕ) → p + k ≤ i → take k (drop p (set a i v)) ≡ take k (drop p a)

@@ -6,7 +6,7 @@ use mathlib.Core.List.{List, [], _∷_, _++_, map, append-assoc}
 use mathlib.Core.Path.{_≡_, refl, sym, ap, _∙_, subst}
 use native.Mathlib.Omega.{arith}
 use Rattle.area.proofs.Lists.{part-length, part-sets, getD-any}
-use Rattle.area.specs.Slot.{Lent, Slot, Stored, Held, Helds, store, storeLen, slotOf, typesIn}
+use Rattle.area.specs.Slot.{Lent, Slot, Slots, Stored, Held, Helds, store, storeLen, slotOf, typesIn}
 use Rattle.ty.specs.Bytes.{Ty}
 
 -- ---- reading a slot
@@ -79,6 +79,10 @@ lent-stored a a′ l l′ n t s lent =
       long = ap (λ (w : List ℕ). length w) (s .lens) ∙ length-set l n (length t) ∙ lent .long;
     }
 
+-- by the lengths alone
+pub lent-still : (a a′ l l′ : List ℕ) → length a′ ≡ length a → length l′ ≡ length l → Lent a l → Lent a′ l′
+lent-still a a′ l l′ e f lent = record { wide = e ∙ lent .wide; long = f ∙ lent .long }
+
 pub stored-as : {a a′ l l′ : List ℕ} {node : ℕ} {t u : Ty} → u ≡ t → Stored a a′ l l′ node t → Stored a a′ l l′ node u
 stored-as {a} {a′} {l} {l′} {node} e w = subst (λ (u : Ty). Stored a a′ l l′ node u) (sym e) w
 
@@ -134,3 +138,20 @@ module _ (a l nodes : List ℕ) (n : ℕ) (there : n ≤ length nodes) where
       let room : i < length (map (slotOf a l) (take n nodes)) = omega (arith, types-length) in
       getD-any (map (slotOf a l) (take n nodes)) i [] (slotOf a l 0) room ∙ List·getD-map (slotOf a l) (take n nodes) i 0
       ∙ ap (λ (m : ℕ). slotOf a l m) (getD-take n nodes i 0 h)
+
+-- the first n of some slots are those that hold ts
+module _ (a l : List ℕ) (lo : ℕ) (nodes ms : List ℕ) (ts : List Ty) (n : ℕ) (e : take n nodes ≡ ms) (w : Helds a l lo ms ts) where
+  pub helds-in : typesIn a l nodes n ≡ ts
+  unfolding typesIn
+  helds-in = ap (λ (is : List ℕ). map (slotOf a l) is) e ∙ helds-types a l lo ms ts w
+
+  pub helds-slots : (node : ℕ) → node < lo → n ≤ 16 → n ≤ length nodes → Slots l node nodes n
+  helds-slots node h few there =
+      let f : length ms ≡ n = sym (ap (λ (is : List ℕ). length is) e) ∙ length-take-le n nodes there in
+      record {
+        fits = few;
+        there = there;
+        each = λ i g.
+            let d : getD nodes i 0 ≡ getD ms i 0 = sym (getD-take n nodes i 0 g) ∙ ap (λ (is : List ℕ). getD is i 0) e in
+            rw d (helds-slot a l node lo ms ts h w i (omega arith));
+      }

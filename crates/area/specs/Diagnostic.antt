@@ -1,5 +1,5 @@
--- Diagnostics, and what a lent buffer holds of them. Document 01, "Answer": diagnostics are records of 5 bytes in order: kind, 2-byte node,
--- 2-byte number; and, "Types as bytes": numbers are low byte first.
+-- Diagnostics, and what a lent buffer holds of them. Document 01, "Answer": diagnostics are records of 5 bytes in order, kind, 2-byte node, 2-byte number;
+-- "Types as bytes": numbers are low byte first.
 use Prim.Native.Nat.{ℕ, _+_, _*_, _/_, _%_}
 use mathlib.Core.List.{List, [], _∷_, _++_}
 use lib.Dec.{leb}

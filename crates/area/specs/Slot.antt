@@ -13,7 +13,7 @@ slotSize = 256
 abbrev pub slotCount : ℕ
 slotCount = 64
 
--- the area a and the lengths l that are lent
+-- the area a, of 64 slots of 256 bytes, and the lengths l that are lent
 pub record Lent (a l : List ℕ) : Type 0 where
   pub wide : length a ≡ 16384
   pub long : length l ≡ slotCount

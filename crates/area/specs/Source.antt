@@ -1,15 +1,18 @@
--- Where a node's type comes from. Document 01, "Clean rules" and "Leaves to root, and forms in the way": a rule's type is a plain kind, a child's
--- type, a part of it, a part of the table, or one of these behind a kind of its own; so a rule answers with a source, and the type is made where it is kept.
+-- Where a node's type comes from: what a rule answers, in place of the type itself. Document 01, "Leaves to root, and forms in the way": a type is a
+-- part of a byte slice. It is put together where it is kept, in the node's slot.
 use Prim.Native.Nat.{ℕ, _/_, _%_, _≤_, _<_}
 use mathlib.Core.List.{List, [], _∷_}
 use lib.ListN.{length, take, drop}
-use Rattle.ty.specs.Kind.{namedKind, pointerKind, listKind, functionKind}
+use Rattle.ty.specs.Kind.{pointerKind, listKind, namedKind, functionKind}
 use Rattle.ty.specs.Bytes.{Ty, plainTy, innerOf}
 use Rattle.area.specs.declared.Source.{Source}
 use Rattle.area.specs.declared.Source.the-variants.{Kind, ListOf, Name, First, Second, Inner, Pointer, Part, Function}
 use Rattle.area.specs.Slot.{Slot, slotOf, slotSize, slotCount}
 
--- the type that a source stands for, with a table, the first child's type x and the second's y
+-- The type that a source stands for, with the table's bytes, the first child's type x and the second's y:
+-- a kind without body; a List of one (a Map's `keys`); a Named (`To` gives a Pair, a variant its enum); the type of a child; what it holds ("Dereference
+-- answers with a part of the operand"); a Pointer to it (address-of); a type of the table (a result, a field); "a name found only as a function gives a
+-- Function type with no parameters".
 unfoldable pub typeFrom : List ℕ → Ty → Ty → Source → Ty
 typeFrom table x y (Kind k) = plainTy k
 typeFrom table x y (ListOf k) = listKind ∷ plainTy k

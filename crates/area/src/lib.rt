@@ -1,19 +1,19 @@
 // Where types and diagnostics are kept while a question is judged: an area of 64 slots of 256 bytes with their lengths, and a lent buffer.
 ghost use mathlib.Core.Path.{_≡_};
 ghost use mathlib.Core.List.{[], _∷_};
-ghost use Prim.Native.Nat.{_+_, _*_, _≤_, _<_};
+ghost use Prim.Native.Nat.{_+_, _-_, _*_, _/_, _%_, _≤_, _<_};
 ghost use lib.ListN.{length, replicate, take, drop, getD};
 ghost use lib.Seq.{sets};
-ghost use Rattle.ty.specs.Kind.{errorKind, pointerKind, namedKind, functionKind};
+ghost use Rattle.ty.specs.Kind.{errorKind, pointerKind, listKind, namedKind, functionKind};
 ghost use Rattle.ty.specs.Bytes.{plainTy, innerOf, sameBytes};
 ghost use Rattle.area.specs.Diagnostic.{putOne, countLimit};
 ghost use Rattle.area.specs.Padding.{padded};
-ghost use Rattle.area.specs.Slot.{Lent, Slot, Stored, slotOf};
+ghost use Rattle.area.specs.Slot.{Lent, Slot, Stored, slotOf, slotSize, slotCount};
 ghost use Rattle.area.specs.Source.{typeFrom, Storable};
 use ty::Kind;
 
-// Where a node's type comes from: a kind without body, a List of one, a name, a child's type, what the first child's type holds, a Pointer to it, a part of the
-// table, or a Function without parameters whose result is such a part.
+// Where a node's type comes from: a kind without body, a List of one, a name, a child's type, what the first child's type holds, a Pointer to it, a
+// part of the table, or a Function without parameters whose result is such a part.
 pub enum Source {
     Kind(u8),
     ListOf(u8),
@@ -83,4 +83,184 @@ pub fn is_error(s: &[u8]) -> bool
     ensures { λ r. ⌜ r ≡ sameBytes (now (s .entry)) (plainTy errorKind) ⌝ }
 {
     ty::same_bytes(s, &[Kind::ERROR])
+}
+
+// The bytes of a type with zeros behind it, as an answer has them.
+pub fn copy_out(t: &[u8]) -> [u8; 256]
+    requires { ⌜ length (now t) ≤ slotSize ⌝ }
+    ensures { λ r. ⌜ r ≡ padded slotSize (now (t .entry)) ⌝ }
+{
+    let mut bytes = [0u8; 256];
+    let mut i = 0;
+    while i < t.len() {
+        bytes[i] = t[i];
+        i += 1;
+    }
+    bytes
+}
+
+// The bytes of s go to a place of the area.
+fn copy_in(area: &mut [u8], to: usize, s: &[u8])
+    requires { ⌜ to + length (now s) ≤ length (now area) ⌝ }
+    ensures { λ _. ⌜ now (area .exit) ≡ sets (now (area .entry)) to (now (s .entry)) ⌝ }
+{
+    let mut i = 0;
+    while i < s.len() {
+        area[to + i] = s[i];
+        i += 1;
+    }
+}
+
+// Bytes of the area go to an earlier place. A child's slot is behind its parent's, so no other direction is needed.
+fn move_down(area: &mut [u8], from: usize, to: usize, n: usize)
+    requires { ⌜ (to ≤ from) × (from + n ≤ length (now area)) ⌝ }
+    ensures { λ _. ⌜ now (area .exit) ≡ sets (now (area .entry)) to (take n (drop from (now (area .entry)))) ⌝ }
+{
+    let mut i = 0;
+    while i < n {
+        area[to + i] = area[from + i];
+        i += 1;
+    }
+}
+
+// A type without body becomes the type of node.
+fn store_kind(area: &mut [u8], lens: &mut [usize], node: usize, kind: u8)
+    requires { ⌜ Lent (now area) (now lens) × (node < slotCount) ⌝ }
+    ensures { λ _. ⌜ Stored (now (area .entry)) (now (area .exit)) (now (lens .entry)) (now (lens .exit)) node (plainTy kind) ⌝ }
+{
+    area[256 * node] = kind;
+    lens[node] = 1;
+}
+
+// A List of a type without body becomes the type of node.
+fn store_list(area: &mut [u8], lens: &mut [usize], node: usize, kind: u8)
+    requires { ⌜ Lent (now area) (now lens) × (node < slotCount) ⌝ }
+    ensures { λ _. ⌜ Stored (now (area .entry)) (now (area .exit)) (now (lens .entry)) (now (lens .exit)) node (listKind ∷ plainTy kind) ⌝ }
+{
+    let p = 256 * node;
+    area[p] = Kind::LIST;
+    area[p + 1] = kind;
+    lens[node] = 2;
+}
+
+// A Named becomes the type of node.
+fn store_name(area: &mut [u8], lens: &mut [usize], node: usize, id: u16)
+    requires { ⌜ Lent (now area) (now lens) × (node < slotCount) ⌝ }
+    ensures { λ _. ⌜ Stored (now (area .entry)) (now (area .exit)) (now (lens .entry)) (now (lens .exit)) node (namedKind ∷ id % 256 ∷ id / 256 % 256 ∷ []) ⌝ }
+{
+    let p = 256 * node;
+    area[p] = Kind::NAMED;
+    area[p + 1] = (id % 256) as u8;
+    area[p + 2] = (id / 256 % 256) as u8;
+    lens[node] = 3;
+}
+
+// A part of some bytes, the table's or the question's, becomes the type of node.
+pub fn store_part(
+    area: &mut [u8],
+    lens: &mut [usize],
+    source: &[u8],
+    node: usize,
+    start: usize,
+    len: usize,
+)
+    requires { ⌜ Lent (now area) (now lens) × (node < slotCount) × (length (take len (drop start (now source))) ≤ slotSize) ⌝ }
+    ensures { λ _. ⌜ Stored (now (area .entry)) (now (area .exit)) (now (lens .entry)) (now (lens .exit)) node (take len (drop start (now (source .entry)))) ⌝ }
+{
+    let t = part(source, start, len);
+    copy_in(area, 256 * node, t);
+    lens[node] = t.len();
+}
+
+// A Function without parameters, whose result is a part of the table, becomes the type of node.
+fn store_function(
+    area: &mut [u8],
+    lens: &mut [usize],
+    table: &[u8],
+    node: usize,
+    start: usize,
+    len: usize,
+)
+    requires { ⌜ Lent (now area) (now lens) × (node < slotCount) × (length (take len (drop start (now table))) + 2 ≤ slotSize) ⌝ }
+    ensures { λ _. ⌜ Stored (now (area .entry)) (now (area .exit)) (now (lens .entry)) (now (lens .exit)) node (functionKind ∷ 0 ∷ take len (drop start (now (table .entry)))) ⌝ }
+{
+    let t = part(table, start, len);
+    let p = 256 * node;
+    area[p] = Kind::FUNCTION;
+    area[p + 1] = 0;
+    copy_in(area, p + 2, t);
+    lens[node] = t.len() + 2;
+}
+
+// The last n bytes of the type in slot m become the type of node.
+fn store_last(area: &mut [u8], lens: &mut [usize], node: usize, m: usize, n: usize)
+    requires { ⌜ Lent (now area) (now lens) × Slot (now lens) node m × (n ≤ getD (now lens) m 0) ⌝ }
+    ensures { λ _. ⌜ Stored (now (area .entry)) (now (area .exit)) (now (lens .entry)) (now (lens .exit)) node (drop (getD (now (lens .entry)) m 0 - n) (slotOf (now (area .entry)) (now (lens .entry)) m)) ⌝ }
+{
+    let skipped = lens[m] - n;
+    move_down(area, 256 * m + skipped, 256 * node, n);
+    lens[node] = n;
+}
+
+// The type in slot m becomes the type of node.
+fn store_same(area: &mut [u8], lens: &mut [usize], node: usize, m: usize)
+    requires { ⌜ Lent (now area) (now lens) × Slot (now lens) node m ⌝ }
+    ensures { λ _. ⌜ Stored (now (area .entry)) (now (area .exit)) (now (lens .entry)) (now (lens .exit)) node (slotOf (now (area .entry)) (now (lens .entry)) m) ⌝ }
+{
+    let n = lens[m];
+    store_last(area, lens, node, m, n);
+}
+
+// How long the type is that the type in slot m holds.
+fn inner_len(area: &[u8], lens: &[usize], m: usize) -> usize
+    ensures { λ r. ⌜ r ≡ length (innerOf (slotOf (now (area .entry)) (now (lens .entry)) m)) ⌝ }
+{
+    ty::inner(slot(area, lens, m)).len()
+}
+
+// What the type in slot m holds becomes the type of node.
+fn store_inner(area: &mut [u8], lens: &mut [usize], node: usize, m: usize)
+    requires { ⌜ Lent (now area) (now lens) × Slot (now lens) node m ⌝ }
+    ensures { λ _. ⌜ Stored (now (area .entry)) (now (area .exit)) (now (lens .entry)) (now (lens .exit)) node (innerOf (slotOf (now (area .entry)) (now (lens .entry)) m)) ⌝ }
+{
+    let n = inner_len(area, lens, m);
+    store_last(area, lens, node, m, n);
+}
+
+// A Pointer to the type in slot m becomes the type of node.
+fn store_pointer(area: &mut [u8], lens: &mut [usize], node: usize, m: usize)
+    requires { ⌜ Lent (now area) (now lens) × Slot (now lens) node m × (getD (now lens) m 0 < slotSize) ⌝ }
+    ensures { λ _. ⌜ Stored (now (area .entry)) (now (area .exit)) (now (lens .entry)) (now (lens .exit)) node (pointerKind ∷ slotOf (now (area .entry)) (now (lens .entry)) m) ⌝ }
+{
+    let n = lens[m];
+    let p = 256 * node;
+    area[p] = Kind::POINTER;
+    move_down(area, 256 * m, p + 1, n);
+    lens[node] = n + 1;
+}
+
+// The type that a source stands for becomes the type of node; first and second are its children's slots.
+pub fn store(
+    area: &mut [u8],
+    lens: &mut [usize],
+    table: &[u8],
+    node: usize,
+    first: usize,
+    second: usize,
+    source: Source,
+)
+    requires { ⌜ Lent (now area) (now lens) × Storable (now table) (now area) (now lens) node first second source ⌝ }
+    ensures { λ _. ⌜ Stored (now (area .entry)) (now (area .exit)) (now (lens .entry)) (now (lens .exit)) node (typeFrom (now (table .entry)) (slotOf (now (area .entry)) (now (lens .entry)) first) (slotOf (now (area .entry)) (now (lens .entry)) second) source) ⌝ }
+{
+    match source {
+        Source::Kind(kind) => store_kind(area, lens, node, kind),
+        Source::ListOf(kind) => store_list(area, lens, node, kind),
+        Source::Name(id) => store_name(area, lens, node, id),
+        Source::First => store_same(area, lens, node, first),
+        Source::Second => store_same(area, lens, node, second),
+        Source::Inner => store_inner(area, lens, node, first),
+        Source::Pointer => store_pointer(area, lens, node, first),
+        Source::Part { start, len } => store_part(area, lens, table, node, start, len),
+        Source::Function { start, len } => store_function(area, lens, table, node, start, len),
+    }
 }

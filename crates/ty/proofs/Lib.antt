@@ -6,4 +6,5 @@ pub mod Sized
 pub mod Bodies
 pub mod Moved
 pub mod Held
+pub mod Ends
 pub mod Examples

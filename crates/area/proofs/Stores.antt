@@ -1,0 +1,156 @@
+-- What the copy loops and the stores leave. Assumes nothing.
+use Prim.Native.Nat.{ℕ, suc, _+_, _-_, _*_, _≤_, _<_}
+use lib.ListN.{length, getD, take, drop, set, replicate, length-drop}
+use lib.Seq.{sets, drop-set-lt, drop-drop, take-all, set-at, append-snoc, take-suc, length-take-le}
+use mathlib.Core.List.{List, [], _∷_, _++_}
+use mathlib.Core.Path.{_≡_, refl, sym, ap, _∙_}
+use native.Mathlib.Numerals.{add-one, towards-suc}
+use native.Mathlib.Omega.{arith}
+use Rattle.area.proofs.Lists.{part-length, part-next, sets-snoc, sets-behind, drop-take}
+use Rattle.area.proofs.Slots.{slot-in, slot-length, stored-as}
+use Rattle.area.specs.Padding.{padded}
+use Rattle.area.specs.Slot.{Lent, Slot, Stored, store, storeLen, slotOf}
+use Rattle.ty.proofs.Ends.{inner-last}
+use Rattle.ty.specs.Bytes.{Ty, innerOf}
+
+-- ---- the copy loops: i bytes of s from `at` on have been stored at p
+unfoldable pub filled : List ℕ → ℕ → List ℕ → ℕ → ℕ → List ℕ
+filled a p s at i = sets a p (take i (drop at s))
+
+pub fill-zero : (a : List ℕ) (p : ℕ) (s : List ℕ) (at : ℕ) → a ≡ filled a p s at 0
+unfolding filled
+fill-zero a p s at = refl
+
+pub fill-next : (a₀ : List ℕ) (p : ℕ) (s : List ℕ) (at i : ℕ) (a : List ℕ) (v : ℕ) → at + i < length s → a ≡ filled a₀ p s at i → v ≡ getD s (at + i) 0
+    → set a (p + i) v ≡ filled a₀ p s at (i + 1)
+unfolding filled
+fill-next a₀ p s at i a v h is e =
+    let vs : List ℕ = take i (drop at s) in
+    ap (λ (l : List ℕ). set l (p + i) v) is
+    ∙ ap (λ (k : ℕ). set (sets a₀ p vs) (p + k) v) (sym (part-length s at i (omega arith)))
+    ∙ sets-snoc vs a₀ p v
+    ∙ ap (λ (w : ℕ). sets a₀ p (vs ++ (w ∷ []))) e
+    ∙ ap (λ (ws : List ℕ). sets a₀ p ws) (sym (part-next s at i h))
+
+-- what is still to be read has not been written
+pub fill-past : (a₀ : List ℕ) (p at i j : ℕ) (a : List ℕ) → at + i ≤ length a₀ → p + i ≤ j → a ≡ filled a₀ p a₀ at i → getD a j 0 ≡ getD a₀ j 0
+unfolding filled
+fill-past a₀ p at i j a h g is =
+    ap (λ (l : List ℕ). getD l j 0) is ∙ sets-behind (take i (drop at a₀)) a₀ p j (omega (arith, part-length a₀ at i h))
+
+pub fill-done : (a₀ : List ℕ) (p : ℕ) (s : List ℕ) (at i n : ℕ) (a : List ℕ) → i ≡ n → a ≡ filled a₀ p s at i → a ≡ sets a₀ p (take n (drop at s))
+unfolding filled
+fill-done a₀ p s at i n a e is = is ∙ ap (λ (k : ℕ). sets a₀ p (take k (drop at s))) e
+
+-- all of s, from its start
+pub fill-byte : (a₀ : List ℕ) (p : ℕ) (s : List ℕ) (i : ℕ) (a : List ℕ) → i < length s → a ≡ filled a₀ p s 0 i → set a (p + i) (getD s i 0) ≡ filled a₀ p s 0 (i + 1)
+fill-byte a₀ p s i a h is =
+    let e : i ≡ 0 + i = omega arith in
+    fill-next a₀ p s 0 i a (getD s i 0) (omega arith) is (ap (λ (k : ℕ). getD s k 0) e)
+
+pub fill-all : (a₀ : List ℕ) (p : ℕ) (s : List ℕ) (i : ℕ) (a : List ℕ) → length s ≤ i → a ≡ filled a₀ p s 0 i → a ≡ sets a₀ p s
+unfolding filled
+fill-all a₀ p s i a h is = is ∙ ap (λ (ws : List ℕ). sets a₀ p ws) (take-all i s h)
+
+-- ---- `copy_out`: i bytes of t are in front of zeros
+unfoldable pub fronted : List ℕ → ℕ → List ℕ
+fronted t i = take i t ++ replicate (256 - i) 0
+
+pub front-zero : (t : List ℕ) → replicate 256 0 ≡ fronted t 0
+unfolding fronted
+front-zero t = refl
+
+pub front-next : (t : List ℕ) (i : ℕ) (x : List ℕ) → x ≡ fronted t i → i < 256 → i < length t → set x i (getD t i 0) ≡ fronted t (i + 1)
+unfolding fronted
+front-next t i x is h room =
+    let v : ℕ = getD t i 0 in
+    let z : 256 - i ≡ suc (256 - (i + 1)) = omega arith in
+    rw is
+    (ap (λ (k : ℕ). set (take i t ++ replicate k 0) i v) z
+    ∙ set-at (take i t) 0 (replicate (256 - (i + 1)) 0) v i (length-take-le i t (omega arith))
+    ∙ sym (append-snoc (take i t) v (replicate (256 - (i + 1)) 0))
+    ∙ ap (λ (l : List ℕ). l ++ replicate (256 - (i + 1)) 0) (sym (take-suc t i 0 room) ∙ ap (λ (k : ℕ). take k t) (sym (add-one i))))
+
+pub front-done : (t : List ℕ) (i : ℕ) (x : List ℕ) → x ≡ fronted t i → i ≡ length t → x ≡ padded 256 t
+unfolding fronted padded
+front-done t i x is e =
+    is ∙ ap (λ (k : ℕ). take k t ++ replicate (256 - k) 0) e ∙ ap (λ (l : List ℕ). l ++ replicate (256 - length t) 0) (take-all (length t) t (omega arith))
+
+-- ---- the stores
+pub stored-bytes : (a a′ l : List ℕ) (node : ℕ) (t : Ty) (n : ℕ) → a′ ≡ sets a (256 * node) t → n ≡ length t → Stored a a′ l (set l node n) node t
+unfolding store storeLen
+stored-bytes a a′ l node t n e f = record { area = e; lens = ap (λ (k : ℕ). set l node k) f }
+
+-- some bytes u that are t
+pub stored-part : (a a′ l : List ℕ) (node : ℕ) (t u : Ty) → u ≡ t → a′ ≡ sets a (256 * node) u → Stored a a′ l (set l node (length u)) node t
+stored-part a a′ l node t u s e =
+    stored-bytes a a′ l node t (length u) (e ∙ ap (λ (w : List ℕ). sets a (256 * node) w) s) (ap (λ (w : List ℕ). length w) s)
+
+-- a slot has room for them
+pub slot-room : (a l : List ℕ) (node k : ℕ) (t u : Ty) → Lent a l → node < 64 → u ≡ t → length t + k ≤ 256 → (256 * node + k) + length u ≤ length a
+slot-room a l node k t u lent h s short =
+    let e : length u ≡ length t = ap (λ (w : List ℕ). length w) s in
+    omega (arith, lent .wide)
+
+pub stored-kind : (a l : List ℕ) (node k : ℕ) → Stored a (set a (256 * node) k) l (set l node 1) node (k ∷ [])
+stored-kind a l node k = stored-bytes a _ l node (k ∷ []) 1 refl refl
+
+pub stored-two : (a l : List ℕ) (node x y : ℕ) → Stored a (set (set a (256 * node) x) (256 * node + 1) y) l (set l node 2) node (x ∷ y ∷ [])
+stored-two a l node x y = stored-bytes a _ l node (x ∷ y ∷ []) 2 (simp towards-suc) refl
+
+pub stored-three : (a l : List ℕ) (node x y z : ℕ)
+    → Stored a (set (set (set a (256 * node) x) (256 * node + 1) y) (256 * node + 2) z) l (set l node 3) node (x ∷ y ∷ z ∷ [])
+stored-three a l node x y z = stored-bytes a _ l node (x ∷ y ∷ z ∷ []) 3 (simp towards-suc) refl
+
+-- two bytes in front of some
+pub stored-behind : (a a′ l : List ℕ) (node x y : ℕ) (t u : Ty) (n : ℕ) → u ≡ t → a′ ≡ sets (set (set a (256 * node) x) (256 * node + 1) y) (256 * node + 2) u → n ≡ length u + 2
+    → Stored a a′ l (set l node n) node (x ∷ y ∷ t)
+stored-behind a a′ l node x y t u n s e f =
+    let g : length u ≡ length t = ap (λ (w : List ℕ). length w) s in
+    stored-bytes a a′ l node (x ∷ y ∷ t) n
+    (e ∙ ap (λ (w : List ℕ). sets (set (set a (256 * node) x) (256 * node + 1) y) (256 * node + 2) w) s ∙ simp towards-suc)
+    (omega arith)
+
+-- what a type holds is no longer than it
+pub inner-short : (s : Ty) → length (innerOf s) ≤ length s
+inner-short s =
+    let e : length (innerOf s) ≡ length (drop (length s - length (innerOf s)) s) = ap (λ (t : Ty). length t) (inner-last s) in
+    omega (arith, length-drop (length s - length (innerOf s)) s)
+
+module _ (a l : List ℕ) (lent : Lent a l) (node m : ℕ) (s : Slot l node m) where
+  pub stored-last : (n : ℕ) (a′ : List ℕ) → n ≤ getD l m 0 → a′ ≡ sets a (256 * node) (take n (drop (256 * m + (getD l m 0 - n)) a))
+      → Stored a a′ l (set l node n) node (drop (getD l m 0 - n) (slotOf a l m))
+  unfolding slotOf
+  stored-last n a′ h e =
+      let k : ℕ = getD l m 0 in
+      let t : List ℕ = take n (drop (256 * m + (k - n)) a) in
+      let f : k - (k - n) ≡ n = omega arith in
+      let g : drop (k - n) (take k (drop (256 * m) a)) ≡ t
+      = drop-take (k - n) k (drop (256 * m) a) ∙ ap (λ (i : ℕ). take i (drop (k - n) (drop (256 * m) a))) f
+      ∙ ap (λ (w : List ℕ). take n w) (drop-drop (k - n) (256 * m) a) in
+      stored-as g (stored-bytes a a′ l node t n e (sym (part-length a (256 * m + (k - n)) n (omega (arith, slot-in a l lent node m s)))))
+
+  pub stored-same : (a′ l′ : List ℕ) → Stored a a′ l l′ node (drop (getD l m 0 - getD l m 0) (slotOf a l m)) → Stored a a′ l l′ node (slotOf a l m)
+  stored-same a′ l′ w = let e : 0 ≡ getD l m 0 - getD l m 0 = omega arith in stored-as (ap (λ (k : ℕ). drop k (slotOf a l m)) e) w
+
+  pub stored-inner : (a′ l′ : List ℕ) (n : ℕ) → n ≡ length (innerOf (slotOf a l m)) → Stored a a′ l l′ node (drop (getD l m 0 - n) (slotOf a l m)) → Stored a a′ l l′ node (innerOf (slotOf a l m))
+  stored-inner a′ l′ n e w =
+      let t : List ℕ = slotOf a l m in
+      let f : length t - length (innerOf t) ≡ getD l m 0 - n = omega (arith, slot-length a l lent node m s) in
+      stored-as (inner-last t ∙ ap (λ (k : ℕ). drop k t) f) w
+
+  pub inner-fits : (n : ℕ) → n ≡ length (innerOf (slotOf a l m)) → n ≤ getD l m 0
+  inner-fits n e = omega (arith, inner-short (slotOf a l m), slot-length a l lent node m s)
+
+  -- a byte in front of what lies in the slot
+  pub stored-prefixed : (b : ℕ) (a′ : List ℕ) (n : ℕ) → n ≡ getD l m 0 + 1
+      → a′ ≡ sets (set a (256 * node) b) (256 * node + 1) (take (getD l m 0) (drop (256 * m) (set a (256 * node) b)))
+      → Stored a a′ l (set l node n) node (b ∷ slotOf a l m)
+  unfolding slotOf
+  stored-prefixed b a′ n f e =
+      let p : ℕ = 256 * node in
+      let k : ℕ = getD l m 0 in
+      stored-bytes a a′ l node (b ∷ take k (drop (256 * m) a)) n
+      (e ∙ ap (λ (ws : List ℕ). sets (set a p b) (p + 1) (take k ws)) (drop-set-lt (256 * m) a p b (omega (arith, s .past)))
+      ∙ ap (λ (i : ℕ). sets (set a p b) i (take k (drop (256 * m) a))) (add-one p))
+      (omega (arith, part-length a (256 * m) k (slot-in a l lent node m s)))
