@@ -1,0 +1,5 @@
+pub mod Lists
+pub mod Writing
+pub mod Parts
+pub mod Samples
+pub mod Sizes

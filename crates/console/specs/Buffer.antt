@@ -1,0 +1,15 @@
+-- Text in a lent buffer.
+use Prim.Native.Nat.{ℕ, _+_, _-_, min}
+use mathlib.Core.Path.{_≡_}
+use mathlib.Core.List.{List, _++_}
+use lib.ListN.{length, take, replicate}
+use lib.Seq.{sets}
+
+-- a buffer of n bytes that holds a text: as much of the text as fits, and zeros behind it
+unfoldable pub holding : ℕ → List ℕ → List ℕ
+holding n text = take n text ++ replicate (n - length text) 0
+
+-- what fits of a text was written into b from `at` on, and the rest of b left as it was: now it is b′, and the next place is r
+pub record Wrote (b b′ : List ℕ) (at r : ℕ) (text : List ℕ) : Type 0 where
+  pub bytes : b′ ≡ sets b at text
+  pub next : r ≡ at + min (length text) (length b - at)
