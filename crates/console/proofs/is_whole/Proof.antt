@@ -11,7 +11,7 @@ add-result c = search needs
 
 returns : tie.Need-returns
 unfolding isWhole
-returns c = rw ((c .table-length .ensures .0))
+returns c = rw (c .table-length .ensures .0)
 
 pub is-whole-spec : {M : Type 1} → statement M
 is-whole-spec = tie.close (tie.spec table-length-requires add-result returns)

@@ -24,16 +24,16 @@ part-result-start : tie.Need-part-result-start
 part-result-start c = search needs
 
 part-result-end : tie.Need-part-result-end
-part-result-end c = let h = whole-room ((c .before .before .before .before .args .input .now)) (sym ((c .before .before .is-whole .ensures)) ∙ (c .before .if1 .taken)) in let k : 2 + c .table-length .result ≤ length (c .before .before .before .before .args .input .now) = omega (arith, c .table-length .ensures .0) in search needs
+part-result-end c = let h = whole-room (c .before .before .before .before .args .input .now) (sym (c .before .before .is-whole .ensures) ∙ (c .before .if1 .taken)) in let k : 2 + c .table-length .result ≤ length (c .before .before .before .before .args .input .now) = omega (arith, c .table-length .ensures .0) in search needs
 
 returns : tie.Need-returns
-returns c = table-some ((c .before .before .before .before .before .args .input .now)) _ (sym ((c .before .before .before .is-whole .ensures)) ∙ (c .before .before .if1 .taken)) ((c .before .table-length .ensures .0))
+returns c = table-some (c .before .before .before .before .before .args .input .now) _ (sym (c .before .before .before .is-whole .ensures) ∙ (c .before .before .if1 .taken)) (c .before .table-length .ensures .0)
 
 slice-aggregate-result : tie.Need-slice-aggregate-result
 slice-aggregate-result c = search needs
 
 returns-2 : tie.Need-returns-2
-returns-2 c = table-none ((c .before .before .before .before .args .input .now)) (sym ((c .before .before .is-whole .ensures)) ∙ (c .before .if1 .left))
+returns-2 c = table-none (c .before .before .before .before .args .input .now) (sym (c .before .before .is-whole .ensures) ∙ (c .before .if1 .left))
 
 pub table-part-spec : {M : Type 1} → statement M
 table-part-spec =

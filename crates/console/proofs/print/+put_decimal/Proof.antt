@@ -36,7 +36,7 @@ module _ (t : ℕ) where
   same-length c = search needs
 
   returns : lts.Need-returns (told t) (at t) own.Post
-  returns c = wrote-one ((c .before .before .before .before .before .before .before .args .n)) ((c .before .before .before .before .before .if1 .taken)) ((c .before .before .before .before .last-digit .ensures)) ((c .before .before .put-byte .ensures))
+  returns c = wrote-one (c .before .before .before .before .before .before .before .args .n) (c .before .before .before .before .before .if1 .taken) (c .before .before .before .before .last-digit .ensures) (c .before .before .put-byte .ensures)
 
   put-decimal-requires : lts.Need-put-decimal-requires (told t) (at t) own.Post
   put-decimal-requires c κs = (omega arith, tt)
@@ -51,7 +51,7 @@ module _ (t : ℕ) where
   same-length-2 c = search needs
 
   returns-2 : lts.Need-returns-2 (told t) (at t) own.Post
-  returns-2 c = wrote-more ((c .before .before .before .before .before .before .before .before .before .before .before .args .n)) ((c .before .before .before .before .before .before .before .before .before .if1 .left)) ((c .before .before .before .before .before .before .before .put-decimal .ensures)) ((c .before .before .before .before .last-digit2 .ensures)) ((c .before .before .put-byte2 .ensures))
+  returns-2 c = wrote-more (c .before .before .before .before .before .before .before .before .before .before .before .args .n) (c .before .before .before .before .before .before .before .before .before .if1 .left) (c .before .before .before .before .before .before .before .put-decimal .ensures) (c .before .before .before .before .last-digit2 .ensures) (c .before .before .put-byte2 .ensures)
 
 pub +put-decimal-spec : {M : Type 1} → statement M
 +put-decimal-spec = close μ λ t. lts.spec (told t) (at t) own.Post

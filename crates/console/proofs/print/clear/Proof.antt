@@ -27,13 +27,13 @@ loop-less : tie.Need-loop-less Inv-loop μ-loop
 loop-less c = omega arith
 
 loop-again : tie.Need-loop-again Inv-loop μ-loop
-loop-again c = (omega arith, search needs, zeros-next _ ((c .before .before .args .out .now)) ((c .before .loop .i)) (omega arith) ((c .before .loop .inv .2)))
+loop-again c = (omega arith, search needs, zeros-next _ (c .before .before .args .out .now) (c .before .loop .i) (omega arith) (c .before .loop .inv .2))
 
 same-length : tie.Need-same-length Inv-loop μ-loop
 same-length c = search needs
 
 returns : tie.Need-returns Inv-loop μ-loop
-returns c = zeros-done _ ((c .before .before .args .out .now)) ((c .before .loop .i)) (omega arith) (omega arith) ((c .before .loop .inv .2))
+returns c = zeros-done _ (c .before .before .args .out .now) (c .before .loop .i) (omega arith) (omega arith) (c .before .loop .inv .2)
 
 pub clear-spec : {M : Type 1} → statement M
 clear-spec =

@@ -13,7 +13,7 @@ same-length : tie.Need-same-length
 same-length c = search needs
 
 returns : tie.Need-returns
-returns c = wrote-field ((c .before .before .before .before .before .before .before .before .before .args .n)) ((c .before .before .before .before .before .before .put-decimal .ensures)) ((c .before .before .put-byte .ensures))
+returns c = wrote-field (c .before .before .before .before .before .before .before .before .before .args .n) (c .before .before .before .before .before .before .put-decimal .ensures) (c .before .before .put-byte .ensures)
 
 pub put-field-spec : {M : Type 1} → statement M
 put-field-spec = tie.close (tie.spec put-decimal-requires put-byte-requires same-length returns)

@@ -27,7 +27,7 @@ same-length c = search needs
 
 returns : tie.Need-returns
 unfolding firstLine
-returns c = wrote-then ((c .before .before .before .before .before .before .before .before .before .before .before .before .before .before .before .before .before .before .before .before .before .before .put-field .ensures)) (wrote-then ((c .before .before .before .before .before .before .before .before .before .before .before .before .before .before .before .before .before .before .put-field2 .ensures)) (wrote-then ((c .before .before .before .before .before .before .before .before .before .before .before .before .before .before .put-field3 .ensures)) (wrote-then ((c .before .before .before .before .before .before .before .before .before .before .put-type .ensures)) (wrote-then ((c .before .before .before .before .before .before .put-byte .ensures)) ((c .before .before .put-field4 .ensures))))))
+returns c = wrote-then (c .before .before .before .before .before .before .before .before .before .before .before .before .before .before .before .before .before .before .before .before .before .before .put-field .ensures) (wrote-then (c .before .before .before .before .before .before .before .before .before .before .before .before .before .before .before .before .before .before .put-field2 .ensures) (wrote-then (c .before .before .before .before .before .before .before .before .before .before .before .before .before .before .put-field3 .ensures) (wrote-then (c .before .before .before .before .before .before .before .before .before .before .put-type .ensures) (wrote-then (c .before .before .before .before .before .before .put-byte .ensures) (c .before .before .put-field4 .ensures)))))
 
 pub put-first-line-spec : {M : Type 1} → statement M
 put-first-line-spec =

@@ -19,7 +19,7 @@ same-length : tie.Need-same-length
 same-length c = search needs
 
 returns : tie.Need-returns
-returns c = wrote-hex ((c .before .before .before .before .before .before .before .before .before .before .before .args .b)) ((c .before .before .before .before .before .before .before .before .before .hex-digit .ensures)) ((c .before .before .before .before .before .before .before .put-byte .ensures)) ((c .before .before .before .before .hex-digit2 .ensures)) ((c .before .before .put-byte2 .ensures))
+returns c = wrote-hex (c .before .before .before .before .before .before .before .before .before .before .before .args .b) (c .before .before .before .before .before .before .before .before .before .hex-digit .ensures) (c .before .before .before .before .before .before .before .put-byte .ensures) (c .before .before .before .before .hex-digit2 .ensures) (c .before .before .put-byte2 .ensures)
 
 pub put-hex-spec : {M : Type 1} → statement M
 put-hex-spec =

@@ -15,7 +15,7 @@ abbrev μ-loop : tie.MeasureT-loop
 μ-loop s out₀ at next₀ i₀ out next i = length s - i
 
 loop-holds : tie.Need-loop-holds Inv-loop μ-loop
-loop-holds c = (omega arith, hex-none ((c .before .before .args .s .now)) ((c .before .before .args .out .now)) ((c .before .before .args .at)))
+loop-holds c = (omega arith, hex-none (c .before .before .args .s .now) (c .before .before .args .out .now) (c .before .before .args .at))
 
 shared-slice-read-put-hex : tie.Need-shared-slice-read-put-hex Inv-loop μ-loop
 shared-slice-read-put-hex c = search needs
@@ -30,13 +30,13 @@ loop-less : tie.Need-loop-less Inv-loop μ-loop
 loop-less c = search needs
 
 loop-again : tie.Need-loop-again Inv-loop μ-loop
-loop-again c = (omega arith, hex-turn ((c .before .before .before .before .before .before .before .before .before .args .s .now)) ((c .before .before .before .before .before .before .loop .i)) ((c .before .before .before .before .before .loop-test .taken)) ((c .before .before .before .before .before .before .loop .inv .1)) ((c .before .before .put-hex .ensures)))
+loop-again c = (omega arith, hex-turn (c .before .before .before .before .before .before .before .before .before .args .s .now) (c .before .before .before .before .before .before .loop .i) (c .before .before .before .before .before .loop-test .taken) (c .before .before .before .before .before .before .loop .inv .1) (c .before .before .put-hex .ensures))
 
 same-length : tie.Need-same-length Inv-loop μ-loop
-same-length c = wrote-length ((c .before .loop .inv .1))
+same-length c = wrote-length (c .before .loop .inv .1)
 
 returns : tie.Need-returns Inv-loop μ-loop
-returns c = hex-done ((c .before .before .before .before .args .s .now)) ((c .before .loop .i)) (omega arith) ((c .before .loop .inv .1))
+returns c = hex-done (c .before .before .before .before .args .s .now) (c .before .loop .i) (omega arith) (c .before .loop .inv .1)
 
 pub put-hex-bytes-spec : {M : Type 1} → statement M
 put-hex-bytes-spec =

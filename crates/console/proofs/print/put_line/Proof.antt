@@ -34,7 +34,7 @@ same-length : tie.Need-same-length
 same-length c = search needs
 
 returns : tie.Need-returns
-returns c = wrote-line ((c .before .before .before .before .before .before .before .before .before .before .before .before .before .before .before .before .before .args .diagnostics .now)) ((c .before .before .before .before .before .before .before .before .before .before .before .before .before .before .before .before .before .args .p)) _ _ _ ((c .before .before .before .before .before .before .before .before .before .before .before .before .before .before .byte-at .ensures)) ((c .before .before .before .before .before .before .before .before .before .before .before .before .put-field .ensures)) ((c .before .before .before .before .before .before .before .before .before .number-at .ensures)) ((c .before .before .before .before .before .before .before .put-field2 .ensures)) ((c .before .before .before .before .number-at2 .ensures)) ((c .before .before .put-field3 .ensures))
+returns c = wrote-line (c .before .before .before .before .before .before .before .before .before .before .before .before .before .before .before .before .before .args .diagnostics .now) (c .before .before .before .before .before .before .before .before .before .before .before .before .before .before .before .before .before .args .p) _ _ _ (c .before .before .before .before .before .before .before .before .before .before .before .before .before .before .byte-at .ensures) (c .before .before .before .before .before .before .before .before .before .before .before .before .put-field .ensures) (c .before .before .before .before .before .before .before .before .before .number-at .ensures) (c .before .before .before .before .before .before .before .put-field2 .ensures) (c .before .before .before .before .number-at2 .ensures) (c .before .before .put-field3 .ensures)
 
 pub put-line-spec : {M : Type 1} → statement M
 put-line-spec =

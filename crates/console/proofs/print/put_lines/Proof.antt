@@ -14,7 +14,7 @@ abbrev μ-loop : tie.MeasureT-loop
 μ-loop diagnostics n out₀ at next₀ i₀ out next i = n - i
 
 loop-holds : tie.Need-loop-holds Inv-loop μ-loop
-loop-holds c = (omega arith, lines-none ((c .before .before .args .diagnostics .now)) ((c .before .before .args .out .now)) ((c .before .before .args .at)))
+loop-holds c = (omega arith, lines-none (c .before .before .args .diagnostics .now) (c .before .before .args .out .now) (c .before .before .args .at))
 
 mul-put-line : tie.Need-mul-put-line Inv-loop μ-loop
 mul-put-line c = search needs
@@ -29,13 +29,13 @@ loop-less : tie.Need-loop-less Inv-loop μ-loop
 loop-less c = search needs
 
 loop-again : tie.Need-loop-again Inv-loop μ-loop
-loop-again c = (omega arith, lines-turn ((c .before .before .before .before .before .before .before .before .args .diagnostics .now)) ((c .before .before .before .before .before .loop .i)) ((c .before .before .before .before .before .loop .inv .1)) ((c .before .before .put-line .ensures)))
+loop-again c = (omega arith, lines-turn (c .before .before .before .before .before .before .before .before .args .diagnostics .now) (c .before .before .before .before .before .loop .i) (c .before .before .before .before .before .loop .inv .1) (c .before .before .put-line .ensures))
 
 same-length : tie.Need-same-length Inv-loop μ-loop
-same-length c = wrote-length ((c .before .loop .inv .1))
+same-length c = wrote-length (c .before .loop .inv .1)
 
 returns : tie.Need-returns Inv-loop μ-loop
-returns c = lines-done ((c .before .before .before .before .args .diagnostics .now)) ((c .before .loop .i)) ((c .before .before .before .before .args .n)) (omega arith) ((c .before .loop .inv .1))
+returns c = lines-done (c .before .before .before .before .args .diagnostics .now) (c .before .loop .i) (c .before .before .before .before .args .n) (omega arith) (c .before .loop .inv .1)
 
 pub put-lines-spec : {M : Type 1} → statement M
 put-lines-spec =

@@ -10,7 +10,7 @@ same-length : tie.Need-same-length
 same-length c = search needs
 
 returns : tie.Need-returns
-returns c = type-none ((c .before .before .before .before .before .before .before .args .ty .now)) ((c .before .before .before .before .if1 .taken)) ((c .before .before .put-byte .ensures))
+returns c = type-none (c .before .before .before .before .before .before .before .args .ty .now) (c .before .before .before .before .if1 .taken) (c .before .before .put-byte .ensures)
 
 put-hex-bytes-requires : tie.Need-put-hex-bytes-requires
 put-hex-bytes-requires c κs = search needs
@@ -19,7 +19,7 @@ same-length-2 : tie.Need-same-length-2
 same-length-2 c = search needs
 
 returns-2 : tie.Need-returns-2
-returns-2 c = type-some ((c .before .before .before .before .before .before .before .args .ty .now)) ((c .before .before .before .before .if1 .left)) ((c .before .before .put-hex-bytes .ensures))
+returns-2 c = type-some (c .before .before .before .before .before .before .before .args .ty .now) (c .before .before .before .before .if1 .left) (c .before .before .put-hex-bytes .ensures)
 
 pub put-type-spec : {M : Type 1} → statement M
 put-type-spec =
