@@ -1,12 +1,11 @@
 -- Reading one type from the front of some bytes. Document 01, "Types as bytes" and, of what has no end, "Refused, and by whose doing".
 use Prim.Native.Nat.{ℕ, zero, suc, _+_, _-_, min, max}
-use mathlib.Core.Bool.{Bool, true, false, not, _&&_, _||_}
+use mathlib.Core.Bool.{Bool, false, not, _&&_, _||_}
 use mathlib.Core.List.{List}
 use lib.ListN.{length, getD}
 use lib.Dec.{ltb, leb, eqb}
 use Rattle.ty.specs.Choose.{choose}
 use Rattle.ty.specs.Kind.{nullableKind, arrayKind, listKind, mapKind, namedKind, functionKind, typeVarKind, moduleKind, errorKind}
-use Rattle.ty.specs.Name.{idDefined}
 use Rattle.ty.specs.Bytes.{idAt}
 use Rattle.ty.specs.declared.read.TypeRead.{TypeRead}
 use Rattle.ty.specs.declared.read.TypeRead.the-variants.{Whole, Cut, Malformed, Endless}
