@@ -84,7 +84,8 @@ fn judge(table: &[u8], question: &[u8], buffer: &mut [u8], ask_domain: bool) -> 
     (finish(&judged, &diagnostics, &filled.names, buffer), inside)
 }
 
-fn finish(judged: &Judged, diagnostics: &[Diagnostic], names: &[String], buffer: &mut [u8]) -> Answer {
+/// The answer to a run, under a lent buffer that is zero.
+pub fn finish(judged: &Judged, diagnostics: &[Diagnostic], names: &[String], buffer: &mut [u8]) -> Answer {
     let bytes = type_bytes(&judged.ty, names);
     if bytes.len() > 256 {
         return Answer::refused(13);
@@ -103,7 +104,7 @@ fn finish(judged: &Judged, diagnostics: &[Diagnostic], names: &[String], buffer:
 
 /// The Rust is the yardstick where no base of a visited member or method call that isn't Named has
 /// a `name()` that spells an owner of the table.
-fn inside(table: &[u8], names: &[String], asked: &Asked, judged: &Judged) -> bool {
+pub fn inside(table: &[u8], names: &[String], asked: &Asked, judged: &Judged) -> bool {
     // The object of a member or method call is the node behind it.
     let is_object = |node: usize| node > 0 && matches!(asked.kinds[node - 1], 4 | 6);
     let bases = judged.finished.iter().filter(|(node, _)| is_object(*node)).map(|(_, ty)| ty.non_null());

@@ -3,6 +3,7 @@
 
 pub mod answer;
 pub mod bytes;
+pub mod coverage;
 pub mod diagnostic;
 pub mod examples;
 pub mod gen;
@@ -14,6 +15,7 @@ mod stubs;
 pub mod sample;
 pub mod table;
 pub mod types;
+pub mod words;
 
 pub use answer::{answer, answer_and_domain, in_domain, print_answer, printed, program, split_input, Answer};
 pub use question::question_number;

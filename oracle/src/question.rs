@@ -97,6 +97,8 @@ pub struct Asked {
     pub positions: Vec<u16>,
     /// Per node its kind.
     pub kinds: Vec<u8>,
+    /// Per node its operator byte, or 0.
+    pub operators: Vec<u8>,
 }
 
 struct Builder<'a> {
@@ -105,6 +107,7 @@ struct Builder<'a> {
     at: usize,
     positions: Vec<u16>,
     kinds: Vec<u8>,
+    operators: Vec<u8>,
 }
 
 impl Builder<'_> {
@@ -122,6 +125,7 @@ impl Builder<'_> {
         let kind = self.bytes[start];
         self.positions.push(position);
         self.kinds.push(kind);
+        self.operators.push(if matches!(kind, 1 | 2) { self.bytes[start + 1] } else { 0 });
         match kind {
             0 => {
                 let (ty, len) = decode(&self.bytes[start + 1..], self.names);
@@ -176,7 +180,14 @@ pub fn build(question: &[u8], names: &[String]) -> Asked {
             Some(names[id as usize].clone())
         }
     };
-    let mut builder = Builder { bytes: question, names, at: 5, positions: Vec::new(), kinds: Vec::new() };
+    let mut builder = Builder {
+        bytes: question,
+        names,
+        at: 5,
+        positions: Vec::new(),
+        kinds: Vec::new(),
+        operators: Vec::new(),
+    };
     let tree = builder.node(0);
     Asked {
         current_type: optional(0),
@@ -185,5 +196,6 @@ pub fn build(question: &[u8], names: &[String]) -> Asked {
         tree,
         positions: builder.positions,
         kinds: builder.kinds,
+        operators: builder.operators,
     }
 }

@@ -157,6 +157,31 @@ impl Checker {
         self.is_in_suspend_fn = in_suspend;
     }
 
+    /// The function list of a key; empty where there is none.
+    pub fn functions(&self, key: &str) -> &[Symbol] {
+        self.symbols.lookup_function(key).map_or(&[], |list| list.as_slice())
+    }
+
+    pub fn accepts(&self, parameter: &Ty, argument: &Ty, is_vararg: bool) -> bool {
+        self.param_accepts(parameter, argument, is_vararg)
+    }
+
+    pub fn is_variable(&self, ty: &Ty) -> bool {
+        self.is_type_variable(ty)
+    }
+
+    pub fn superclass(&self, class: &str) -> Option<&String> {
+        self.superclasses.get(class)
+    }
+
+    pub fn package(&self, class: &str) -> Option<&String> {
+        self.type_package.get(class)
+    }
+
+    pub fn is_suspend(&self, key: &str) -> bool {
+        self.suspend_functions.contains(key)
+    }
+
     /// Runs the methods on a tree. With `keep`, the finished nodes are kept.
     pub fn run(&mut self, tree: &Expr, keep: bool) -> Judged {
         self.errors.clear();

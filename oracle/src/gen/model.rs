@@ -19,6 +19,8 @@ struct Model {
     names: usize,
     /// Names that serve as types: classes, letters, collections.
     types: Vec<u16>,
+    /// Names of one letter and near it.
+    letters: Vec<u16>,
     packages: Vec<u16>,
     params: Vec<u16>,
     functions: Vec<u16>,
@@ -98,7 +100,7 @@ impl Model {
         let classes = types.clone();
         let letters = some_names(rng, &mut table, &LETTERS, 1);
         types.extend(&letters);
-        let packages = some_names(rng, &mut table, &PACKAGES, 1);
+        let packages = some_names(rng, &mut table, &PACKAGES, 2);
         // Built-in names serve as parameters as well as any; they keep a table short.
         let params = if rng.chance(60) {
             (20..36 + rng.below(4) as u16).collect()
@@ -110,10 +112,10 @@ impl Model {
         fields.push(built_in("size"));
         fields.push(built_in("toString"));
         let names = BUILT_IN.len() + table.records[0].len();
-        let mut model =
-            Model { table, names, types, packages, params, functions, fields, lists: Vec::new(), pool: Vec::new() };
         let mut with_record = classes;
         with_record.extend(letters.iter().filter(|_| rng.chance(40)));
+        let (lists, pool) = (Vec::new(), Vec::new());
+        let mut model = Model { table, names, types, letters, packages, params, functions, fields, lists, pool };
         if rng.chance(20) {
             with_record.push(*rng.pick(&[0, 1, 2, 3, 4, 5]));
         }
@@ -143,7 +145,7 @@ impl Model {
                 6 => *rng.pick(&without),
                 _ => NONE,
             };
-            let package = if rng.chance(60) { *rng.pick(&self.packages) } else { NONE };
+            let package = if rng.chance(75) { *rng.pick(&self.packages) } else { NONE };
             self.table.class(*class, superclass, package, rng.chance(60));
         }
         // A class left out above may be a superclass: it has no record, so it may stand anywhere.
@@ -164,11 +166,13 @@ impl Model {
     }
 
     fn parameter_type(&self, rng: &mut Rng) -> Bytes {
-        match rng.below(12) {
+        match rng.below(14) {
             0 => vec![ANY],
             1 => vec![INT],
             2 => named(*rng.pick(&self.types)),
-            3 => random_type(rng, 2, &self.types, false),
+            3 | 4 => named(*rng.pick(&self.letters)),
+            5 => vec![rng.below(6) as u8],
+            6 => random_type(rng, 2, &self.types, false),
             _ => rng.pick(&self.pool).clone(),
         }
     }
@@ -220,9 +224,14 @@ impl Model {
             if !overloads.is_empty() && rng.chance(35) {
                 // A sibling of an earlier one: the same names, another type somewhere.
                 params = rng.pick(&overloads).clone();
-                if !params.is_empty() && rng.chance(70) {
+                if !params.is_empty() && rng.chance(80) {
                     let at = rng.below(params.len());
-                    params[at].2 = self.parameter_type(rng);
+                    params[at].2 = match (rng.below(4), params[at].2[0]) {
+                        (0, _) => vec![ANY],
+                        (1 | 2, 0..=5) => vec![rng.below(6) as u8],
+                        (1, _) => nullable(&params[at].2),
+                        _ => self.parameter_type(rng),
+                    };
                 }
             }
             let visibility = if rng.chance(80) { visibility } else { rng.below(4) as u8 };
@@ -288,7 +297,7 @@ impl Model {
 
     fn header(&self, rng: &mut Rng) -> (u16, u16, bool) {
         let current = if rng.chance(50) { *rng.pick(&self.types) } else { NONE };
-        let package = if rng.chance(50) { *rng.pick(&self.packages) } else { NONE };
+        let package = if rng.chance(65) { *rng.pick(&self.packages) } else { NONE };
         (current, package, rng.chance(40))
     }
 
@@ -340,29 +349,33 @@ impl Model {
         }
         count = count.min(16).min(nodes / 2);
         let naming = *rng.pick(&[0, 0, 0, 30, 60, 100]);
-        let mut spare = nodes - 2 * count;
-        (0..count)
+        // First who is named, since every unnamed argument meets the first parameter that nobody names.
+        let chosen: Vec<(Option<u16>, Option<&Param>)> = (0..count)
             .map(|i| {
-                let mut param = params.get(i);
-                let name = if rng.chance(naming) {
-                    match rng.below(10) {
-                        0 => Some(*rng.pick(&self.params)),
-                        1 => Some(rng.below(self.names) as u16),
-                        2 if !params.is_empty() => Some(params[0].0),
-                        3 | 4 if !params.is_empty() => {
-                            param = Some(rng.pick(params));
-                            param.map(|p| p.0)
-                        }
-                        _ => param.map(|p| p.0),
+                let param = params.get(i);
+                if !rng.chance(naming) {
+                    return (None, param);
+                }
+                match rng.below(10) {
+                    0 => (Some(*rng.pick(&self.params)), param),
+                    1 if rng.chance(50) => (Some(rng.below(self.names) as u16), param),
+                    2 if !params.is_empty() => (Some(params[0].0), params.first()),
+                    3 | 4 if !params.is_empty() => {
+                        let other = rng.pick::<Param>(params);
+                        (Some(other.0), Some(other))
                     }
-                } else {
-                    // Every unnamed argument meets the first parameter that nobody names.
-                    if rng.chance(60) {
-                        param = params.first();
-                    }
-                    None
-                };
-                let extra = if spare > 0 && rng.chance(25) { 1 + rng.below(spare.min(12)) } else { 0 };
+                    _ => (param.map(|p| p.0), param),
+                }
+            })
+            .collect();
+        let free = params.iter().find(|p| chosen.iter().all(|(name, _)| *name != Some(p.0)));
+        let aim = *rng.pick(&[0, 60, 100, 100]);
+        let mut spare = nodes - 2 * count;
+        chosen
+            .into_iter()
+            .map(|(name, param)| {
+                let param = if name.is_none() && rng.chance(aim) { free.or(param) } else { param };
+                let extra = if spare > 0 && rng.chance(20) { 1 + rng.below(spare.min(12)) } else { 0 };
                 spare -= extra;
                 let value = if extra > 0 {
                     self.expression(rng, 1 + extra)
@@ -512,9 +525,13 @@ pub fn wide(rng: &mut Rng) -> Pair {
     let mut table = Table::new();
     let f = table.name("f");
     let owner = if rng.chance(25) { table.name("Page") } else { NONE };
+    let packages = [NONE, built_in("keys"), built_in("trim")];
+    if owner != NONE && rng.chance(80) {
+        table.class(owner, NONE, *rng.pick(&packages), true);
+    }
     let params: Vec<u16> = (20..36).collect();
     let stranger = 36;
-    let count = rng.below(17);
+    let count = if rng.chance(20) { 16 } else { rng.below(17) };
     let suspend = rng.chance(10);
     let int: Bytes = vec![INT];
     let mut args: Vec<Bytes> = Vec::new();
@@ -572,7 +589,8 @@ pub fn wide(rng: &mut Rng) -> Pair {
     }
     let tree = if owner == NONE { call(f, &args) } else { method(f, &leaf(&named(owner)), &args) };
     let current = if owner != NONE && rng.chance(30) { owner } else { NONE };
-    (table.bytes(), question_in(current, NONE, rng.chance(50), &tree))
+    let package = if owner != NONE { *rng.pick(&packages) } else { NONE };
+    (table.bytes(), question_in(current, package, rng.chance(50), &tree))
 }
 
 /// A member or a method call of some base, with fields, variants, functions and visibilities.

@@ -1,0 +1,61 @@
+//! The stored answers are what the oracle says today.
+
+use oracle::sample::{files, hex, stored, unhex};
+use std::collections::HashSet;
+use std::path::PathBuf;
+
+fn folder() -> PathBuf {
+    PathBuf::from(env!("CARGO_MANIFEST_DIR")).join("../samples")
+}
+
+#[test]
+fn the_stored_files_are_what_the_oracle_says() {
+    let (text, binary) = files();
+    let stored_text = std::fs::read_to_string(folder().join("answers.txt")).expect("samples/answers.txt");
+    for (i, (line, now)) in stored_text.lines().zip(text.lines()).enumerate() {
+        assert_eq!(line, now, "line {} (made anew by: cargo run --release --bin samples)", i + 1);
+    }
+    assert!(stored_text == text, "the text has another length");
+    assert!(std::fs::read(folder().join("answers.bin")).expect("samples/answers.bin") == binary);
+    assert!(text.len() + binary.len() < 2_500_000);
+}
+
+#[test]
+fn there_are_at_least_3000_cases_and_each_has_its_own_name() {
+    let all = stored();
+    let names: HashSet<&str> = all.iter().map(|c| c.name.as_str()).collect();
+    assert!(all.len() >= 3_000 && names.len() == all.len());
+    assert!(names.iter().all(|n| n.bytes().all(|c| c.is_ascii_graphic())));
+    let marked = names.iter().filter(|n| n.contains(".marked.")).count();
+    // One per mark of document 01.
+    assert_eq!(marked, 13);
+}
+
+#[test]
+fn each_line_reads_back() {
+    let (text, binary) = files();
+    let mut at = 0;
+    let mut part = || {
+        let len = u16::from_le_bytes([binary[at], binary[at + 1]]) as usize;
+        at += 2 + len;
+        binary[at - len..at].to_vec()
+    };
+    for line in text.lines().filter(|l| !l.starts_with('#')) {
+        let fields: Vec<&str> = line.splitn(4, ' ').collect();
+        assert_eq!(unhex(fields[1]), Some(part()));
+        assert_eq!(unhex(fields[2]), Some(part()));
+        assert_eq!(fields[3].replace('/', "\n") + "\n", String::from_utf8(part()).expect("printed text"));
+    }
+    assert_eq!(at, binary.len());
+}
+
+#[test]
+fn hex_has_runs() {
+    for bytes in [vec![], vec![1, 2, 3], vec![0; 60_001], [1, 2].repeat(300), [vec![7], vec![0; 23], vec![9; 2]].concat()] {
+        assert_eq!(unhex(&hex(&bytes)), Some(bytes));
+    }
+    assert_eq!(hex(&[0; 60_001]), "00*60001");
+    assert_eq!(hex(&[vec![255, 1], vec![0; 23], vec![5]].concat()), "ff01.00*23.05");
+    assert_eq!(unhex("0"), None);
+    assert_eq!(unhex("zz"), None);
+}
