@@ -1,0 +1,58 @@
+-- The bound on types: a node's type has at most 192 bytes and one for each node of its tree. Assumes nothing.
+use Prim.Native.Nat.{ℕ, suc, _+_, _≤_, _<_}
+use mathlib.Core.Path.{_≡_, refl}
+use mathlib.Core.List.{List}
+use mathlib.Core.Option.{Option, none, some}
+use native.Mathlib.Omega.{arith}
+use lib.ListN.{length}
+use Rattle.ty.specs.Read.{longestType}
+use Rattle.symbol.specs.Symbols.{Symbols}
+use Rattle.question.specs.declared.Header.{Header}
+use Rattle.question.specs.Tree.{Node, leaf, binary, unary, named, member, call, method, after, size, LeavesFit}
+use Rattle.overload.specs.Arg.{Arg}
+use Rattle.overload.specs.Resolve.{resolve}
+use Rattle.typing.specs.Callee.{Callee, callOf, methodOf}
+use Rattle.typing.specs.Judge.{Judged, RowJudged, callStep, methodStep, judge, judges}
+use Rattle.typing.proofs.Short.{SymbolsFit, binary-short, unary-short, member-short, call-short, method-short}
+
+size-pos : (x : Node) → 1 ≤ size x
+unfolding size
+size-pos (leaf t) = omega arith
+size-pos (binary op l r) = omega arith
+size-pos (unary op x) = omega arith
+size-pos (named id x) = omega arith
+size-pos (member id x) = omega arith
+size-pos (call id r) = omega arith
+size-pos (method id x r) = omega arith
+
+module _ (S : Symbols) where
+  call-step : (n : ℕ) (found : Option Callee) (b : RowJudged)
+      → ((c : Callee) (xs : List Arg) → found ≡ some c → length (resolve S (c .overloads) n xs .ty) ≤ longestType) → length (callStep S n found b .ty) ≤ longestType
+  unfolding callStep
+  call-step n none b h = omega arith
+  call-step n (some c) b h = h c (b .args) refl
+
+  method-step : (n : ℕ) (a : Judged) (found : Option Callee) (b : RowJudged)
+      → ((c : Callee) (xs : List Arg) → found ≡ some c → length (resolve S (c .overloads) n xs .ty) ≤ longestType) → length (methodStep S n a found b .ty) ≤ longestType
+  unfolding methodStep
+  method-step n a none b h = omega arith
+  method-step n a (some c) b h = h c (b .args) refl
+
+module _ (S : Symbols) (fit : SymbolsFit S) (H : Header) where
+  -- (an argument's type is never its call's, so no bound is asked of a row)
+  pub type-short : (x : Node) (n : ℕ) → LeavesFit x → length (judge S H x n .ty) ≤ longestType + size x
+  unfolding judge size LeavesFit
+  type-short (leaf t) n f = omega arith
+  type-short (binary op l r) n (f, g) =
+      binary-short S fit (longestType + suc (size l + size r)) (omega arith) op (judge S H l (suc n) .ty) (judge S H r (after l (suc n)) .ty)
+      (omega (arith, type-short l (suc n) f)) (omega (arith, type-short r (after l (suc n)) g)) .len
+  type-short (unary op x) n f =
+      omega (arith, unary-short S fit (longestType + size x) (omega arith) op (judge S H x (suc n) .ty) (type-short x (suc n) f) .len)
+  type-short (named id x) n f = omega (arith, type-short x (suc n) f)
+  type-short (member id x) n f =
+      member-short S fit (longestType + suc (size x)) (omega arith) (omega (arith, size-pos x)) H id (judge S H x (suc n) .ty)
+      (omega (arith, type-short x (suc n) f)) .len
+  type-short (call id r) n f = omega (arith, call-step S n (callOf S H id) (judges S H r (suc n)) (λ c xs e. call-short S fit H id c n xs e))
+  type-short (method id x r) n f =
+      let a = judge S H x (suc n) in
+      omega (arith, method-step S n a (methodOf S H id (a .ty)) (judges S H r (after x (suc n))) (λ c xs e. method-short S fit H id (a .ty) c n xs e))

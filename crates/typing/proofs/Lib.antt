@@ -1,0 +1,13 @@
+pub mod Base
+pub mod Chosen
+pub mod Resolve
+pub mod Calls
+pub mod Structural
+pub mod Range
+pub mod Forward
+pub mod Back
+pub mod Unique
+pub mod Visited
+pub mod Flat
+pub mod Short
+pub mod Length

@@ -1,0 +1,9 @@
+pub mod Callee
+pub mod Judge
+pub mod Mark
+pub mod Answer
+pub mod CleanCall
+pub mod Visits
+pub mod Typing
+pub mod Demand1
+pub mod Demand3
