@@ -11,3 +11,7 @@ pub mod Visited
 pub mod Flat
 pub mod Short
 pub mod Length
+pub mod Answers
+pub mod Numbers
+pub mod Demand1
+pub mod Promise

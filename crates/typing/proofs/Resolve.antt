@@ -8,7 +8,6 @@ use mathlib.Core.Option.{Option, none, some}
 use native.Mathlib.Omega.{arith}
 use lib.Dec.{eqb, ltb}
 use borrow.Author.Tests.{eqb-true, eqb-false, ltb-false}
-
 use Rattle.typing.proofs.Chosen.{wins-chosen, Stands, chosen-stands, chosen-nobody}
 use Rattle.ty.specs.Bytes.{Ty}
 use Rattle.ty.specs.Choose.{choose}

@@ -22,11 +22,11 @@ use Rattle.typing.proofs.Structural.{Structural}
 use Rattle.ty.proofs.Same.{ne-differ}
 
 -- no visited node has type Error, as a statement on each
-pub NoErrorIn : List Given → Type 0
+abbrev pub NoErrorIn : List Given → Type 0
 NoErrorIn gs = (g : Given) → List·Memᴰ g gs → g .ty ≢ errorTy
 
 pub noError-no-error : (gs : List Given) → noError gs ≡ true → NoErrorIn gs
-unfolding noError NoErrorIn
+unfolding noError
 noError-no-error [] e g m = absurd (List·Memᴰ·not-nil m)
 noError-no-error (h ∷ gs) e g m = go (noError-no-error gs (and-right t (noError gs) e) g) (List·Memᴰ·cases-cons m)
   where
@@ -38,7 +38,7 @@ noError-no-error (h ∷ gs) e g m = go (noError-no-error gs (and-right t (noErro
     go f (inr n) = f n
 
 pub no-error-noError : (gs : List Given) → NoErrorIn gs → noError gs ≡ true
-unfolding noError NoErrorIn
+unfolding noError
 no-error-noError [] h = refl
 no-error-noError (g ∷ gs) h = and-both (ap not (ne-differ (g .ty) errorTy (h g (List·Memᴰ·head refl)))) (no-error-noError gs (λ x m. h x (List·Memᴰ·tail m)))
 
