@@ -3,14 +3,14 @@ use Prim.Native.Nat.{ℕ, _+_, _*_, _/_, _%_, _≤_, _<_, min}
 use borrow.Author.Tests.{leb-true, leb-false}
 use lib.Dec.{leb}
 use lib.ListN.{length, getD, take, set, replicate, length-append, length-replicate}
-use lib.Seq.{sets, length-sets, set-out, take-length}
+use lib.Seq.{sets, length-sets, set-out, take-length, length-take-le}
 use mathlib.Core.Bool.{Bool, true, false}
 use mathlib.Core.List.{List, [], _∷_, _++_}
 use mathlib.Core.Path.{_≡_, refl, sym, ap, _∙_}
 use native.Mathlib.Omega.{arith}
 use Rattle.console.proofs.Lists.{sets-past, sets-append, sets-zeros, decimal-one, decimal-more, hex-next, lines-next}
 use Rattle.console.specs.Answer.{blank, lineBreak, dash, fieldOf, typeText, lineOf, lineAt, linesOf}
-use Rattle.console.specs.Buffer.{holding, Wrote}
+use Rattle.console.specs.Buffer.{Filled, Wrote}
 use Rattle.console.specs.Text.{decimal, hexDigit, hexByte, hexBytes}
 use Rattle.ty.specs.Bytes.{idAt}
 
@@ -115,9 +115,15 @@ module _ {b b₁ b₂ b₃ : List ℕ} {at next₁ next₂ r : ℕ} (d : List �
       ∙ ap (λ (z : ℕ). fieldOf (getD d p 0) blank ++ (fieldOf (idAt d (p + 1)) blank ++ fieldOf z lineBreak)) h)
 
 -- all that is printed, in a cleared buffer
-pub wrote-all : (b₀ : List ℕ) {b b₁ b₂ : List ℕ} {next r : ℕ} {xs ys : List ℕ} → b ≡ replicate (length b₀) 0 → Wrote b b₁ 0 next xs → Wrote b₁ b₂ next r ys
-    → (b₂ ≡ holding (length b₀) (xs ++ ys)) × (r ≡ min (length (xs ++ ys)) (length b₀))
-wrote-all b₀ {b} {b₁} {b₂} {next} {r} {xs} {ys} e w z =
+pub wrote-all : {b₀ b b₁ b₂ : List ℕ} {next r : ℕ} {xs ys : List ℕ} → b ≡ replicate (length b₀) 0 → Wrote b b₁ 0 next xs → Wrote b₁ b₂ next r ys
+    → Filled b₀ b₂ r (xs ++ ys)
+wrote-all {b₀} {b} {b₁} {b₂} {next} {r} {xs} {ys} e w z =
     let a : Wrote b b₂ 0 r (xs ++ ys) = wrote-then w z in
     let n : length b ≡ length b₀ = ap length e ∙ length-replicate (length b₀) 0 in
-    (a .bytes ∙ ap (λ (l : List ℕ). sets l 0 (xs ++ ys)) e ∙ sets-zeros (length b₀) (xs ++ ys), omega (arith, a .next))
+    let m : length b₂ ≡ length b = wrote-length a in
+    let h : r ≤ length b₂ = omega (arith, a .next) in
+    record {
+      bytes = a .bytes ∙ ap (λ (l : List ℕ). sets l 0 (xs ++ ys)) e ∙ sets-zeros (length b₀) (xs ++ ys);
+      size = omega (arith, a .next);
+      part = (h, sym (length-take-le r b₂ h));
+    }

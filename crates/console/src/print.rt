@@ -1,12 +1,12 @@
 // An answer as text in a lent buffer. Each `put_` function writes what fits from `at` on, and answers the place behind it.
-ghost use Prim.Native.Nat.{_+_, _*_, _%_, _<_, _≤_, min};
+ghost use Prim.Native.Nat.{_+_, _*_, _%_, _<_, _≤_};
 ghost use mathlib.Core.Path.{_≡_};
 ghost use mathlib.Core.List.{[], _∷_};
 ghost use lib.ListN.{length, replicate};
 ghost use Rattle.ty.specs.Bytes.{idAt};
 ghost use Rattle.console.specs.Text.{decimal, hexDigit, hexByte, hexBytes};
 ghost use Rattle.console.specs.Answer.{fieldOf, typeText, firstLine, lineAt, linesOf, recordsIn, printed};
-ghost use Rattle.console.specs.Buffer.{holding, Wrote};
+ghost use Rattle.console.specs.Buffer.{Filled, Wrote};
 use crate::number;
 use ty::byte_at;
 
@@ -162,8 +162,7 @@ pub fn print_answer(
     diagnostics: &[u8],
     out: &mut [u8],
 ) -> usize
-    ensures text { λ r. ⌜ now (out .exit) ≡ holding (length (now (out .entry))) (printed number pass (now (ty .entry)) count (now (diagnostics .entry))) ⌝ }
-    ensures size { λ r. ⌜ r ≡ min (length (printed number pass (now (ty .entry)) count (now (diagnostics .entry)))) (length (now (out .entry))) ⌝ }
+    ensures { λ r. ⌜ Filled (now (out .entry)) (now (out .exit)) r (printed number pass (now (ty .entry)) count (now (diagnostics .entry))) ⌝ }
 {
     clear(out);
     let next = put_first_line(number, pass, ty, count, out, 0);

@@ -21,7 +21,7 @@ same-length c = search needs
 
 returns : tie.Need-returns
 unfolding printed
-returns c = wrote-all (c .before .before .before .before .before .before .before .before .before .before .before .before .before .before .before .before .args .out .now) (c .before .before .before .before .before .before .before .before .before .before .before .clear .ensures) (c .before .before .before .before .before .before .before .put-first-line .ensures) (lines-done (c .before .before .before .before .before .before .before .before .before .before .before .before .before .before .before .before .args .diagnostics .now) _ _ (c .before .before .before .before .records-in .ensures .0) (c .before .before .put-lines .ensures))
+returns c = wrote-all (c .before .before .before .before .before .before .before .before .before .before .before .clear .ensures) (c .before .before .before .before .before .before .before .put-first-line .ensures) (lines-done (c .before .before .before .before .before .before .before .before .before .before .before .before .before .before .before .before .args .diagnostics .now) _ _ (c .before .before .before .before .records-in .ensures .0) (c .before .before .put-lines .ensures))
 
 pub print-answer-spec : {M : Type 1} → statement M
 print-answer-spec =
