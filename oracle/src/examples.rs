@@ -100,6 +100,7 @@ pub fn all() -> Vec<Example> {
     table_refusals(&mut list);
     question_refusals(&mut list);
     orders_of_refusal(&mut list);
+    unsaid(&mut list);
     list.all
 }
 
@@ -757,4 +758,43 @@ fn orders_of_refusal(list: &mut List) {
     let tree = (0..62).fold(member(F, &leaf(&named(C))), |tree, _| unary(ADDR_OF, &tree));
     let expected = format!("0 1 256 {}1200{}00 0", "0d".repeat(62), "0c".repeat(191));
     list.tree("answer.a-type-of-256-bytes", &table, tree, &expected);
+}
+
+/// What the Rust does and document 01 leaves to it, each by its smallest input (docs/DIFFERENCES.md).
+fn unsaid(list: &mut List) {
+    list.of("what_document_01_leaves_to_the_rust");
+    let none = Table::new();
+    let ints = array(None, &t(INT));
+    let eq = |left: &[u8], right: &[u8]| binary(EQ, &leaf(left), &leaf(right));
+    list.tree("rust.named-array-list-assigns-to-every-array", &none, eq(&named(2), &ints), "0 1 1 06 0");
+    list.tree("rust.named-mutable-list-assigns-to-every-array", &none, eq(&named(3), &ints), "0 1 1 06 0");
+    list.tree("rust.named-list-does-not-assign-to-an-array", &none, eq(&named(1), &ints), "0 0 1 06 1/4 0 0");
+    for (name, id) in [("list", 1), ("array-list", 2), ("mutable-list", 3)] {
+        let (table, tree) = goes(&named(id), &crate::bytes::list(&t(INT)));
+        list.tree(&format!("rust.named-{}-assigns-to-every-list", name), &table, tree, ASSIGNS);
+        let (table, tree) = goes(&crate::bytes::list(&t(INT)), &named(id));
+        list.tree(&format!("rust.a-list-assigns-to-named-{}", name), &table, tree, ASSIGNS);
+    }
+    list.tree("rust.equal-types-of-any-kind-are-comparable", &none, binary(LT, &l(BOOLEAN), &l(BOOLEAN)), "0 1 1 06 0");
+    list.tree("rust.char-and-string-are-comparable", &none, binary(LT, &l(CHAR), &l(STRING)), "0 1 1 06 0");
+    list.tree("rust.boolean-plus-string-is-string", &none, binary(ADD, &l(BOOLEAN), &l(STRING)), "0 1 1 08 0");
+    list.tree("rust.21-for-a-nullable-module", &none, member(0, &leaf(&nullable(&module(0)))), "0 0 1 15 1/21 0 0");
+    list.tree("rust.any-for-a-module", &none, member(0, &leaf(&module(0))), "0 1 1 09 0");
+    let size = built_in("size");
+    list.raw("rust.members-of-pair-hide-a-field", vec![5, 0, 0, 22, 0, 1], question(&member(size, &leaf(&named(0)))), "0 0 1 15 1/22 0 0");
+    list.raw("rust.members-of-a-collection-hide-a-field", vec![5, 1, 0, 22, 0, 1], question(&member(size, &leaf(&named(1)))), "0 1 1 00 0");
+    let mut letter = Table::new();
+    let t = letter.name("T");
+    letter.field(t, size, &[LONG]);
+    list.tree("rust.a-type-variable-hides-a-field", &letter, member(size, &leaf(&named(t))), "0 1 1 09 0");
+    list.tree("rust.an-unknown-member-outside-types-is-a-silent-error", &none, member(0, &leaf(&named(6))), "0 0 1 15 0");
+    let builtin = vec![4, 255, 255, 0, 0, 0, 1, 0, 0];
+    list.raw("rust.none-of-the-builtins-fits-is-a-silent-error", builtin, question(&call(0, &[l(INT)])), "0 0 1 15 0");
+    let twice = [4, 255, 255, 0, 0, 0, 0, 0, 0].repeat(2);
+    list.raw("rust.equal-functions-stay-in-the-list", twice, question(&call(0, &[])), "0 0 1 00 1/19 0 2");
+    list.tree("rust.minus-on-error-is-reported", &none, unary(MINUS, &l(ERROR)), "0 0 1 15 1/9 0 0");
+    let mut one = Table::new();
+    one.plain(0, &[CHAR], &[(1, 0, vec![INT]), (2, 0, vec![INT])]);
+    let args = [l(STRING), l(ANY)];
+    list.tree("rust.any-is-never-a-mismatch-by-index", &one, call(0, &args), "0 0 1 07 1/17 1 1");
 }

@@ -87,6 +87,7 @@ sentences! {
     table_first
     the_first_faulty_record
     the_longest_types
+    what_document_01_leaves_to_the_rust
 }
 
 #[test]
