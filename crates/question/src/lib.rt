@@ -97,7 +97,7 @@ fn more_fault(node: NodeRead) -> u8
     ensures { λ r. ⌜ r ≡ moreFault node ⌝ }
 {
     match node {
-        NodeRead::Bad => 8,
+        NodeRead::Bad => 8, // the lower number
         NodeRead::Leaf { len: _, top: _ } => 9,
         NodeRead::Endless { top: _ } => 9,
         NodeRead::Binary { op: _ } => 9,

@@ -1,0 +1,47 @@
+-- Each number is what the definition computes. Assumes nothing.
+use borrow.Author.Needs.{needs}
+use borrow.Author.Tests.{eq-eqb}
+use Rattle.question.specs.Header.{headerOf}
+use Rattle.question.specs.Read.{leafOf, nodeOf, nodeIn, nodeAt, ownBytes, children}
+use Rattle.question.specs.Refused.{headerFault, idFault, endlessFault, nodeFault, moreFault, endFault, nodesFault, treeFault, questionFault}
+use Rattle.question_test.proofs.headers.Statement.{statement}
+use Rattle.question_test.proofs.headers.Tie as tie
+use Rattle.ty.specs.Choose.{choose}
+use Rattle.ty.specs.Read.{bodyLength, children as tyChildren, idIn, itemOf, itemAt, stopped, readFrom, readType}
+
+pub headers-spec : {M : Type 1} → statement M
+unfolding choose headerOf leafOf nodeOf nodeIn nodeAt ownBytes children headerFault idFault endlessFault nodeFault moreFault endFault nodesFault treeFault questionFault bodyLength tyChildren idIn itemOf itemAt stopped readFrom readType
+headers-spec =
+    tie.close
+    (tie.spec
+    (λ c. search needs)
+    (λ c κs. search needs)
+    (λ c κs. eq-eqb (c .number .result) 8 (c .number .ensures))
+    (λ c. search needs)
+    (λ c κs. search needs)
+    (λ c κs. eq-eqb (c .number2 .result) 8 (c .number2 .ensures))
+    (λ c. search needs)
+    (λ c κs. search needs)
+    (λ c κs. eq-eqb (c .number3 .result) 8 (c .number3 .ensures))
+    (λ c. search needs)
+    (λ c κs. search needs)
+    (λ c κs. eq-eqb (c .number4 .result) 0 (c .number4 .ensures))
+    (λ c. search needs)
+    (λ c κs. search needs)
+    (λ c κs. eq-eqb (c .number5 .result) 0 (c .number5 .ensures))
+    (λ c. search needs)
+    (λ c κs. search needs)
+    (λ c κs. eq-eqb (c .number6 .result) 8 (c .number6 .ensures))
+    (λ c. search needs)
+    (λ c κs. search needs)
+    (λ c κs. eq-eqb (c .number7 .result) 10 (c .number7 .ensures))
+    (λ c. search needs)
+    (λ c κs. search needs)
+    (λ c κs. eq-eqb (c .number8 .result) 10 (c .number8 .ensures))
+    (λ c. search needs)
+    (λ c κs. search needs)
+    (λ c κs. eq-eqb (c .number9 .result) 0 (c .number9 .ensures))
+    (λ c. search needs)
+    (λ c κs. search needs)
+    (λ c κs. eq-eqb (c .number10 .result) 10 (c .number10 .ensures))
+    (λ c. search needs))
