@@ -1,8 +1,8 @@
 -- Laws of `Wrote`. Assumes nothing.
-use Prim.Native.Nat.{ℕ, _+_, _*_, _/_, _%_, _≤_, _<_, min}
+use Prim.Native.Nat.{ℕ, _+_, _*_, _/_, _%_, _≤_, _<_}
 use borrow.Author.Tests.{leb-true, leb-false}
 use lib.Dec.{leb}
-use lib.ListN.{length, getD, take, set, replicate, length-append, length-replicate}
+use lib.ListN.{length, getD, take, replicate, length-append, length-replicate}
 use lib.Seq.{sets, length-sets, set-out, take-length, length-take-le}
 use mathlib.Core.Bool.{Bool, true, false}
 use mathlib.Core.List.{List, [], _∷_, _++_}
@@ -18,11 +18,7 @@ use Rattle.ty.specs.Bytes.{idAt}
 pub wrote-none : (b : List ℕ) (at : ℕ) → Wrote b b at at []
 wrote-none b at = record { bytes = refl; next = omega arith }
 
--- a byte where there is room
-pub wrote-byte : (b : List ℕ) (at v : ℕ) → at < length b → Wrote b (set b at v) at (at + 1) (v ∷ [])
-wrote-byte b at v h = record { bytes = refl; next = omega arith }
-
--- and where there is none
+-- a byte for which there is no room
 pub wrote-past : (b : List ℕ) (at v : ℕ) → length b ≤ at → Wrote b b at at (v ∷ [])
 wrote-past b at v h = record { bytes = sym (set-out b at v h); next = omega arith }
 

@@ -16,9 +16,11 @@ tableLength input = idAt input 0
 unfoldable pub isWhole : List ℕ → Bool
 isWhole input = leb 2 (length input) && leb (2 + tableLength input) (length input)
 
+-- the table: as many bytes as the length says
 unfoldable pub tableOf : List ℕ → List ℕ
 tableOf input = choose (isWhole input) (take (tableLength input) (drop 2 input)) []
 
+-- the question: the bytes behind the table
 unfoldable pub questionOf : List ℕ → List ℕ
 questionOf input = choose (isWhole input) (drop (2 + tableLength input) input) []
 

@@ -4,7 +4,7 @@ use mathlib.Core.List.{List, [], _∷_, _++_}
 use lib.Dec.{ltb}
 use Rattle.ty.specs.Choose.{choose}
 
--- the last digits of n, at most f of them, the highest first and none in front of the first that counts
+-- the digits of n, the highest first, as far as f of them go: those of n / 10, if n has more than one, and the last
 unfoldable pub digits : ℕ → ℕ → List ℕ
 digits zero n = []
 digits (suc f) n = choose {A = ℕ → List ℕ} (ltb n 10) (λ m. []) (λ m. digits f m) (n / 10) ++ ((48 + n % 10) ∷ [])
