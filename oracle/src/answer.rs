@@ -1,9 +1,9 @@
 //! The answer and the diagnostics buffer, and the program around them.
 
 use crate::diagnostic::{diagnostic, Diagnostic};
-use crate::question::{build, question_number, Asked};
+use crate::question::{build, number_under, Asked};
 use crate::rust::{Judged, Ty};
-use crate::table::{fill, owners, table_number, Filled};
+use crate::table::{check, fill, owners, Filled};
 use crate::types::encode;
 use std::fmt::Write;
 
@@ -27,9 +27,9 @@ impl Answer {
 
 /// The number from the table and the question alone: 0 to 11.
 pub fn refusal(table: &[u8], question: &[u8]) -> u8 {
-    match table_number(table) {
-        0 => question_number(table, question),
-        number => number,
+    match check(table) {
+        Ok(names) => number_under(question, names),
+        Err(number) => number,
     }
 }
 

@@ -6,22 +6,50 @@ use crate::question::build;
 use crate::sample::hex;
 use crate::table::fill;
 use crate::words;
-use std::collections::BTreeMap;
+use std::collections::HashMap;
+
+/// What is counted.
+#[derive(Debug, Clone, Copy, PartialEq, Eq, Hash, PartialOrd, Ord)]
+pub enum Item {
+    Number(u8),
+    NodeKind(u8),
+    Binary(u8),
+    Unary(u8),
+    Diagnostic(u8, u16),
+    Ruling(&'static str),
+    Passed,
+    Outside,
+}
+
+impl std::fmt::Display for Item {
+    fn fmt(&self, f: &mut std::fmt::Formatter<'_>) -> std::fmt::Result {
+        match self {
+            Item::Number(n) => write!(f, "number {}", n),
+            Item::NodeKind(k) => write!(f, "node kind {}", k),
+            Item::Binary(op) => write!(f, "binary operator {}", op),
+            Item::Unary(op) => write!(f, "unary operator {}", op),
+            Item::Diagnostic(kind, number) => write!(f, "diagnostic {} with {}", kind, number),
+            Item::Ruling(what) => write!(f, "ruling: {}", what),
+            Item::Passed => write!(f, "passed"),
+            Item::Outside => write!(f, "outside the compared domain"),
+        }
+    }
+}
 
 #[derive(Debug, Default, Clone)]
 pub struct Coverage {
-    pub counts: BTreeMap<String, u64>,
+    pub counts: HashMap<Item, u64>,
     pub cases: u64,
 }
 
 /// What CI's run must meet at least `AT_LEAST` times.
 pub const AT_LEAST: u64 = 100;
 
-pub fn required() -> Vec<String> {
-    let mut labels: Vec<String> = (0..=12).map(|n| format!("number {}", n)).collect();
-    labels.extend((0..=6).map(|k| format!("node kind {}", k)));
-    labels.extend((0..23).map(|op| format!("binary {}", op)));
-    labels.extend((0..7).map(|op| format!("unary {}", op)));
+pub fn required() -> Vec<Item> {
+    let mut items: Vec<Item> = (0..=12).map(Item::Number).collect();
+    items.extend((0..=6).map(Item::NodeKind));
+    items.extend((0..23).map(Item::Binary));
+    items.extend((0..7).map(Item::Unary));
     for kind in 1..=23 {
         let numbers = match kind {
             6 => 1..=2,
@@ -31,12 +59,11 @@ pub fn required() -> Vec<String> {
             20 => 1..=3,
             _ => 0..=0,
         };
-        labels.extend(numbers.map(|n| format!("diagnostic {} {}", kind, n)));
+        items.extend(numbers.map(|n| Item::Diagnostic(kind, n)));
     }
-    labels.extend(RULINGS.iter().map(|r| format!("ruling: {}", r)));
-    labels.push("passed".to_string());
-    labels.push("outside the compared domain".to_string());
-    labels
+    items.extend(RULINGS.map(Item::Ruling));
+    items.extend([Item::Passed, Item::Outside]);
+    items
 }
 
 pub const RULINGS: [&str; 24] = [
@@ -67,8 +94,12 @@ pub const RULINGS: [&str; 24] = [
 ];
 
 impl Coverage {
-    fn count(&mut self, label: String) {
-        *self.counts.entry(label).or_insert(0) += 1;
+    fn count(&mut self, item: Item) {
+        *self.counts.entry(item).or_insert(0) += 1;
+    }
+
+    pub fn of(&self, item: Item) -> u64 {
+        self.counts.get(&item).copied().unwrap_or(0)
     }
 
     /// Judges a case and counts what occurred; the error says where the Rust and the words differ.
@@ -76,7 +107,7 @@ impl Coverage {
         self.cases += 1;
         let number = refusal(&case.table, &case.question);
         if number != 0 {
-            self.count(format!("number {}", number));
+            self.count(Item::Number(number));
             return Ok(());
         }
         let mut filled = fill(&case.table);
@@ -84,46 +115,46 @@ impl Coverage {
         let judged = run(&mut filled, &asked, true);
         let reports = diagnostics(&judged, &asked);
         if !crate::answer::inside(&case.table, &filled.names, &asked, &judged) {
-            self.count("outside the compared domain".to_string());
+            self.count(Item::Outside);
             return Ok(());
         }
         let described = |what: String| format!("{}\ntable {}\nquestion {}", what, hex(&case.table), hex(&case.question));
         let rulings = words::compare(&filled, &asked, &judged, &reports).map_err(described)?;
         for ruling in rulings {
-            self.count(format!("ruling: {}", ruling));
+            self.count(Item::Ruling(ruling));
         }
         for (node, ty) in &judged.finished {
             let len = type_bytes(ty, &filled.names).len();
             if len > 192 + asked.kinds.len() - node {
                 return Err(described(format!("node {} has a type of {} bytes", node, len)));
             }
-            self.count(format!("node kind {}", asked.kinds[*node]));
+            self.count(Item::NodeKind(asked.kinds[*node]));
             match asked.kinds[*node] {
-                1 => self.count(format!("binary {}", asked.operators[*node])),
-                2 => self.count(format!("unary {}", asked.operators[*node])),
+                1 => self.count(Item::Binary(asked.operators[*node])),
+                2 => self.count(Item::Unary(asked.operators[*node])),
                 _ => {}
             }
         }
         let mut buffer = vec![0; case.buffer];
         let answer = finish(&judged, &reports, &filled.names, &mut buffer);
-        self.count(format!("number {}", answer.number));
+        self.count(Item::Number(answer.number));
         if answer.pass == 1 {
-            self.count("passed".to_string());
+            self.count(Item::Passed);
         }
         for report in &reports {
-            self.count(format!("diagnostic {} {}", report.kind, report.number));
+            self.count(Item::Diagnostic(report.kind, report.number));
         }
         Ok(())
     }
 
-    /// What is required and occurred too seldom.
-    pub fn missing(&self) -> Vec<String> {
-        let seldom = |label: &String| self.counts.get(label).copied().unwrap_or(0) < AT_LEAST;
-        let mut missing: Vec<String> = required().into_iter().filter(seldom).collect();
-        if self.counts.contains_key("number 13") {
-            missing.push("number 13 occurred".to_string());
+    /// What is required and occurred too seldom, and what must not occur and did.
+    pub fn faults(&self) -> Vec<String> {
+        let seldom = required().into_iter().filter(|item| self.of(*item) < AT_LEAST);
+        let mut faults: Vec<String> = seldom.map(|item| format!("{}: {} times", item, self.of(item))).collect();
+        if self.of(Item::Number(13)) > 0 {
+            faults.push("number 13 occurred".to_string());
         }
-        missing
+        faults
     }
 }
 

@@ -166,6 +166,13 @@ impl Checker {
         self.param_accepts(parameter, argument, is_vararg)
     }
 
+    /// Whether `check_access` reports nothing.
+    pub fn may_access(&mut self, visibility: Visibility, owner: &str) -> bool {
+        let before = self.errors.len();
+        self.check_access(visibility, owner, "member", node_span(0));
+        self.errors.len() == before
+    }
+
     pub fn is_variable(&self, ty: &Ty) -> bool {
         self.is_type_variable(ty)
     }

@@ -210,8 +210,13 @@ pub fn name_count(table: &[u8]) -> usize {
 
 /// 0, or the number with which document 01 refuses the table.
 pub fn table_number(table: &[u8]) -> u8 {
+    check(table).err().unwrap_or(0)
+}
+
+/// The number of names of an accepted table, or the number with which it is refused.
+pub fn check(table: &[u8]) -> Result<usize, u8> {
     if table.len() > LIMIT {
-        return 1;
+        return Err(1);
     }
     let records = records(table);
     let mut class_places: HashMap<u16, Vec<usize>> = HashMap::new();
@@ -225,33 +230,33 @@ pub fn table_number(table: &[u8]) -> u8 {
     let mut kind_before = 0;
     for (i, record) in records.iter().enumerate() {
         if record.broken {
-            return 2;
+            return Err(2);
         }
         if record.kind < kind_before {
-            return 3;
+            return Err(3);
         }
         if record.ids.iter().any(|&id| id as usize >= names) {
-            return 4;
+            return Err(4);
         }
         let mut seen = HashSet::new();
         let repeated_parameter = !record.parameters.iter().all(|p| seen.insert(*p));
         if repeated_parameter || (record.key != Key::None && !keys.insert(record.key.clone())) {
-            return 5;
+            return Err(5);
         }
         if record.superclass != NONE {
             if let Some(places) = class_places.get(&record.superclass) {
                 if places.iter().all(|&place| place >= i) {
-                    return 6;
+                    return Err(6);
                 }
             }
         }
         if record.error || record.endless {
-            return 7;
+            return Err(7);
         }
         kind_before = record.kind;
         names += (record.kind == 1) as usize;
     }
-    0
+    Ok(names)
 }
 
 /// A table in the Rust's maps, with the names by number.

@@ -4,7 +4,7 @@
 use oracle::examples;
 use oracle::gen::sweep::type_list;
 use oracle::name::BUILT_IN;
-use oracle::rust::{Ty, TY_KINDS};
+use oracle::rust::{Checker, Ty, Visibility, TY_KINDS, VISIBILITIES};
 use oracle::types::decode;
 use std::collections::BTreeSet;
 
@@ -181,6 +181,23 @@ fn for_all_types_error_and_any_assign_both_ways() {
     }
 }
 
+/// Nodes 5 and 6 never ask about an empty owner, so the method is asked itself.
+#[test]
+fn for_all_contexts_an_empty_owner_blocks_nothing() {
+    for visibility in VISIBILITIES {
+        for current in [None, Some("Page")] {
+            for package in [None, Some("lib")] {
+                let mut checker = Checker::bare();
+                checker.add_class("Page", None, Some("pkg"), true);
+                checker.set_context(current, package, false);
+                assert!(checker.may_access(visibility, ""));
+                let other = matches!(visibility, Visibility::Public | Visibility::Internal);
+                assert_eq!(checker.may_access(visibility, "Word"), other);
+            }
+        }
+    }
+}
+
 #[test]
 fn for_all_types_non_null_takes_one_nullable_off() {
     for t in types() {
@@ -195,8 +212,8 @@ fn for_all_types_non_null_takes_one_nullable_off() {
 #[test]
 fn for_all_types_equal_types_are_equal_bytes() {
     let (bytes, names) = (type_list(), names());
-    for a in &bytes {
-        for b in &bytes {
+    for a in bytes {
+        for b in bytes {
             assert_eq!(decode(a, &names).0 == decode(b, &names).0, a == b);
         }
     }
@@ -209,7 +226,7 @@ fn kinds_follow_enum_ty_from_0_int_to_21_error() {
     assert_eq!((TY_KINDS[0], TY_KINDS[21]), ("Int", "Error"));
     let mut seen = BTreeSet::new();
     for bytes in type_list() {
-        let debug = format!("{:?}", decode(&bytes, &names).0);
+        let debug = format!("{:?}", decode(bytes, &names).0);
         let variant: String = debug.chars().take_while(|c| c.is_alphanumeric()).collect();
         assert_eq!(variant, TY_KINDS[bytes[0] as usize]);
         seen.insert(bytes[0]);
@@ -228,7 +245,7 @@ fn judged(table: &[u8], question: &[u8]) -> (Vec<u8>, Vec<u8>) {
 #[test]
 fn for_all_types_a_bitwise_operator_gives_the_left_type() {
     use oracle::bytes::*;
-    let types: Vec<Bytes> = type_list().into_iter().filter(|t| t[0] != 12 && t[0] != ERROR).collect();
+    let types: Vec<Bytes> = type_list().iter().filter(|t| t[0] != 12 && t[0] != ERROR).cloned().collect();
     let mut table = Table::new();
     for name in ["T", "U", "Page", "Scan"] {
         table.name(name);
@@ -260,7 +277,7 @@ fn for_all_types_not_null_gives_error_the_arm_for_a_nullable_operand_is_never_re
     }
     for ty in type_list() {
         let kind = if ty[0] == 12 { 8 } else { 13 };
-        let said = judged(&table.bytes(), &question(&unary(NOT_NULL, &leaf(&ty))));
+        let said = judged(&table.bytes(), &question(&unary(NOT_NULL, &leaf(ty))));
         assert_eq!(said, (vec![ERROR], vec![kind, 0, 0, 0, 0]));
     }
 }
@@ -275,7 +292,7 @@ fn for_all_types_an_error_operand_gives_error_silently() {
     table.operators(43, 0x7ff);
     for op in 0..23 {
         for ty in type_list() {
-            for tree in [binary(op, &leaf(&ty), &leaf(&[ERROR])), binary(op, &leaf(&[ERROR]), &leaf(&ty))] {
+            for tree in [binary(op, &leaf(ty), &leaf(&[ERROR])), binary(op, &leaf(&[ERROR]), &leaf(ty))] {
                 assert_eq!(judged(&table.bytes(), &question(&tree)), (vec![ERROR], vec![]));
             }
         }

@@ -1,8 +1,15 @@
 //! The stored answers are what the oracle says today.
 
-use oracle::sample::{files, hex, stored, unhex};
+use oracle::sample::{files, hex, unhex};
 use std::collections::HashSet;
 use std::path::PathBuf;
+use std::sync::OnceLock;
+
+/// The text and the binary form as they are made today.
+fn made() -> &'static (String, Vec<u8>) {
+    static MADE: OnceLock<(String, Vec<u8>)> = OnceLock::new();
+    MADE.get_or_init(files)
+}
 
 fn folder() -> PathBuf {
     PathBuf::from(env!("CARGO_MANIFEST_DIR")).join("../samples")
@@ -10,20 +17,20 @@ fn folder() -> PathBuf {
 
 #[test]
 fn the_stored_files_are_what_the_oracle_says() {
-    let (text, binary) = files();
+    let (text, binary) = made();
     let stored_text = std::fs::read_to_string(folder().join("answers.txt")).expect("samples/answers.txt");
     for (i, (line, now)) in stored_text.lines().zip(text.lines()).enumerate() {
         assert_eq!(line, now, "line {} (made anew by: cargo run --release --bin samples)", i + 1);
     }
-    assert!(stored_text == text, "the text has another length");
-    assert!(std::fs::read(folder().join("answers.bin")).expect("samples/answers.bin") == binary);
+    assert!(stored_text == *text, "the text has another length");
+    assert!(std::fs::read(folder().join("answers.bin")).expect("samples/answers.bin") == *binary);
     assert!(text.len() + binary.len() < 2_500_000);
 }
 
 #[test]
 fn there_are_at_least_3000_cases_and_each_has_its_own_name() {
-    let all = stored();
-    let names: HashSet<&str> = all.iter().map(|c| c.name.as_str()).collect();
+    let all: Vec<&str> = made().0.lines().filter(|l| !l.starts_with('#')).collect();
+    let names: HashSet<&str> = all.iter().filter_map(|l| l.split(' ').next()).collect();
     assert!(all.len() >= 3_000 && names.len() == all.len());
     assert!(names.iter().all(|n| n.bytes().all(|c| c.is_ascii_graphic())));
     let marked = names.iter().filter(|n| n.contains(".marked.")).count();
@@ -33,7 +40,7 @@ fn there_are_at_least_3000_cases_and_each_has_its_own_name() {
 
 #[test]
 fn each_line_reads_back() {
-    let (text, binary) = files();
+    let (text, binary) = made();
     let mut at = 0;
     let mut part = || {
         let len = u16::from_le_bytes([binary[at], binary[at + 1]]) as usize;

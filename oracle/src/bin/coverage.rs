@@ -15,16 +15,16 @@ fn main() {
         }
     };
     println!("{} cases: every sweep, and {} of the mixed profiles with seed {}", coverage.cases, mixed, seed);
-    for label in required() {
-        println!("{:>9}  {}", coverage.counts.get(&label).unwrap_or(&0), label);
+    let mut items = required();
+    let mut others: Vec<_> = coverage.counts.keys().filter(|item| !items.contains(item)).copied().collect();
+    others.sort();
+    items.extend(others);
+    for item in items {
+        println!("{:>9}  {}", coverage.of(item), item);
     }
-    let required = required();
-    for (label, count) in coverage.counts.iter().filter(|(l, _)| !required.contains(l)) {
-        println!("{:>9}  {} (not required)", count, label);
-    }
-    let missing = coverage.missing();
-    if !missing.is_empty() {
-        eprintln!("coverage: fewer than {} times: {}", AT_LEAST, missing.join(", "));
+    let faults = coverage.faults();
+    if !faults.is_empty() {
+        eprintln!("coverage: fewer than {} times: {}", AT_LEAST, faults.join(", "));
         std::process::exit(1);
     }
 }

@@ -3,6 +3,7 @@
 use super::Profile;
 use crate::bytes::*;
 use crate::name::{BUILT_IN, NONE};
+use std::sync::OnceLock;
 
 type Pair = (Bytes, Bytes);
 
@@ -19,7 +20,12 @@ fn small_table() -> Table {
 }
 
 /// At least 60 types: every kind, nested and not.
-pub fn type_list() -> Vec<Bytes> {
+pub fn type_list() -> &'static [Bytes] {
+    static LIST: OnceLock<Vec<Bytes>> = OnceLock::new();
+    LIST.get_or_init(make_type_list)
+}
+
+fn make_type_list() -> Vec<Bytes> {
     let mut types: Vec<Bytes> = (0..12).map(|k| vec![k]).collect();
     types.push(vec![ERROR]);
     for k in [INT, LONG, DOUBLE, STRING, BOOLEAN, ANY, NOTHING, ERROR] {
@@ -157,7 +163,7 @@ pub fn assign_count() -> usize {
 /// Whether a type goes where another is expected, by a call with one parameter: alone (17 or none),
 /// and beside an overload whose parameter has the argument's own type (which score is higher).
 pub fn assign(at: usize) -> Pair {
-    let types: Vec<Bytes> = type_list();
+    let types = type_list();
     let n = types.len();
     let (from, to) = (&types[at / 2 / n % n], &types[at / 2 % n]);
     let mut table = small_table();
