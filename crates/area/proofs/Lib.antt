@@ -4,3 +4,4 @@ pub mod Diagnostics
 pub mod Slots
 pub mod Stores
 pub mod Sources
+pub mod Examples

@@ -11,4 +11,4 @@ pub inner-len-spec : {M : Type 1} → statement M
 inner-len-spec = tie.close (tie.spec
     (λ c κs. search needs)
     (λ c κs. search needs)
-    (λ c. ap (λ (t : List ℕ). length t) ((c .inner .ensures) ∙ ap (λ (t : List ℕ). innerOf t) (c .before .slot .ensures))))
+    (λ c. ap (λ (t : List ℕ). length t) (c .inner .ensures ∙ ap (λ (t : List ℕ). innerOf t) (c .before .slot .ensures))))

@@ -16,7 +16,7 @@ store-function-spec =
     (λ c. search needs)
     (λ c. simp length-set (omega (arith, (c .before .before .before .before .pre .0 .wide))))
     (λ c. search needs)
-    (λ c κs. simp length-set (slot-room _ _ _ 2 _ _ (c .before .before .before .before .before .pre .0) (c .before .before .before .before .before .pre .1) (c .before .part .ensures) (c .before .before .before .before .before .pre .2)))
+    (λ c κs. let w = c .before .before .before .before .before .pre in simp length-set (slot-room _ _ _ 2 _ _ (w .0) (w .1) (c .before .part .ensures) (w .2)))
     (λ c. search needs)
     (λ c. search needs)
     (λ c. search needs)

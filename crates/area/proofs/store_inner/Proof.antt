@@ -7,7 +7,7 @@ pub store-inner-spec : {M : Type 1} → statement M
 store-inner-spec =
     tie.close (tie.spec
     (λ c κs. search needs)
-    (λ c κs. ((c .before .before .before .before .before .before .before .pre .0), (c .before .before .before .before .before .before .before .pre .1), inner-fits _ _ (c .before .before .before .before .before .before .before .pre .0) _ _ (c .before .before .before .before .before .before .before .pre .1) _ (c .before .before .inner-len .ensures)))
+    (λ c κs. let w = c .before .before .before .before .before .before .before .pre in (w .0, w .1, inner-fits _ _ (w .0) _ _ (w .1) _ (c .before .before .inner-len .ensures)))
     (λ c. search needs)
     (λ c. search needs)
-    (λ c. stored-inner _ _ (c .before .before .before .before .before .before .before .before .before .before .before .before .pre .0) _ _ (c .before .before .before .before .before .before .before .before .before .before .before .before .pre .1) _ _ _ (c .before .before .before .before .before .before .before .inner-len .ensures) (c .before .before .before .before .store-last .ensures)))
+    (λ c. let w = c .before .before .before .before .before .before .before .before .before .before .before .before .pre in stored-inner _ _ (w .0) _ _ (w .1) _ _ _ (c .before .before .before .before .before .before .before .inner-len .ensures) (c .before .before .before .before .store-last .ensures)))

@@ -18,4 +18,4 @@ store-last-spec =
     (λ c. search needs)
     (λ c. search needs)
     (λ c. search needs)
-    (λ c. stored-last _ _ (c .before .before .before .before .before .before .before .pre .0) _ _ (c .before .before .before .before .before .before .before .pre .1) _ _ (c .before .before .before .before .before .before .before .pre .2) (c .before .before .move-down .ensures)))
+    (λ c. let w = c .before .before .before .before .before .before .before .pre in stored-last _ _ (w .0) _ _ (w .1) _ _ (w .2) (c .before .before .move-down .ensures)))

@@ -10,7 +10,7 @@ store-part-spec =
     (tie.spec
     (λ c κs. search needs)
     (λ c. search needs)
-    (λ c κs. omega (arith, slot-room _ _ (c .before .before .before .before .before .args .node) 0 _ _ (c .before .before .before .before .before .pre .0) (c .before .before .before .before .before .pre .1) (c .before .part .ensures) (omega (arith, (c .before .before .before .before .before .pre .2)))))
+    (λ c κs. let w = c .before .before .before .before .before .pre in omega (arith, slot-room _ _ (c .before .before .before .before .before .args .node) 0 _ _ (w .0) (w .1) (c .before .part .ensures) (omega (arith, (w .2)))))
     (λ c. search needs)
     (λ c. search needs)
     (λ c. search needs)

@@ -11,4 +11,4 @@ store-same-spec =
     (λ c κs. search needs)
     (λ c. search needs)
     (λ c. search needs)
-    (λ c. stored-same _ _ (c .before .before .before .before .before .before .before .before .before .before .pre .0) _ _ (c .before .before .before .before .before .before .before .before .before .before .pre .1) _ _ (c .before .before .before .before .store-last .ensures)))
+    (λ c. let w = c .before .before .before .before .before .before .before .before .before .before .pre in stored-same _ _ (w .0) _ _ (w .1) _ _ (c .before .before .before .before .store-last .ensures)))
