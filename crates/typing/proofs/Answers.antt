@@ -1,24 +1,23 @@
 -- What an answer is where its judgement passes, and what a mark of 1 says. Assumes nothing.
-use Prim.Native.Nat.{ℕ, _+_, _*_, _-_, _≤_, _<_}
-use mathlib.Core.Path.{_≡_, refl, ap, sym, _∙_}
+use Prim.Native.Nat.{ℕ, _*_, _-_, _≤_}
+use borrow.Author.Tests.{le-ltb, eq-eqb}
+use lib.Dec.{ltb}
+use lib.ListN.{length, replicate}
 use mathlib.Core.Bool.{Bool, true, false}
 use mathlib.Core.List.{List, []}
+use mathlib.Core.Path.{_≡_, refl, ap, _∙_}
 use native.Mathlib.Omega.{arith}
-use lib.Dec.{ltb, eqb}
-use lib.ListN.{length, replicate}
-use borrow.Author.Tests.{le-ltb, eq-eqb}
-use Rattle.ty.specs.Choose.{choose}
-use Rattle.ty.specs.Bytes.{Ty}
-use Rattle.ty.proofs.Choice.{and-left}
 use Rattle.area.specs.Diagnostic.{recordLength, records}
 use Rattle.area.specs.Padding.{padded}
-use Rattle.symbol.specs.Refused.{tableFault}
 use Rattle.question.specs.Refused.{questionFault}
-use Rattle.typing.specs.Judge.{Judged}
-use Rattle.typing.specs.Mark.{noDiag, noError, passes, markOf}
+use Rattle.symbol.specs.Refused.{tableFault}
+use Rattle.ty.proofs.Choice.{and-left}
+use Rattle.ty.specs.Choose.{choose}
+use Rattle.typing.proofs.Base.{noDiag-nil}
 use Rattle.typing.specs.Answer.{Answer, answerBytes, zeros, namesOf, faultOf, judgementOf, refused, given, answered, answerOf, bufferOf}
 use Rattle.typing.specs.Demand3.{Passed}
-use Rattle.typing.proofs.Base.{noDiag-nil}
+use Rattle.typing.specs.Judge.{Judged}
+use Rattle.typing.specs.Mark.{noDiag, noError, passes, markOf}
 
 -- a judgement that passes, and whose type has at most 256 bytes, is answered so
 pub passed-answer : (lent : ℕ) (j : Judged) → length (j .ty) ≤ answerBytes → passes j ≡ true

@@ -1,33 +1,33 @@
 -- A judgement with no diagnostic and no Error is a typing. Assumes nothing.
 use Prim.Native.Nat.{ℕ, suc}
-use mathlib.Core.Path.{_≡_, refl, sym, _∙_}
-use mathlib.Core.Logic.{_≢_, _⊎_, inl, inr}
 use mathlib.Core.Bool.{true}
 use mathlib.Core.List.{List, [], _∷_, _++_, nil≢cons}
+use mathlib.Core.Logic.{_≢_, _⊎_, inl, inr}
 use mathlib.Core.Option.{Option, none, some}
+use mathlib.Core.Path.{_≡_, refl, sym, _∙_}
 use native.Mathlib.Omega.{arith}
-use Rattle.typing.proofs.Base.{noError-left, noError-right, noError-one-real, Within, within-join, within-wide, Same, same-left, same-right, same-here, same-under}
-use Rattle.typing.proofs.Range.{within-empty, node-within, row-within}
-use Rattle.ty.specs.Bytes.{Ty}
-use Rattle.rules.specs.Out.{Out, Report, anyTy, clean, errorTy, found}
-use Rattle.rules.specs.Diag.{at}
 use Rattle.area.specs.Diagnostic.{Diag}
-use Rattle.question.specs.Tree.{Node, Row, after, afters, binary, call, cons, leaf, member, method, named, nil, unary}
-use Rattle.question.specs.declared.Header.{Header}
-use Rattle.symbol.specs.Symbols.{Symbols}
+use Rattle.overload.proofs.Lists.{append-nil-left, append-nil-right, some≢none}
 use Rattle.overload.specs.Arg.{Arg}
 use Rattle.overload.specs.Resolve.{resolve}
-use Rattle.overload.proofs.Lists.{append-nil-left, append-nil-right, some≢none}
+use Rattle.question.specs.Tree.{Node, Row, after, afters, binary, call, cons, leaf, member, method, named, nil, unary}
+use Rattle.question.specs.declared.Header.{Header}
+use Rattle.rules.specs.Binary.{binaryOut}
+use Rattle.rules.specs.Diag.{at}
+use Rattle.rules.specs.Member.{memberOut}
+use Rattle.rules.specs.Out.{Out, Report, anyTy, clean, errorTy, found}
+use Rattle.rules.specs.Unary.{unaryOut}
+use Rattle.symbol.specs.Symbols.{Symbols}
+use Rattle.ty.specs.Bytes.{Ty}
+use Rattle.typing.proofs.Base.{noError-left, noError-right, noError-one-real, Within, within-join, within-wide, Same, same-left, same-right, same-here, same-under}
+use Rattle.typing.proofs.Calls.{Silent, call-law, list-law, method-law}
+use Rattle.typing.proofs.Range.{within-empty, node-within, row-within}
+use Rattle.typing.proofs.Structural.{Has, NoCall, RowTyped, Typed, Unvisited, WithArgs}
 use Rattle.typing.specs.Callee.{Callee, callOf, methodOf}
+use Rattle.typing.specs.CleanCall.{CleanCall, CleanMethod, HasList}
 use Rattle.typing.specs.Judge.{Given, Judged, RowJudged, callStep, closed, done, judge, judges, methodStep}
 use Rattle.typing.specs.Mark.{noError}
-use Rattle.typing.specs.CleanCall.{CleanCall, CleanMethod, HasList}
 use Rattle.typing.specs.Visits.{Choice}
-use Rattle.typing.proofs.Structural.{Has, NoCall, RowTyped, Typed, Unvisited, WithArgs}
-use Rattle.typing.proofs.Calls.{Silent, call-law, list-law, method-law}
-use Rattle.rules.specs.Binary.{binaryOut}
-use Rattle.rules.specs.Unary.{unaryOut}
-use Rattle.rules.specs.Member.{memberOut}
 
 at-nil : (n : ℕ) (rs : List Report) → at n rs ≡ [] → rs ≡ []
 unfolding at

@@ -1,24 +1,24 @@
 -- Small facts: tests, types, lists of given types over ranges of numbers. Assumes nothing.
 use Prim.Native.Nat.{ℕ, suc, _≤_, _<_}
-use mathlib.Core.Path.{_≡_, refl, ap, sym, _∙_, subst}
-use mathlib.Core.Logic.{_≢_, _⊎_, inl, inr}
+use borrow.Author.Tests.{eq-eqb, ne-eqb, ltb-true, ltb-false}
+use lib.Dec.{eqb, ltb}
 use mathlib.Core.Bool.{Bool, true, false, _&&_, not, false≢true}
 use mathlib.Core.List.{List, [], _∷_, _++_, nil≢cons}
+use mathlib.Core.Logic.{_≢_, _⊎_, inl, inr}
 use mathlib.Core.Option.{Option, none, some}
+use mathlib.Core.Path.{_≡_, refl, ap, sym, _∙_, subst}
 use native.Mathlib.Omega.{arith}
-use lib.Dec.{eqb, ltb}
-use borrow.Author.Tests.{eq-eqb, ne-eqb, ltb-true, ltb-false}
-use Rattle.ty.specs.Bytes.{Ty, sameBytes}
-use Rattle.ty.specs.Choose.{choose}
-use Rattle.rules.specs.Out.{errorTy}
-use Rattle.rules.specs.Diag.{at}
 use Rattle.area.specs.Diagnostic.{Diag}
 use Rattle.overload.proofs.Lists.{some≢none}
+use Rattle.rules.specs.Diag.{at}
+use Rattle.rules.specs.Out.{errorTy}
 use Rattle.ty.proofs.Choice.{and-left, and-right}
+use Rattle.ty.proofs.Same.{ne-differ, same-refl}
+use Rattle.ty.specs.Bytes.{Ty, sameBytes}
+use Rattle.ty.specs.Choose.{choose}
 use Rattle.typing.specs.Judge.{Given}
 use Rattle.typing.specs.Mark.{noDiag, noError, typeIn}
 use Rattle.typing.specs.Visits.{Choice}
-use Rattle.ty.proofs.Same.{ne-differ, same-refl}
 
 pub and-both : {a b : Bool} → a ≡ true → b ≡ true → (a && b) ≡ true
 and-both {a} {b} p q = rw p q

@@ -1,28 +1,28 @@
 -- Calls are judged silently exactly where their clean rule holds. Assumes nothing.
 use Prim.Native.Nat.{ℕ}
-use mathlib.Core.Path.{_≡_, refl, ap, sym, _∙_}
-use mathlib.Core.Logic.{_⊎_, inl, inr, _≢_, _↔_}
 use mathlib.Core.Bool.{Bool, true, false, _||_, not, true≢false}
 use mathlib.Core.List.{List, [], _∷_, _++_, nil≢cons}
+use mathlib.Core.Logic.{_⊎_, inl, inr, _≢_, _↔_}
 use mathlib.Core.Option.{Option, none, some}
-use Rattle.ty.specs.Bytes.{Ty}
-use Rattle.ty.specs.Choose.{choose}
-use Rattle.rules.specs.Out.{Report, errorTy, report, unless}
-use Rattle.rules.specs.Diag.{at}
-use Rattle.question.specs.declared.Header.{Header}
-use Rattle.symbol.specs.Symbols.{Overload, Symbols}
+use mathlib.Core.Path.{_≡_, refl, ap, sym, _∙_}
+use Rattle.overload.proofs.Lists.{append-nil-left, append-nil-right, append-nils, some≢none}
 use Rattle.overload.specs.Arg.{Arg, Verdict, silent}
 use Rattle.overload.specs.Arity.{anyOwn, fitting, usable}
-use Rattle.overload.specs.Resolve.{noneFits, resolve, resolveIn}
 use Rattle.overload.specs.Before.{suspendReport}
+use Rattle.overload.specs.Resolve.{noneFits, resolve, resolveIn}
+use Rattle.question.specs.declared.Header.{Header}
 use Rattle.rules.specs.Access.{accessReport, blocked}
-use Rattle.overload.proofs.Lists.{append-nil-left, append-nil-right, append-nils, some≢none}
+use Rattle.rules.specs.Diag.{at}
+use Rattle.rules.specs.Diagnostic.{accessDiag, suspendDiag}
+use Rattle.rules.specs.Out.{Report, errorTy, report, unless}
+use Rattle.symbol.specs.Symbols.{Overload, Symbols}
+use Rattle.ty.specs.Bytes.{Ty}
+use Rattle.ty.specs.Choose.{choose}
+use Rattle.ty.specs.Name.{noId}
+use Rattle.typing.proofs.Base.{some-inj}
+use Rattle.typing.proofs.Resolve.{law}
 use Rattle.typing.specs.Callee.{Callee, baseName, callIn, callOf, methodBy, methodIn, methodOf}
 use Rattle.typing.specs.CleanCall.{CleanArgs, CleanCall, CleanMethod, HasList, SuspendAllowed}
-use Rattle.typing.proofs.Base.{some-inj}
-use Rattle.rules.specs.Diagnostic.{accessDiag, suspendDiag}
-use Rattle.ty.specs.Name.{noId}
-use Rattle.typing.proofs.Resolve.{law}
 
 -- a list is found, nothing is reported before the arguments are visited, and the rest is silent too
 pub record Silent (S : Symbols) (n : ℕ) (found : Option Callee) (xs : List Arg) (T : Ty) : Type 0 where

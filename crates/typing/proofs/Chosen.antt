@@ -1,22 +1,22 @@
 -- The fold over the fitting overloads finds the winner, if there is just one. Assumes nothing.
 use Prim.Native.Nat.{ℕ, suc, _≤_, _<_}
-use mathlib.Core.Path.{_≡_, refl, ap, sym, _∙_, subst}
-use mathlib.Core.Logic.{_≢_, _⊎_, inl, inr}
+use borrow.Author.Tests.{eqb-true, eqb-false, ne-eqb, ltb-true, ltb-false, lt-ltb, le-ltb}
+use lib.Dec.{eqb, ltb}
 use mathlib.Core.Bool.{Bool, true, false}
 use mathlib.Core.List.{List, [], _∷_, _++_, append-nil, append-assoc, List·Memᴰ, List·Memᴰ·head, List·Memᴰ·tail, List·Memᴰ·append-cases, List·Memᴰ·eq-of-singleton, List·Memᴰ·not-nil}
+use mathlib.Core.Logic.{_≢_, _⊎_, inl, inr}
 use mathlib.Core.Option.{Option, none, some}
+use mathlib.Core.Path.{_≡_, refl, ap, sym, _∙_, subst}
 use native.Mathlib.Omega.{arith}
-use lib.Dec.{eqb, ltb}
-use borrow.Author.Tests.{eqb-true, eqb-false, ne-eqb, ltb-true, ltb-false, lt-ltb, le-ltb}
-use Rattle.ty.specs.Choose.{choose}
+use Rattle.overload.proofs.Lists.{some≢none}
+use Rattle.overload.specs.Arg.{Arg}
+use Rattle.overload.specs.Best.{Best, best, better, chosen, nobody}
+use Rattle.overload.specs.Score.{score}
 use Rattle.rules.specs.Diag.{at}
 use Rattle.symbol.specs.Symbols.{Overload, Symbols}
-use Rattle.overload.specs.Arg.{Arg}
-use Rattle.overload.specs.Score.{score}
-use Rattle.overload.specs.Best.{Best, best, better, chosen, nobody}
-use Rattle.overload.proofs.Lists.{some≢none}
-use Rattle.typing.specs.CleanCall.{Lower, Wins}
+use Rattle.ty.specs.Choose.{choose}
 use Rattle.typing.proofs.Base.{some-inj}
+use Rattle.typing.specs.CleanCall.{Lower, Wins}
 
 module _ (S : Symbols) (xs : List Arg) where
   abbrev points : Overload → Option ℕ

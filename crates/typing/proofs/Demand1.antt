@@ -1,22 +1,22 @@
 -- Demand 1. Assumes nothing.
 use Prim.Native.Nat.{ℕ, _*_, _≤_, _<_}
-use mathlib.Core.Path.{_≡_, refl, ap, sym, _∙_}
-use mathlib.Core.Logic.{_≢_, _↔_}
-use mathlib.Core.Bool.{Bool, true, false}
-use mathlib.Core.List.{List}
-use native.Mathlib.Omega.{arith}
+use borrow.Author.Tests.{eq-eqb, ne-eqb, eqb-true, eqb-false, ltb-true, ltb-false, lt-ltb}
 use lib.Dec.{eqb, ltb}
 use lib.ListN.{length}
-use borrow.Author.Tests.{eq-eqb, ne-eqb, eqb-true, eqb-false, ltb-true, ltb-false, lt-ltb, le-ltb}
-use Rattle.ty.specs.Choose.{choose}
+use mathlib.Core.Bool.{Bool, true, false}
+use mathlib.Core.List.{List}
+use mathlib.Core.Logic.{_≢_, _↔_}
+use mathlib.Core.Path.{_≡_, refl, ap, sym, _∙_}
+use native.Mathlib.Omega.{arith}
 use Rattle.area.specs.Diagnostic.{recordLength}
-use Rattle.symbol.specs.Refused.{tableFault}
 use Rattle.question.specs.Refused.{questionFault}
-use Rattle.typing.specs.Judge.{Judged}
+use Rattle.symbol.specs.Refused.{tableFault}
+use Rattle.ty.specs.Choose.{choose}
+use Rattle.typing.proofs.Answers.{no-fault, answer-judged}
+use Rattle.typing.proofs.Numbers.{table-upto, question-upto}
 use Rattle.typing.specs.Answer.{Answer, answerBytes, zeros, namesOf, faultOf, judgementOf, refused, given, answered, answerOf, bufferOf}
 use Rattle.typing.specs.Demand1.{Demand1}
-use Rattle.typing.proofs.Numbers.{table-upto, question-upto}
-use Rattle.typing.proofs.Answers.{no-fault, answer-judged}
+use Rattle.typing.specs.Judge.{Judged}
 
 -- a refusal has zeros everywhere
 record Bare (a : Answer) : Type 0 where
@@ -143,3 +143,8 @@ module _ (t q : List ℕ) (lent : ℕ) where
         ty = λ h. answer-bare h .ty;
         buffer = buffer-bare;
       }
+
+-- a table over 60,000 bytes
+pub longer : (t : List ℕ) → 60000 < length t → tableFault t ≡ 1
+unfolding tableFault choose
+longer t h = rw (lt-ltb 60000 (length t) h)

@@ -1,25 +1,25 @@
 -- The two definitions of a typing say the same. Assumes nothing.
 use Prim.Native.Nat.{ℕ, suc, _≤_, _<_}
-use mathlib.Core.Path.{_≡_, refl, ap, sym, _∙_, subst}
-use mathlib.Core.Logic.{_≢_, _⊎_, inl, inr, _↔_}
 use mathlib.Core.List.{List}
+use mathlib.Core.Logic.{_≢_, _⊎_, inl, inr, _↔_}
 use mathlib.Core.Option.{Option, none, some}
+use mathlib.Core.Path.{_≡_, refl, ap, sym, _∙_, subst}
 use native.Mathlib.Omega.{arith}
-use Rattle.typing.proofs.Visited.{typed-has, method-listed, visited-iff, visited-real}
-use Rattle.ty.specs.Bytes.{Ty}
-use Rattle.rules.specs.Out.{anyTy, errorTy}
-use Rattle.rules.specs.Diag.{at}
+use Rattle.overload.proofs.Lists.{some≢none}
+use Rattle.overload.specs.Arg.{Arg}
 use Rattle.question.specs.Tree.{Node, Row, after, afters, binary, call, cons, leaf, member, method, named, nil, unary}
 use Rattle.question.specs.declared.Header.{Header}
+use Rattle.rules.specs.Diag.{at}
+use Rattle.rules.specs.Out.{anyTy, errorTy}
 use Rattle.symbol.specs.Symbols.{Symbols}
-use Rattle.overload.specs.Arg.{Arg}
-use Rattle.overload.proofs.Lists.{some≢none}
-use Rattle.typing.specs.CleanCall.{CleanMethod, HasList}
-use Rattle.typing.specs.Visits.{Choice, ListedBy, RowVisits, Visits}
-use Rattle.typing.specs.Typing.{ArgsBy, At, IsTyping, RowAt, RuleAt}
-use Rattle.typing.specs.Answer.{given}
-use Rattle.typing.proofs.Structural.{Has, NoCall, RowTyped, Structural, Typed, Unvisited, WithArgs}
+use Rattle.ty.specs.Bytes.{Ty}
 use Rattle.typing.proofs.Base.{some-inj}
+use Rattle.typing.proofs.Structural.{Has, NoCall, RowTyped, Structural, Typed, Unvisited, WithArgs}
+use Rattle.typing.proofs.Visited.{typed-has, method-listed, visited-iff, visited-real}
+use Rattle.typing.specs.Answer.{given}
+use Rattle.typing.specs.CleanCall.{CleanMethod, HasList}
+use Rattle.typing.specs.Typing.{ArgsBy, At, IsTyping, RowAt, RuleAt}
+use Rattle.typing.specs.Visits.{Choice, ListedBy, RowVisits, Visits}
 
 -- numbers grow
 mutual

@@ -1,31 +1,31 @@
 -- A typing's tree is judged with no diagnostic and no Error, and to the typing's types. Assumes nothing.
 use Prim.Native.Nat.{ℕ, suc, _≤_, _<_}
-use mathlib.Core.Path.{_≡_, refl, ap, sym, _∙_, subst}
-use mathlib.Core.Logic.{_⊎_, inl, inr}
 use mathlib.Core.Bool.{true}
 use mathlib.Core.List.{List, [], _∷_, _++_}
+use mathlib.Core.Logic.{_⊎_, inl, inr}
 use mathlib.Core.Option.{Option, none, some}
+use mathlib.Core.Path.{_≡_, refl, ap, sym, _∙_, subst}
 use native.Mathlib.Omega.{arith}
-use Rattle.typing.proofs.Base.{noError-append, noError-one, Within, within-join, within-wide, Same, same-join, same-done, split}
-use Rattle.typing.proofs.Range.{within-empty, node-within, row-within}
-use Rattle.ty.specs.Bytes.{Ty}
-use Rattle.rules.specs.Out.{Out, Report, anyTy, clean, found}
-use Rattle.rules.specs.Diag.{at}
 use Rattle.area.specs.Diagnostic.{Diag}
-use Rattle.question.specs.Tree.{Node, Row, after, afters, binary, call, cons, leaf, member, method, nameOf, named, nil, unary}
-use Rattle.question.specs.declared.Header.{Header}
-use Rattle.symbol.specs.Symbols.{Symbols}
+use Rattle.overload.proofs.Lists.{append-nils, some≢none}
 use Rattle.overload.specs.Arg.{Arg, Verdict, silent}
 use Rattle.overload.specs.Resolve.{resolve}
-use Rattle.overload.proofs.Lists.{append-nils, some≢none}
-use Rattle.typing.specs.Callee.{Callee, callOf, methodOf}
-use Rattle.typing.specs.Judge.{Given, Judged, RowJudged, callStep, closed, done, judge, judges, methodStep}
-use Rattle.typing.specs.Mark.{noError, typeIn}
-use Rattle.typing.specs.CleanCall.{CleanMethod, HasList}
-use Rattle.typing.specs.Visits.{Choice}
-use Rattle.typing.proofs.Structural.{Has, NoCall, RowTyped, Typed, Unvisited, WithArgs}
+use Rattle.question.specs.Tree.{Node, Row, after, afters, binary, call, cons, leaf, member, method, nameOf, named, nil, unary}
+use Rattle.question.specs.declared.Header.{Header}
+use Rattle.rules.specs.Diag.{at}
+use Rattle.rules.specs.Out.{Out, Report, anyTy, clean, found}
+use Rattle.symbol.specs.Symbols.{Symbols}
+use Rattle.ty.specs.Bytes.{Ty}
+use Rattle.typing.proofs.Base.{noError-append, noError-one, Within, within-join, within-wide, Same, same-join, same-done, split}
 use Rattle.typing.proofs.Base.{some-inj}
 use Rattle.typing.proofs.Calls.{Silent, call-law, list-law, method-law}
+use Rattle.typing.proofs.Range.{within-empty, node-within, row-within}
+use Rattle.typing.proofs.Structural.{Has, NoCall, RowTyped, Typed, Unvisited, WithArgs}
+use Rattle.typing.specs.Callee.{Callee, callOf, methodOf}
+use Rattle.typing.specs.CleanCall.{CleanMethod, HasList}
+use Rattle.typing.specs.Judge.{Given, Judged, RowJudged, callStep, closed, done, judge, judges, methodStep}
+use Rattle.typing.specs.Mark.{noError, typeIn}
+use Rattle.typing.specs.Visits.{Choice}
 
 pub record Agrees (τ : Choice) (j : Judged) (n e : ℕ) (T : Ty) : Type 0 where
   pub isTy : j .ty ≡ T

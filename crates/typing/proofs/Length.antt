@@ -1,19 +1,19 @@
 -- The bound on types: a node's type has at most 192 bytes and one for each node of its tree. Assumes nothing.
-use Prim.Native.Nat.{ℕ, suc, _+_, _≤_, _<_}
-use mathlib.Core.Path.{_≡_, refl}
+use Prim.Native.Nat.{ℕ, suc, _+_, _≤_}
+use lib.ListN.{length}
 use mathlib.Core.List.{List}
 use mathlib.Core.Option.{Option, none, some}
+use mathlib.Core.Path.{_≡_, refl}
 use native.Mathlib.Omega.{arith}
-use lib.ListN.{length}
-use Rattle.ty.specs.Read.{longestType}
-use Rattle.symbol.specs.Symbols.{Symbols}
-use Rattle.question.specs.declared.Header.{Header}
-use Rattle.question.specs.Tree.{Node, leaf, binary, unary, named, member, call, method, after, size, LeavesFit}
 use Rattle.overload.specs.Arg.{Arg}
 use Rattle.overload.specs.Resolve.{resolve}
+use Rattle.question.specs.Tree.{Node, leaf, binary, unary, named, member, call, method, after, size, LeavesFit}
+use Rattle.question.specs.declared.Header.{Header}
+use Rattle.symbol.specs.Symbols.{Symbols}
+use Rattle.ty.specs.Read.{longestType}
+use Rattle.typing.proofs.Short.{SymbolsFit, binary-short, unary-short, member-short, call-short, method-short}
 use Rattle.typing.specs.Callee.{Callee, callOf, methodOf}
 use Rattle.typing.specs.Judge.{Judged, RowJudged, callStep, methodStep, judge, judges}
-use Rattle.typing.proofs.Short.{SymbolsFit, binary-short, unary-short, member-short, call-short, method-short}
 
 size-pos : (x : Node) → 1 ≤ size x
 unfolding size

@@ -15,3 +15,9 @@ pub mod Answers
 pub mod Numbers
 pub mod Demand1
 pub mod Promise
+pub mod Tables
+pub mod Demand3
+pub mod Samples
+pub mod Marked
+pub mod Drawn
+pub mod Wrong

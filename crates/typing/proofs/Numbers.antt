@@ -2,16 +2,16 @@
 use Prim.Native.Nat.{ℕ, zero, suc, _+_, _≤_}
 use mathlib.Core.List.{List, [], _∷_}
 use native.Mathlib.Omega.{arith}
-use Rattle.ty.proofs.Choice.{by-choice}
-use Rattle.symbol.specs.Table.{Record, recordsOf}
-use Rattle.symbol.specs.Refused.{recordFault, faultFrom, tableFault}
-use Rattle.question.specs.declared.Names.{Names}
-use Rattle.question.specs.declared.node.NodeRead.{NodeRead}
-use Rattle.question.specs.declared.node.NodeRead.the-variants.{Bad, Leaf, Endless, Binary, Unary, Named, Member, Call, Method}
 use Rattle.question.specs.Header.{headerBytes}
-use Rattle.question.specs.Read.{nodeAt, ownBytes, children}
 use Rattle.question.specs.Parse.{mostNodes}
+use Rattle.question.specs.Read.{nodeAt, ownBytes, children}
 use Rattle.question.specs.Refused.{headerFault, idFault, endlessFault, nodeFault, moreFault, endFault, nodesFault, treeFault, questionFault}
+use Rattle.question.specs.declared.Names.{Names}
+use Rattle.question.specs.declared.node.NodeRead.the-variants.{Bad, Leaf, Endless, Binary, Unary, Named, Member, Call, Method}
+use Rattle.question.specs.declared.node.NodeRead.{NodeRead}
+use Rattle.symbol.specs.Refused.{recordFault, faultFrom, tableFault}
+use Rattle.symbol.specs.Table.{Record, recordsOf}
+use Rattle.ty.proofs.Choice.{by-choice}
 
 abbrev Upto : ℕ → ℕ → Type 0
 Upto m n = n ≤ m

@@ -1,32 +1,31 @@
 -- Demand 3 for one table and one question whose types fit. Assumes nothing.
-use Prim.Native.Nat.{ℕ, _+_, _≤_}
-use mathlib.Core.Path.{_≡_, refl, ap, sym, _∙_}
-use mathlib.Core.Logic.{_≢_, _↔_}
-use mathlib.Core.Bool.{Bool, true}
-use mathlib.Core.List.{List}
-use mathlib.Core.Option.{Option, some}
-use native.Mathlib.Omega.{arith}
+use Prim.Native.Nat.{ℕ, _≤_}
 use lib.ListN.{length}
-use Rattle.ty.specs.Bytes.{Ty}
-use Rattle.symbol.specs.Symbols.{Symbols}
-use Rattle.symbol.specs.Lookup.{symbolsOf}
-use Rattle.question.specs.declared.Header.{Header}
+use mathlib.Core.Bool.{true}
+use mathlib.Core.List.{List}
+use mathlib.Core.Option.{some}
+use mathlib.Core.Path.{_≡_, refl, ap, sym, _∙_}
+use native.Mathlib.Omega.{arith}
 use Rattle.question.specs.Header.{headerOf}
-use Rattle.question.specs.Tree.{Node, size, LeavesFit}
 use Rattle.question.specs.Parse.{mostNodes, treeOf}
+use Rattle.question.specs.Tree.{Node, size, LeavesFit}
+use Rattle.question.specs.declared.Header.{Header}
+use Rattle.symbol.specs.Lookup.{symbolsOf}
+use Rattle.symbol.specs.Symbols.{Symbols}
+use Rattle.ty.specs.Bytes.{Ty}
+use Rattle.typing.proofs.Answers.{answer-judged, marked-passes, passed}
+use Rattle.typing.proofs.Flat.{flat-typing, typing-flat}
+use Rattle.typing.proofs.Length.{type-short}
+use Rattle.typing.proofs.Short.{SymbolsFit}
+use Rattle.typing.proofs.Structural.{Structural}
+use Rattle.typing.proofs.Unique.{typing-root, typing-passes, typings-alike, passes-typing, passes-clean}
+use Rattle.typing.proofs.Visited.{typed-has, visited-iff}
+use Rattle.typing.specs.Answer.{Answer, answerBytes, faultOf, judgementOf, answerOf, bufferOf}
+use Rattle.typing.specs.Demand3.{TypingOf, Passed, Demand3}
 use Rattle.typing.specs.Judge.{judge}
 use Rattle.typing.specs.Mark.{typeIn, passes}
-use Rattle.typing.specs.Answer.{Answer, answerBytes, faultOf, judgementOf, answerOf, bufferOf}
-use Rattle.typing.specs.Visits.{Choice, Visits}
 use Rattle.typing.specs.Typing.{IsTyping}
-use Rattle.typing.specs.Demand3.{TypingOf, VisitedBy, Quiet, Alike, Passed, Demand3}
-use Rattle.typing.proofs.Structural.{Structural}
-use Rattle.typing.proofs.Short.{SymbolsFit}
-use Rattle.typing.proofs.Length.{type-short}
-use Rattle.typing.proofs.Unique.{typing-types, typing-root, typing-passes, typings-alike, passes-typing, passes-clean}
-use Rattle.typing.proofs.Visited.{typed-has, visited-iff}
-use Rattle.typing.proofs.Flat.{flat-typing, typing-flat}
-use Rattle.typing.proofs.Answers.{answer-judged, marked-passes, passed}
+use Rattle.typing.specs.Visits.{Choice, Visits}
 
 module _ (S : Symbols) (H : Header) (tree : Node) where
   typing : (τ : Choice) → IsTyping S H tree τ → Structural S H tree τ
@@ -43,8 +42,9 @@ module _ (S : Symbols) (H : Header) (tree : Node) where
       let r : t .root ≡ judge S H tree 0 .ty = typing-root S H tree τ t in
       cc
 
-  exists : passes (judge S H tree 0) ≡ true → (τ : Choice) × IsTyping S H tree τ
-  exists p = (typeIn (judge S H tree 0 .typed), typing-flat S H _ tree (passes-typing S H tree p))
+  -- a judgement that passes is a typing
+  pub typing-of : passes (judge S H tree 0) ≡ true → IsTyping S H tree (typeIn (judge S H tree 0 .typed))
+  typing-of p = typing-flat S H _ tree (passes-typing S H tree p)
 
 module _ (t q : List ℕ) (lent : ℕ) (accepted : faultOf t q ≡ 0) (fit : SymbolsFit (symbolsOf t)) (leaves : LeavesFit (treeOf q)) (few : size (treeOf q) ≤ mostNodes) where
   abbrev S : Symbols
@@ -76,7 +76,7 @@ module _ (t q : List ℕ) (lent : ℕ) (accepted : faultOf t q ≡ 0) (fit : Sym
           nodes = λ k. (visits-to S H tree τ σ f g k, visits-to S H tree σ τ g f k);
           types = typings-alike S H tree τ σ (typing S H tree τ f) (typing S H tree σ g);
         };
-    mark = (λ e. exists S H tree (marked e), λ (τ, f). answers (judged-passes τ f) .0);
+    mark = (λ e. (typeIn (judgementOf t q .typed), typing-of S H tree (marked e)), λ (τ, f). answers (judged-passes τ f) .0);
     passed = λ τ f T e. rw (root-is S H tree τ (typing S H tree τ f) T e) (answers (judged-passes τ f) .1);
     quiet = (
       λ e. let (d, n) = passes-clean S H tree .0 (marked e) in record { diags = d; types = n },

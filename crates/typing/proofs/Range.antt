@@ -1,14 +1,14 @@
 -- A judgement gives types only to the numbers of its tree; and `after` counts by size. Assumes nothing.
 use Prim.Native.Nat.{ℕ, suc, _+_, _≤_}
-use mathlib.Core.Path.{_≡_}
 use mathlib.Core.List.{[], _++_}
 use mathlib.Core.Option.{Option, none, some}
+use mathlib.Core.Path.{_≡_}
 use native.Mathlib.Omega.{arith}
-use Rattle.typing.proofs.Base.{Within, within-nil, within-join, within-done, within-wide}
-use Rattle.rules.specs.Out.{anyTy, errorTy, found}
 use Rattle.question.specs.Tree.{Node, Row, after, afters, binary, call, cons, leaf, member, method, named, nil, size, sizes, unary}
 use Rattle.question.specs.declared.Header.{Header}
+use Rattle.rules.specs.Out.{anyTy, errorTy, found}
 use Rattle.symbol.specs.Symbols.{Symbols}
+use Rattle.typing.proofs.Base.{Within, within-nil, within-join, within-done, within-wide}
 use Rattle.typing.specs.Callee.{Callee, callOf, methodOf}
 use Rattle.typing.specs.Judge.{Judged, RowJudged, callStep, judge, judges, methodStep}
 

@@ -1,30 +1,30 @@
 -- A call resolves silently exactly as its clean rule says. Assumes nothing.
 use Prim.Native.Nat.{ℕ, suc, _≤_}
-use mathlib.Core.Path.{_≡_, refl, ap, sym, _∙_, subst}
-use mathlib.Core.Logic.{_≢_, _⊎_, inl, inr, _↔_}
+use borrow.Author.Tests.{eqb-true, eqb-false, ltb-false}
+use lib.Dec.{eqb, ltb}
 use mathlib.Core.Bool.{Bool, true, false}
 use mathlib.Core.List.{List, [], _∷_, _++_, nil≢cons, head-eq-of-cons-eq, tail-eq-of-cons-eq, List·Memᴰ, List·Memᴰ·head, List·Memᴰ·tail, List·Memᴰ·cases-cons, List·Memᴰ·not-nil}
+use mathlib.Core.Logic.{_≢_, _⊎_, inl, inr, _↔_}
 use mathlib.Core.Option.{Option, none, some}
+use mathlib.Core.Path.{_≡_, refl, ap, sym, _∙_, subst}
 use native.Mathlib.Omega.{arith}
-use lib.Dec.{eqb, ltb}
-use borrow.Author.Tests.{eqb-true, eqb-false, ltb-false}
-use Rattle.typing.proofs.Chosen.{wins-chosen, Stands, chosen-stands, chosen-nobody}
-use Rattle.ty.specs.Bytes.{Ty}
-use Rattle.ty.specs.Choose.{choose}
-use Rattle.rules.specs.Out.{errorTy}
-use Rattle.rules.specs.Diag.{diag}
 use Rattle.area.specs.Diagnostic.{Diag}
-use Rattle.symbol.specs.Symbols.{Overload, Param, Symbols}
+use Rattle.overload.proofs.Lists.{append-nil-left, append-nil-right, append-nils, some≢none}
 use Rattle.overload.specs.Arg.{Arg, Verdict, silent}
 use Rattle.overload.specs.Arity.{anyOwn}
-use Rattle.overload.specs.Score.{paramOf, score}
 use Rattle.overload.specs.Best.{Best, best, better, chosen, nobody}
 use Rattle.overload.specs.ByIndex.{absent, allUnknown, mismatches, unknownOne, unknowns}
 use Rattle.overload.specs.Resolve.{noneFits, resolve, resolveIn, settle, tieReport}
-use Rattle.overload.proofs.Lists.{append-nil-left, append-nil-right, append-nils, some≢none}
-use Rattle.typing.specs.Judge.{called}
-use Rattle.typing.specs.CleanCall.{AllKnown, ByIndex, ByScore, CleanArgs, Known, candidates}
+use Rattle.overload.specs.Score.{paramOf, score}
+use Rattle.rules.specs.Diag.{diag}
 use Rattle.rules.specs.Diagnostic.{tieDiag}
+use Rattle.rules.specs.Out.{errorTy}
+use Rattle.symbol.specs.Symbols.{Overload, Param, Symbols}
+use Rattle.ty.specs.Bytes.{Ty}
+use Rattle.ty.specs.Choose.{choose}
+use Rattle.typing.proofs.Chosen.{wins-chosen, Stands, chosen-stands, chosen-nobody}
+use Rattle.typing.specs.CleanCall.{AllKnown, ByIndex, ByScore, CleanArgs, Known, candidates}
+use Rattle.typing.specs.Judge.{called}
 
 -- known names
 known-found : (id : ℕ) (ps : List Param) → Known id ps → paramOf id ps ≡ none → ⊥

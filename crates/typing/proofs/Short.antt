@@ -1,37 +1,36 @@
 -- How long a rule's type is, where the table's types have at most 192 bytes. Assumes nothing.
-use Prim.Native.Nat.{ℕ, zero, suc, _+_, _≤_, _<_}
-use mathlib.Core.Path.{_≡_, refl, ap, sym, _∙_}
-use mathlib.Core.Logic.{_⊎_, inl, inr}
-use mathlib.Core.Bool.{Bool, true, false, _&&_, _||_, not}
-use mathlib.Core.List.{List, [], _∷_, _++_, List·Memᴰ, List·Memᴰ·head, List·Memᴰ·tail, List·Memᴰ·cases-cons, List·Memᴰ·not-nil}
-use mathlib.Core.Option.{Option, none, some}
-use native.Mathlib.Omega.{arith}
+use Prim.Native.Nat.{ℕ, zero, suc, _+_, _≤_}
 use lib.Dec.{eqb, leb, ltb}
-use lib.ListN.{length, drop, length-drop}
+use lib.ListN.{length, length-drop}
+use mathlib.Core.Bool.{Bool, true, false, _&&_}
+use mathlib.Core.List.{List, [], _∷_, List·Memᴰ, List·Memᴰ·head, List·Memᴰ·tail, List·Memᴰ·cases-cons}
+use mathlib.Core.Logic.{_⊎_, inl, inr}
+use mathlib.Core.Option.{Option, none, some}
+use mathlib.Core.Path.{_≡_, refl, ap, sym}
+use native.Mathlib.Omega.{arith}
+use Rattle.overload.proofs.Lists.{some≢none}
+use Rattle.overload.specs.Arg.{Arg}
+use Rattle.overload.specs.Arity.{anyOwn, own, usable, fits, fitting}
+use Rattle.overload.specs.Best.{Best, nobody, best, better, chosen}
+use Rattle.overload.specs.Resolve.{noneFits, settle, resolveIn, resolve}
+use Rattle.overload.specs.Score.{score}
+use Rattle.question.specs.declared.Header.{Header}
+use Rattle.rules.specs.Binary.{addOut, arithmeticOut, operatorOut, builtinBinary, binaryOut}
+use Rattle.rules.specs.Member.{variableMember, pairMember, collectionMember, stringMember, elementMember, mapMember, firstFunction, fieldOr, lookupVar, classMember, namedMember, kindMember, baseMember, memberOut}
+use Rattle.rules.specs.Operator.{geOp}
+use Rattle.rules.specs.OperatorMethod.{methodId, hasOperator, firstResult, atClass, climb, operatorReturn}
+use Rattle.rules.specs.Out.{Report, Out, clean, plain, fails, checked, found}
+use Rattle.rules.specs.Unary.{unaryOf, unaryOut}
+use Rattle.symbol.specs.Symbols.{Overload, Symbols}
+use Rattle.ty.proofs.Choice.{by-choice}
+use Rattle.ty.proofs.Held.{non-null-length}
+use Rattle.ty.specs.Bytes.{Ty, kindOf, nameOf, isArray, innerOf, nonNull}
 use Rattle.ty.specs.Choose.{choose}
 use Rattle.ty.specs.Kind.{namedKind}
 use Rattle.ty.specs.Name.{noId}
-use Rattle.ty.specs.Bytes.{Ty, kindOf, nameOf, isArray, innerOf, nonNull}
 use Rattle.ty.specs.Read.{longestType}
-use Rattle.ty.proofs.Choice.{by-choice}
-use Rattle.ty.proofs.Held.{non-null-length}
-use Rattle.symbol.specs.Symbols.{Overload, Symbols}
-use Rattle.question.specs.declared.Header.{Header}
-use Rattle.rules.specs.Operator.{geOp}
-use Rattle.rules.specs.Out.{Report, Out, anyTy, clean, plain, fails, checked, behind, found}
-use Rattle.rules.specs.Made.{namedTy}
-use Rattle.rules.specs.OperatorMethod.{methodId, hasOperator, firstResult, atClass, climb, operatorReturn}
-use Rattle.rules.specs.Binary.{addOut, arithmeticOut, operatorOut, builtinBinary, binaryOut}
-use Rattle.rules.specs.Unary.{unaryOf, unaryOut}
-use Rattle.rules.specs.Member.{variableMember, pairMember, collectionMember, stringMember, elementMember, mapMember, firstFunction, fieldOr, lookupVar, classMember, namedMember, kindMember, memberReport, baseMember, memberOut}
-use Rattle.overload.specs.Arg.{Arg}
-use Rattle.overload.specs.Arity.{anyOwn, own, usable, fits, fitting}
-use Rattle.overload.specs.Score.{score}
-use Rattle.overload.specs.Best.{Best, nobody, best, better, chosen}
-use Rattle.overload.specs.Resolve.{noneFits, settle, resolveIn, resolve}
-use Rattle.overload.proofs.Lists.{some≢none}
-use Rattle.typing.specs.Callee.{Callee, callIn, callOf, methodIn, methodBy, methodOf, baseName}
 use Rattle.typing.proofs.Base.{some-inj}
+use Rattle.typing.specs.Callee.{Callee, callIn, callOf, methodIn, methodBy, methodOf, baseName}
 
 -- the results of some functions
 abbrev pub Results : List Overload → Type 0
@@ -62,7 +61,7 @@ inner-length t = by-choice (λ (u : Ty). length u ≤ length t) (isArray t) (λ 
 tail-results : {o : Overload} {os : List Overload} → Results (o ∷ os) → Results os
 tail-results h x m = h x (List·Memᴰ·tail m)
 
-cons-results : {o : Overload} {os : List Overload} → length (o .result) ≤ longestType → Results os → Results (o ∷ os)
+pub cons-results : {o : Overload} {os : List Overload} → length (o .result) ≤ longestType → Results os → Results (o ∷ os)
 cons-results {o} {os} p h x m = go (List·Memᴰ·cases-cons m)
   where
     go : (x ≡ o) ⊎ List·Memᴰ x os → length (x .result) ≤ longestType

@@ -1,20 +1,20 @@
 -- Typings once more, by recursion over the tree: a device of the proofs. Assumes nothing.
 use Prim.Native.Nat.{ℕ, suc, _≤_, _<_}
-use mathlib.Core.Path.{_≡_}
-use mathlib.Core.Logic.{_≢_, _⊎_}
 use mathlib.Core.List.{List, [], _∷_}
+use mathlib.Core.Logic.{_≢_, _⊎_}
 use mathlib.Core.Option.{Option, none, some}
-use Rattle.ty.specs.Bytes.{Ty}
-use Rattle.rules.specs.Out.{anyTy, clean, errorTy}
+use mathlib.Core.Path.{_≡_}
+use Rattle.overload.specs.Arg.{Arg}
 use Rattle.question.specs.Tree.{Node, Row, after, afters, binary, call, cons, leaf, member, method, nameOf, named, nil, unary}
 use Rattle.question.specs.declared.Header.{Header}
+use Rattle.rules.specs.Binary.{binaryOut}
+use Rattle.rules.specs.Member.{memberOut}
+use Rattle.rules.specs.Out.{anyTy, clean, errorTy}
+use Rattle.rules.specs.Unary.{unaryOut}
 use Rattle.symbol.specs.Symbols.{Symbols}
-use Rattle.overload.specs.Arg.{Arg}
+use Rattle.ty.specs.Bytes.{Ty}
 use Rattle.typing.specs.CleanCall.{CleanCall, CleanMethod, HasList}
 use Rattle.typing.specs.Visits.{Choice}
-use Rattle.rules.specs.Binary.{binaryOut}
-use Rattle.rules.specs.Unary.{unaryOut}
-use Rattle.rules.specs.Member.{memberOut}
 
 -- the choice gives number n the type T, which is not Error
 pub record Has (τ : Choice) (n : ℕ) (T : Ty) : Type 0 where

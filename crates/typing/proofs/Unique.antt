@@ -1,25 +1,25 @@
 -- Uniqueness and decidability of typings, over any rules whose calls resolve as their clean rule says. Assumes nothing.
 use Prim.Native.Nat.{ℕ, _≤_, _<_}
-use mathlib.Core.Path.{_≡_, refl, ap, sym, _∙_}
-use mathlib.Core.Logic.{_≢_, _⊎_, inl, inr, _↔_}
 use mathlib.Core.Bool.{Bool, true, not}
 use mathlib.Core.List.{List, [], _∷_, List·Memᴰ, List·Memᴰ·cases-cons, List·Memᴰ·not-nil, List·Memᴰ·head, List·Memᴰ·tail}
+use mathlib.Core.Logic.{_≢_, _⊎_, inl, inr, _↔_}
+use mathlib.Core.Path.{_≡_, refl, ap, sym, _∙_}
 use native.Mathlib.Omega.{arith}
-use Rattle.typing.proofs.Base.{and-both, not-same, noDiag-nil, nil-noDiag, split}
-use Rattle.typing.proofs.Range.{node-within}
-use Rattle.typing.proofs.Forward.{Agrees, forward}
-use Rattle.typing.proofs.Back.{back}
-use Rattle.ty.specs.Bytes.{sameBytes}
-use Rattle.rules.specs.Out.{errorTy}
 use Rattle.question.specs.Tree.{Node, after}
 use Rattle.question.specs.declared.Header.{Header}
+use Rattle.rules.specs.Out.{errorTy}
 use Rattle.symbol.specs.Symbols.{Symbols}
 use Rattle.ty.proofs.Choice.{and-left, and-right}
+use Rattle.ty.proofs.Same.{ne-differ}
+use Rattle.ty.specs.Bytes.{sameBytes}
+use Rattle.typing.proofs.Back.{back}
+use Rattle.typing.proofs.Base.{and-both, not-same, noDiag-nil, nil-noDiag, split}
+use Rattle.typing.proofs.Forward.{Agrees, forward}
+use Rattle.typing.proofs.Range.{node-within}
+use Rattle.typing.proofs.Structural.{Structural}
 use Rattle.typing.specs.Judge.{Given, judge}
 use Rattle.typing.specs.Mark.{noDiag, noError, passes, typeIn}
 use Rattle.typing.specs.Visits.{Choice}
-use Rattle.typing.proofs.Structural.{Structural}
-use Rattle.ty.proofs.Same.{ne-differ}
 
 -- no visited node has type Error, as a statement on each
 abbrev pub NoErrorIn : List Given → Type 0

@@ -1,23 +1,23 @@
 -- A typing gives a type to exactly the numbers that it visits. Assumes nothing.
 use Prim.Native.Nat.{ℕ, suc, _≤_, _<_}
-use mathlib.Core.Path.{_≡_, sym, _∙_, subst}
-use mathlib.Core.Logic.{_≢_, _⊎_, inl, inr, _↔_}
 use mathlib.Core.List.{List}
+use mathlib.Core.Logic.{_≢_, _⊎_, inl, inr, _↔_}
 use mathlib.Core.Option.{some}
+use mathlib.Core.Path.{_≡_, sym, _∙_, subst}
 use native.Mathlib.Omega.{arith}
-use Rattle.typing.proofs.Base.{split}
-use Rattle.ty.specs.Bytes.{Ty}
-use Rattle.rules.specs.Out.{errorTy}
+use Rattle.overload.proofs.Lists.{some≢none}
+use Rattle.overload.specs.Arg.{Arg}
 use Rattle.question.specs.Tree.{Node, Row, after, afters, binary, call, cons, leaf, member, method, named, nil, unary}
 use Rattle.question.specs.declared.Header.{Header}
+use Rattle.rules.specs.Out.{errorTy}
 use Rattle.symbol.specs.Symbols.{Symbols}
-use Rattle.overload.specs.Arg.{Arg}
-use Rattle.overload.proofs.Lists.{some≢none}
+use Rattle.ty.specs.Bytes.{Ty}
+use Rattle.typing.proofs.Base.{some-inj}
+use Rattle.typing.proofs.Base.{split}
+use Rattle.typing.proofs.Calls.{list-law, method-law}
+use Rattle.typing.proofs.Structural.{Has, NoCall, RowTyped, Structural, Typed, Unvisited, WithArgs}
 use Rattle.typing.specs.CleanCall.{CleanMethod, HasList}
 use Rattle.typing.specs.Visits.{Choice, ListedBy, RowVisits, Visits}
-use Rattle.typing.proofs.Structural.{Has, NoCall, RowTyped, Structural, Typed, Unvisited, WithArgs}
-use Rattle.typing.proofs.Base.{some-inj}
-use Rattle.typing.proofs.Calls.{list-law, method-law}
 
 -- a number that gets a type other than Error
 pub record Typeable (τ : Choice) (k : ℕ) : Type 0 where

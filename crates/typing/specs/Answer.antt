@@ -1,20 +1,19 @@
 -- The answer and the lent buffer, for any table bytes, question bytes and buffer length. Document 01, "Answer" and "Refused, and by whose doing": table first,
 -- then the question; 13, then 12. All refusals answer pass mark 0, length 0, count 0, zeros everywhere.
 use Prim.Native.Nat.{ℕ, _*_}
-use mathlib.Core.Bool.{Bool}
-use mathlib.Core.List.{List}
 use lib.Dec.{eqb, ltb}
 use lib.ListN.{length, replicate}
-use Rattle.ty.specs.Choose.{choose}
+use mathlib.Core.List.{List}
 use Rattle.area.specs.Diagnostic.{recordLength, records}
 use Rattle.area.specs.Padding.{padded}
-use Rattle.symbol.specs.Table.{recordsOf, nameCount}
-use Rattle.symbol.specs.Lookup.{symbolsOf}
-use Rattle.symbol.specs.Refused.{tableFault}
-use Rattle.question.specs.declared.Names.{Names}
 use Rattle.question.specs.Header.{headerOf}
 use Rattle.question.specs.Parse.{treeOf}
 use Rattle.question.specs.Refused.{questionFault}
+use Rattle.question.specs.declared.Names.{Names}
+use Rattle.symbol.specs.Lookup.{symbolsOf}
+use Rattle.symbol.specs.Refused.{tableFault}
+use Rattle.symbol.specs.Table.{recordsOf, nameCount}
+use Rattle.ty.specs.Choose.{choose}
 use Rattle.typing.specs.Judge.{Judged, judge}
 use Rattle.typing.specs.Mark.{passes, markOf}
 

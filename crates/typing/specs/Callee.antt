@@ -1,16 +1,16 @@
 -- The list of functions that a call finds, and what is reported at the call before its arguments are visited.
 use Prim.Native.Nat.{ℕ}
+use lib.Dec.{eqb}
 use mathlib.Core.List.{List, [], _∷_}
 use mathlib.Core.Option.{Option, none, some}
-use lib.Dec.{eqb}
+use Rattle.overload.specs.Before.{callReports, methodReports}
+use Rattle.question.specs.declared.Header.{Header}
+use Rattle.rules.specs.Out.{Report}
+use Rattle.symbol.specs.Symbols.{Overload, Symbols}
+use Rattle.ty.specs.Bytes.{Ty, kindOf, nameOf, nonNull}
 use Rattle.ty.specs.Choose.{choose}
 use Rattle.ty.specs.Kind.{namedKind}
 use Rattle.ty.specs.Name.{noId}
-use Rattle.ty.specs.Bytes.{Ty, kindOf, nameOf, nonNull}
-use Rattle.symbol.specs.Symbols.{Overload, Symbols}
-use Rattle.question.specs.declared.Header.{Header}
-use Rattle.rules.specs.Out.{Report}
-use Rattle.overload.specs.Before.{callReports, methodReports}
 
 pub record Callee : Type 0 where
   pub before : List Report

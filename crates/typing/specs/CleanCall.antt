@@ -1,20 +1,20 @@
 -- The clean rules of calls. Document 01, "Clean rules". Only arity, acceptance and scoring are shared with the definition of `check_call_args`.
 use Prim.Native.Nat.{ℕ, _<_}
-use mathlib.Core.Path.{_≡_}
-use mathlib.Core.Logic.{_⊎_}
-use mathlib.Core.Bool.{Bool, true, false}
-use mathlib.Core.List.{List, [], _∷_, _++_, List·Memᴰ}
-use mathlib.Core.Option.{Option, none, some}
 use lib.ListN.{length}
-use Rattle.ty.specs.Name.{noId}
-use Rattle.ty.specs.Bytes.{Ty}
-use Rattle.symbol.specs.Symbols.{Param, Overload, Symbols}
-use Rattle.question.specs.declared.Header.{Header}
-use Rattle.rules.specs.Access.{blocked}
+use mathlib.Core.Bool.{true, false}
+use mathlib.Core.List.{List, [], _∷_, _++_, List·Memᴰ}
+use mathlib.Core.Logic.{_⊎_}
+use mathlib.Core.Option.{none, some}
+use mathlib.Core.Path.{_≡_}
 use Rattle.overload.specs.Arg.{Arg}
 use Rattle.overload.specs.Arity.{usable, fitting}
-use Rattle.overload.specs.Score.{score}
 use Rattle.overload.specs.ByIndex.{mismatches}
+use Rattle.overload.specs.Score.{score}
+use Rattle.question.specs.declared.Header.{Header}
+use Rattle.rules.specs.Access.{blocked}
+use Rattle.symbol.specs.Symbols.{Param, Overload, Symbols}
+use Rattle.ty.specs.Bytes.{Ty}
+use Rattle.ty.specs.Name.{noId}
 use Rattle.typing.specs.Callee.{baseName}
 
 -- "suspend allowed"

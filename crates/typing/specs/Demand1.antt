@@ -1,12 +1,12 @@
 -- Demand 1, of an answer a and a buffer b afterwards, where `lent` bytes were lent.
 use Prim.Native.Nat.{ℕ, _*_, _≤_, _<_}
-use mathlib.Core.Path.{_≡_}
-use mathlib.Core.Logic.{_≢_, _↔_}
-use mathlib.Core.List.{List}
 use lib.ListN.{length}
+use mathlib.Core.List.{List}
+use mathlib.Core.Logic.{_≢_, _↔_}
+use mathlib.Core.Path.{_≡_}
 use Rattle.area.specs.Diagnostic.{recordLength}
-use Rattle.symbol.specs.Refused.{tableFault}
 use Rattle.question.specs.Refused.{questionFault}
+use Rattle.symbol.specs.Refused.{tableFault}
 use Rattle.typing.specs.Answer.{Answer, answerBytes, zeros, namesOf, judgementOf}
 
 pub record Demand1 (t q : List ℕ) (lent : ℕ) (a : Answer) (b : List ℕ) : Type 0 where

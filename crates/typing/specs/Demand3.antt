@@ -1,20 +1,20 @@
 -- Demand 3, of an answer a and a buffer b afterwards, where `lent` bytes were lent, for a table t and a question q.
 use Prim.Native.Nat.{ℕ}
-use mathlib.Core.Path.{_≡_}
-use mathlib.Core.Logic.{_≢_, _↔_}
-use mathlib.Core.List.{List, [], List·Memᴰ}
-use mathlib.Core.Option.{Option, some}
 use lib.ListN.{length}
-use Rattle.ty.specs.Bytes.{Ty}
+use mathlib.Core.List.{List, [], List·Memᴰ}
+use mathlib.Core.Logic.{_≢_, _↔_}
+use mathlib.Core.Option.{some}
+use mathlib.Core.Path.{_≡_}
 use Rattle.area.specs.Padding.{padded}
-use Rattle.symbol.specs.Lookup.{symbolsOf}
 use Rattle.question.specs.Header.{headerOf}
 use Rattle.question.specs.Parse.{treeOf}
 use Rattle.rules.specs.Out.{errorTy}
-use Rattle.typing.specs.Judge.{Given, Judged}
+use Rattle.symbol.specs.Lookup.{symbolsOf}
+use Rattle.ty.specs.Bytes.{Ty}
 use Rattle.typing.specs.Answer.{Answer, answerBytes, zeros, judgementOf, answerOf, bufferOf}
-use Rattle.typing.specs.Visits.{Choice, Visits}
+use Rattle.typing.specs.Judge.{Given, Judged}
 use Rattle.typing.specs.Typing.{IsTyping}
+use Rattle.typing.specs.Visits.{Choice, Visits}
 
 -- τ is a typing of the question
 abbrev pub TypingOf : List ℕ → List ℕ → Choice → Type 0

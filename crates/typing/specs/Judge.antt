@@ -3,18 +3,18 @@
 use Prim.Native.Nat.{ℕ, suc}
 use mathlib.Core.List.{List, [], _∷_, _++_}
 use mathlib.Core.Option.{Option, none, some}
-use Rattle.ty.specs.Bytes.{Ty}
 use Rattle.area.specs.Diagnostic.{Diag}
-use Rattle.symbol.specs.Symbols.{Symbols}
-use Rattle.question.specs.declared.Header.{Header}
-use Rattle.question.specs.Tree.{Node, leaf, binary, unary, named, member, call, method, Row, nil, cons, after, nameOf}
-use Rattle.rules.specs.Out.{Report, Out, errorTy, anyTy}
-use Rattle.rules.specs.Diag.{at}
-use Rattle.rules.specs.Binary.{binaryOut}
-use Rattle.rules.specs.Unary.{unaryOut}
-use Rattle.rules.specs.Member.{memberOut}
 use Rattle.overload.specs.Arg.{Arg, Verdict}
 use Rattle.overload.specs.Resolve.{resolve}
+use Rattle.question.specs.Tree.{Node, leaf, binary, unary, named, member, call, method, Row, nil, cons, after, nameOf}
+use Rattle.question.specs.declared.Header.{Header}
+use Rattle.rules.specs.Binary.{binaryOut}
+use Rattle.rules.specs.Diag.{at}
+use Rattle.rules.specs.Member.{memberOut}
+use Rattle.rules.specs.Out.{Report, Out, errorTy, anyTy}
+use Rattle.rules.specs.Unary.{unaryOut}
+use Rattle.symbol.specs.Symbols.{Symbols}
+use Rattle.ty.specs.Bytes.{Ty}
 use Rattle.typing.specs.Callee.{Callee, callOf, methodOf}
 
 -- a node and the type that it is given

@@ -1,14 +1,14 @@
 -- The pass mark: no diagnostic, warnings included, and no visited node of type Error. Document 01, "Clean rules": in a judgement, visited are the nodes to
 -- which the definition gives a type; types are the same when their bytes are.
 use Prim.Native.Nat.{ℕ}
+use lib.Dec.{eqb}
 use mathlib.Core.Bool.{Bool, true, false, not, _&&_}
 use mathlib.Core.List.{List, [], _∷_}
 use mathlib.Core.Option.{Option, none, some}
-use lib.Dec.{eqb}
-use Rattle.ty.specs.Choose.{choose}
-use Rattle.ty.specs.Bytes.{Ty, sameBytes}
 use Rattle.area.specs.Diagnostic.{Diag}
 use Rattle.rules.specs.Out.{errorTy}
+use Rattle.ty.specs.Bytes.{Ty, sameBytes}
+use Rattle.ty.specs.Choose.{choose}
 use Rattle.typing.specs.Judge.{Given, Judged}
 
 -- the type that a judgement gives to a number

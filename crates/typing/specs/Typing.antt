@@ -1,19 +1,19 @@
 -- Typings. Demand 3: a typing is any choice of types, whoever made it, that gives each visited node a type other than Error and obeys document 01's clean
 -- rules at each of them. Document 01, "Clean rules": nodes not visited get no type.
 use Prim.Native.Nat.{ℕ, suc}
-use mathlib.Core.Path.{_≡_}
-use mathlib.Core.Logic.{_≢_, _⊎_}
 use mathlib.Core.List.{List, [], _∷_}
-use mathlib.Core.Option.{Option, none, some}
-use Rattle.ty.specs.Bytes.{Ty}
-use Rattle.symbol.specs.Symbols.{Symbols}
-use Rattle.question.specs.declared.Header.{Header}
-use Rattle.question.specs.Tree.{Node, leaf, binary, unary, named, member, call, method, Row, nil, cons, after, nameOf}
-use Rattle.rules.specs.Out.{errorTy, anyTy, clean}
-use Rattle.rules.specs.Binary.{binaryOut}
-use Rattle.rules.specs.Unary.{unaryOut}
-use Rattle.rules.specs.Member.{memberOut}
+use mathlib.Core.Logic.{_≢_, _⊎_}
+use mathlib.Core.Option.{none, some}
+use mathlib.Core.Path.{_≡_}
 use Rattle.overload.specs.Arg.{Arg}
+use Rattle.question.specs.Tree.{Node, leaf, binary, unary, named, member, call, method, Row, nil, cons, after, nameOf}
+use Rattle.question.specs.declared.Header.{Header}
+use Rattle.rules.specs.Binary.{binaryOut}
+use Rattle.rules.specs.Member.{memberOut}
+use Rattle.rules.specs.Out.{errorTy, anyTy, clean}
+use Rattle.rules.specs.Unary.{unaryOut}
+use Rattle.symbol.specs.Symbols.{Symbols}
+use Rattle.ty.specs.Bytes.{Ty}
 use Rattle.typing.specs.CleanCall.{HasList, CleanCall, CleanMethod}
 use Rattle.typing.specs.Visits.{Choice, Visits}
 

@@ -1,12 +1,12 @@
 -- Which numbers a choice of types visits. Document 01, "Clean rules": the root and every child of a visited node, except the arguments of a method call whose
 -- base, by the type the typing gives the object, isn't Named or has no list.
 use Prim.Native.Nat.{ℕ, suc}
-use mathlib.Core.Path.{_≡_}
 use mathlib.Core.Logic.{_⊎_}
 use mathlib.Core.Option.{Option, some}
-use Rattle.ty.specs.Bytes.{Ty}
-use Rattle.symbol.specs.Symbols.{Symbols}
+use mathlib.Core.Path.{_≡_}
 use Rattle.question.specs.Tree.{Node, leaf, binary, unary, named, member, call, method, Row, nil, cons, after}
+use Rattle.symbol.specs.Symbols.{Symbols}
+use Rattle.ty.specs.Bytes.{Ty}
 use Rattle.typing.specs.CleanCall.{HasList}
 
 -- a choice of types: each number's, or none

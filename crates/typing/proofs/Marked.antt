@@ -1,0 +1,158 @@
+-- Document 01's marked cases (◆), with its words beside each, and the sample of its "Answer", computed from the definitions. Assumes nothing.
+use Prim.Native.Nat.{ℕ}
+use lib.ListN.{replicate}
+use mathlib.Core.Bool.{true, false}
+use mathlib.Core.List.{List, [], _∷_, _++_, map}
+use mathlib.Core.Option.{Option, none, some}
+use mathlib.Core.Path.{_≡_, refl}
+use Rattle.area.specs.Diagnostic.{recordOf, records}
+use Rattle.area.specs.Padding.{padded}
+use Rattle.overload.specs.Arg.{Arg}
+use Rattle.overload.specs.Arity.{anyOwn, own, usable, required, endsVararg, fits, fitting}
+use Rattle.overload.specs.Before.{suspendReport}
+use Rattle.overload.specs.Best.{better, chosen}
+use Rattle.overload.specs.ByIndex.{absent, unknownOne, unknowns, allUnknown, mismatchOne, mismatches}
+use Rattle.overload.specs.Resolve.{noneFits, tieReport, settle, resolveIn, resolve}
+use Rattle.overload.specs.Score.{paramOf, placeOf, markAt, markOne, marksFrom, unmarkedFrom, plus as plus·, compared, comparedWith, namedOne, namedScore, unnamedOne, unnamedScore, score}
+use Rattle.question.specs.Header.{headerOf}
+use Rattle.question.specs.Parse.{first as first·, rest as rest·, takeRow, dropRow, onto, rowAt, treeOf}
+use Rattle.question.specs.Read.{leafOf, nodeOf, nodeIn, nodeAt, ownBytes, children as children·question}
+use Rattle.question.specs.Refused.{headerFault, idFault, endlessFault, nodeFault, moreFault, endFault, nodesFault, treeFault, questionFault}
+use Rattle.question.specs.Tree.{after, nameOf}
+use Rattle.rules.specs.Accept.{paramAccepts}
+use Rattle.rules.specs.Access.{blocked, accessReport}
+use Rattle.rules.specs.Assign.{assignRule, assignIn, canAssign}
+use Rattle.rules.specs.Binary.{addOut, arithmeticOut, operatorOut, builtinBinary, binaryOut}
+use Rattle.rules.specs.Diag.{at as at·}
+use Rattle.rules.specs.Member.{variableMember, pairMember, collectionMember, stringMember, elementMember, mapMember, firstFunction, fieldOr, classMember, namedMember, kindMember, visibilityReport, memberReport, baseMember, memberOut}
+use Rattle.rules.specs.OperatorMethod.{firstResult, atClass, climb, operatorReturn}
+use Rattle.rules.specs.Out.{unless, found as found·}
+use Rattle.rules.specs.Unary.{unaryOf, unaryOut}
+use Rattle.symbol.specs.Front.{plainHead, orNone, goodByte, goodBytes, nameHead, classHead, operatorsHead, among, paramStep, runParams, paramsRead, functionWith, functionHead, fieldHead, visibilityHead, suspendHead, variantHead, headOf}
+use Rattle.symbol.specs.Lookup.{recordsWith, typeLength, paramsFrom, overloadOf, namesIn, capitalIn, symbolsIn}
+use Rattle.symbol.specs.Lookup.{symbolsOf}
+use Rattle.symbol.specs.Refused.{sameKey, hasKey, hasClass, superLate, recordFault, faultFrom, tableFault}
+use Rattle.symbol.specs.Spelling.{builtinNames, spelled}
+use Rattle.symbol.specs.Subclass.{climbs, isSubclass}
+use Rattle.symbol.specs.Table.{recordsFrom, countOf}
+use Rattle.ty.specs.Bytes.{innerOf, nonNull, sameBytes}
+use Rattle.ty.specs.Choose.{choose}
+use Rattle.ty.specs.Name.{noId}
+use Rattle.ty.specs.Read.{bodyLength, children, idIn, itemOf, itemAt, stopped, readFrom, readType}
+use Rattle.typing.proofs.Samples.{letter, class, noSuper, operators, function, param, script, leaf, binary, unary, named, call, int, long, float, double, string, any, error, nullable, namedClass, diagnostic, Passes, Fails}
+use Rattle.typing.specs.Answer.{Answer, refused}
+use Rattle.typing.specs.Answer.{faultOf, answered, answerOf, bufferOf}
+use Rattle.typing.specs.Callee.{baseName, callIn, methodIn, methodBy}
+use Rattle.typing.specs.Judge.{callStep, methodStep, judge}
+use Rattle.typing.specs.Mark.{noError, noDiag, passes}
+
+-- unnamed arguments of some types
+abbrev unnamed : List (List ℕ) → List Arg
+unnamed ts = map (λ t. record { name = none; ty = t; node = 0 }) ts
+
+-- the scores of the ownerless functions of a name
+scoresOf : List ℕ → ℕ → List (List ℕ) → List (Option ℕ)
+scoresOf t id ts = map (λ o. score (symbolsOf t) o (unnamed ts)) (symbolsOf t .functionsOf noId id)
+
+-- a number, and the lent bytes afterwards
+record Fits (lent : ℕ) (a : Answer) (b : List ℕ) (number : ℕ) (diags : List ℕ) : Type 0 where
+  said : a .number ≡ number
+  left : b ≡ padded lent diags
+
+-- f(p): Int, with one parameter of a type; f is name 40, p is 41
+abbrev taking : List ℕ → List ℕ
+taking ty = letter 102 ++ (letter 112 ++ function 40 int 1 (param 41 ty))
+
+-- x is 40, y is 41, z is 42; y is x's superclass, and z is y's. x and z have operator sets, z's with plus; y has one with the mask, where there is one
+abbrev chain : List ℕ → List ℕ
+chain sets = letter 120 ++ (letter 121 ++ (letter 122 ++ (class 42 noSuper ++ (class 41 (42 ∷ 0 ∷ []) ++ (class 40 (41 ∷ 0 ∷ []) ++ sets)))))
+
+-- f, p and q are 40, 41 and 42: f(p Int, q String) and f(p Int, q Int)
+abbrev first : List ℕ
+first = letter 102 ++ (letter 112 ++ (letter 113 ++ function 40 int 2 (param 41 int ++ param 42 string)))
+
+abbrev two : List ℕ
+two = first ++ function 40 int 2 (param 41 int ++ param 42 int)
+
+-- f, a and b are 40, 41 and 42: f(a Int, b Int)
+abbrev ints : List ℕ
+ints = letter 102 ++ (letter 97 ++ (letter 98 ++ function 40 int 2 (param 41 int ++ param 42 int)))
+
+abbrev plus : List ℕ → List ℕ → List ℕ
+plus l r = script (binary 0 (leaf l) (leaf r))
+
+pub record Marked : Type 0 where
+  -- "◆ Nullable(Nothing), the null literal, assigns to Int."
+  null-to-int : canAssign (nullable (10 ∷ [])) int ≡ true
+  null-argument : Passes (taking int) (script (call 40 1 (leaf (nullable (10 ∷ []))))) int
+  -- "◆ Nullable(String) does not."
+  nullable-string : canAssign (nullable string) int ≡ false
+  nullable-argument : Fails (taking int) (script (call 40 1 (leaf (nullable string)))) int (diagnostic 17 1 1)
+  -- "◆ Named A does not assign to Named B although B is A's superclass;"
+  superclass : canAssign (namedClass 40) (namedClass 41) ≡ false
+  superclass-argument :
+      Fails (letter 120 ++ (letter 121 ++ (letter 102 ++ (letter 112 ++ (class 41 noSuper ++ (class 40 (41 ∷ 0 ∷ []) ++ function 42 int 1 (param 43 (namedClass 41))))))))
+      (script (call 42 1 (leaf (namedClass 40)))) int (diagnostic 17 1 1)
+  -- "◆ Long + Long is Int."
+  long-plus : Passes [] (plus long long) int
+  -- "◆ Long − Long is Long."
+  long-minus : Passes [] (script (binary 1 (leaf long) (leaf long))) long
+  -- "◆ Double + Double is Float."
+  double-plus : Passes [] (plus double double) float
+  -- "◆ Any + Int is String."
+  any-plus : Passes [] (plus any int) string
+  -- "◆ The climb stops at a class without an operator set, even if its superclass has one."
+  climb-stops : Fails (chain (operators 40 2 ++ operators 42 1)) (plus (namedClass 40) (namedClass 40)) error (diagnostic 2 0 0)
+  -- (and goes on past one with an operator set; "A method without a function gives Any.")
+  climb-goes : Passes (chain (operators 40 2 ++ (operators 41 2 ++ operators 42 1))) (plus (namedClass 40) (namedClass 40)) any
+  -- "◆ NotNull gives Error and a diagnostic on Int;"
+  not-null : Fails [] (script (unary 6 (leaf int))) error (diagnostic 13 0 0)
+  -- "◆ Overloads f(Int, String) and f(Int, Int) called f(Int, String): neither matches, diagnostic 18."
+  no-match : Fails two (script (call 40 2 (leaf int ++ leaf string))) error (diagnostic 18 0 0)
+  -- "◆ Called f(Int, Int): both match with 4, a tie of two."
+  tie : Fails two (script (call 40 2 (leaf int ++ leaf int))) int (diagnostic 19 0 2)
+  scores : scoresOf two 40 (int ∷ int ∷ []) ≡ some 4 ∷ some 4 ∷ []
+  -- "With f(Int, String) as the only overload, f(Int, String) matches nothing and passes by the check by index"
+  only : Passes first (script (call 40 2 (leaf int ++ leaf string))) int
+  only-scores : scoresOf first 40 (int ∷ string ∷ []) ≡ none ∷ []
+  -- "◆ f(p Int, q String) called f(q = Int, String) matches nothing, yet the only fitting overload is then checked by index and passes silently."
+  by-index : Passes first (script (call 40 2 (named 42 (leaf int) ++ leaf string))) int
+  -- "◆ f(a Int, b Int) called f(a = Int, a = Int) matches."
+  twice-named : Passes ints (script (call 40 2 (named 41 (leaf int) ++ named 41 (leaf int)))) int
+  -- "Bytes (hex) 00 00 FF FF FF FF 00 02 06 00 00 print `0 0 1 15 1`, then `13 0 0`."
+  sample : answerOf [] (255 ∷ 255 ∷ 255 ∷ 255 ∷ 0 ∷ 2 ∷ 6 ∷ 0 ∷ 0 ∷ []) 65535
+      ≡ record { number = 0; pass = 0; ty = 21 ∷ replicate 255 0; len = 1; count = 1 }
+  -- "(one diagnostic: 5 bytes pass, 4 don't)"
+  five : Fits 5 (answerOf [] (script (unary 6 (leaf int))) 5) (bufferOf [] (script (unary 6 (leaf int))) 5) 0 (diagnostic 13 0 0)
+  four : Fits 4 (answerOf [] (script (unary 6 (leaf int))) 4) (bufferOf [] (script (unary 6 (leaf int))) 4) 12 []
+  -- "No bytes print `8 0 0 - 0`."
+  nothing : answerOf [] [] 65535 ≡ refused 8
+
+pub marked : Marked
+unfolding scoresOf innerOf nonNull sameBytes choose bodyLength children idIn itemOf itemAt stopped readFrom readType plainHead orNone goodByte goodBytes nameHead classHead operatorsHead among paramStep runParams paramsRead functionWith functionHead fieldHead visibilityHead suspendHead variantHead headOf recordsWith typeLength paramsFrom overloadOf namesIn capitalIn symbolsIn sameKey hasKey hasClass superLate recordFault faultFrom tableFault builtinNames spelled climbs isSubclass recordsFrom countOf headerOf first· rest· takeRow dropRow onto rowAt treeOf leafOf nodeOf nodeIn nodeAt ownBytes children·question headerFault idFault endlessFault nodeFault moreFault endFault nodesFault treeFault questionFault after nameOf recordOf records padded paramAccepts blocked accessReport assignRule assignIn canAssign addOut arithmeticOut operatorOut builtinBinary binaryOut at· variableMember pairMember collectionMember stringMember elementMember mapMember firstFunction fieldOr classMember namedMember kindMember visibilityReport memberReport baseMember memberOut firstResult atClass climb operatorReturn unless found· unaryOf unaryOut anyOwn own usable required endsVararg fits fitting suspendReport better chosen absent unknownOne unknowns allUnknown mismatchOne mismatches noneFits tieReport settle resolveIn resolve paramOf placeOf markAt markOne marksFrom unmarkedFrom plus· compared comparedWith namedOne namedScore unnamedOne unnamedScore score faultOf answered answerOf bufferOf baseName callIn methodIn methodBy callStep methodStep judge noError noDiag passes
+marked = record {
+  null-to-int = refl;
+  null-argument = record { answer = refl; buffer = refl };
+  nullable-string = refl;
+  nullable-argument = record { answer = refl; buffer = refl };
+  superclass = refl;
+  superclass-argument = record { answer = refl; buffer = refl };
+  long-plus = record { answer = refl; buffer = refl };
+  long-minus = record { answer = refl; buffer = refl };
+  double-plus = record { answer = refl; buffer = refl };
+  any-plus = record { answer = refl; buffer = refl };
+  climb-stops = record { answer = refl; buffer = refl };
+  climb-goes = record { answer = refl; buffer = refl };
+  not-null = record { answer = refl; buffer = refl };
+  no-match = record { answer = refl; buffer = refl };
+  tie = record { answer = refl; buffer = refl };
+  scores = refl;
+  only = record { answer = refl; buffer = refl };
+  only-scores = refl;
+  by-index = record { answer = refl; buffer = refl };
+  twice-named = record { answer = refl; buffer = refl };
+  sample = refl;
+  five = record { said = refl; left = refl };
+  four = record { said = refl; left = refl };
+  nothing = refl;
+}
