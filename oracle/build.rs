@@ -20,16 +20,8 @@ const PINNED: [(&str, &str); 6] = [
     ("errors.rs", "2706f52c899227729c7cf99f0b9f62ff1c60bf2e8d6874ce488b86cc787a358f"),
 ];
 
-const TY_METHODS: [&str; 8] = [
-    "is_nullable",
-    "non_null",
-    "is_numeric",
-    "is_boolean",
-    "is_string",
-    "is_integer",
-    "can_assign_to",
-    "name",
-];
+const TY_METHODS: [&str; 8] =
+    ["is_nullable", "non_null", "is_numeric", "is_boolean", "is_string", "is_integer", "can_assign_to", "name"];
 
 const CHECKER_METHODS: [&str; 13] = [
     "lookup_var_ty",
@@ -72,12 +64,7 @@ fn read_source(folder: &Path, path: &str, pinned: &str) -> Source {
     });
     let sum = sha256::sha256_hex(&bytes);
     if sum != pinned {
-        stop(&format!(
-            "{} is not the file of commit c401ce55f2: SHA-256 {}, expected {}",
-            full.display(),
-            sum,
-            pinned
-        ));
+        stop(&format!("{} is not the file of commit c401ce55f2: SHA-256 {}, expected {}", full.display(), sum, pinned));
     }
     let text = String::from_utf8(bytes).unwrap_or_else(|_| stop(&format!("{} is not UTF-8", full.display())));
     Source::new(path, &text)

@@ -122,9 +122,7 @@ impl Source {
     }
 
     fn item(&self, what: &str, at: usize) -> Result<String, String> {
-        let (_, end) = self
-            .block_end(at)
-            .ok_or_else(|| format!("`{}` in {} has no closing brace", what, self.path))?;
+        let (_, end) = self.block_end(at).ok_or_else(|| format!("`{}` in {} has no closing brace", what, self.path))?;
         Ok(self.text[self.item_start(at)..end].to_string())
     }
 
@@ -145,9 +143,8 @@ impl Source {
             return Err(format!("`impl {}` is missing in {}", of, self.path));
         }
         for block in blocks {
-            let (open, end) = self
-                .block_end(block)
-                .ok_or_else(|| format!("`impl {}` in {} has no closing brace", of, self.path))?;
+            let (open, end) =
+                self.block_end(block).ok_or_else(|| format!("`impl {}` in {} has no closing brace", of, self.path))?;
             for at in self.find_words(&["fn", name], open, end) {
                 if self.depth(open, at) == 1 {
                     found.push(at);

@@ -162,10 +162,7 @@ impl Table {
     }
 
     pub fn class(&mut self, name: u16, superclass: u16, package: u16, in_types: bool) {
-        self.push(
-            2,
-            &[&name.to_le_bytes(), &superclass.to_le_bytes(), &package.to_le_bytes(), &[in_types as u8]],
-        );
+        self.push(2, &[&name.to_le_bytes(), &superclass.to_le_bytes(), &package.to_le_bytes(), &[in_types as u8]]);
     }
 
     pub fn operators(&mut self, class: u16, mask: u16) {

@@ -118,7 +118,8 @@ impl Coverage {
             self.count(Item::Outside);
             return Ok(());
         }
-        let described = |what: String| format!("{}\ntable {}\nquestion {}", what, hex(&case.table), hex(&case.question));
+        let described =
+            |what: String| format!("{}\ntable {}\nquestion {}", what, hex(&case.table), hex(&case.question));
         let rulings = words::compare(&filled, &asked, &judged, &reports).map_err(described)?;
         for ruling in rulings {
             self.count(Item::Ruling(ruling));

@@ -128,7 +128,13 @@ fn ty(list: &mut List) {
     add(list, "ty.marked.nullable-string-does-not-assign-to-int", &nullable(&t(STRING)), &t(INT), DIFFERS);
     list.of("nullable_t_assigns_to_u_whenever_t_does");
     add(list, "ty.nullable-long-assigns-to-int", &nullable(&t(LONG)), &t(INT), ASSIGNS);
-    add(list, "ty.nullable-list-assigns-to-array", &nullable(&crate::bytes::list(&t(INT))), &array(None, &t(INT)), ASSIGNS);
+    add(
+        list,
+        "ty.nullable-list-assigns-to-array",
+        &nullable(&crate::bytes::list(&t(INT))),
+        &array(None, &t(INT)),
+        ASSIGNS,
+    );
     list.of("named_a_does_not_assign_to_named_b_although_b_is_its_superclass");
     let mut table = base();
     table.class(B, NONE, NONE, true);
@@ -152,7 +158,13 @@ fn ty(list: &mut List) {
     list.of("array_assigns_to_array_by_element_type_size_ignored");
     add(list, "ty.array-of-3-assigns-to-array-of-4", &array(Some(3), &t(INT)), &array(Some(4), &t(INT)), ASSIGNS);
     add(list, "ty.array-assigns-to-sized-array", &array(None, &t(INT)), &array(Some(4), &t(LONG)), ASSIGNS);
-    add(list, "ty.array-of-boolean-does-not-assign-to-array-of-int", &array(Some(3), &t(BOOLEAN)), &array(Some(3), &t(INT)), DIFFERS);
+    add(
+        list,
+        "ty.array-of-boolean-does-not-assign-to-array-of-int",
+        &array(Some(3), &t(BOOLEAN)),
+        &array(Some(3), &t(INT)),
+        DIFFERS,
+    );
     add(list, "ty.array-does-not-assign-to-list", &array(None, &t(INT)), &of(&t(INT)), DIFFERS);
     list.of("every_numeric_type_assigns_to_every_other");
     add(list, "ty.double-assigns-to-byte", &t(DOUBLE), &t(BYTE), ASSIGNS);
@@ -175,9 +187,19 @@ fn binary_operators(list: &mut List) {
     table.function(C, built_in("plus"), 0, false, &[CHAR], &[]);
     let c = leaf(&named(C));
     list.tree("binary.error-operand-before-operator-method", &table, binary(ADD, &c, &l(ERROR)), "0 0 1 15 0");
-    list.tree("binary.error-left-of-a-nullable-is-silent", &table, binary(ADD, &l(ERROR), &leaf(&nullable(&t(INT)))), "0 0 1 15 0");
+    list.tree(
+        "binary.error-left-of-a-nullable-is-silent",
+        &table,
+        binary(ADD, &l(ERROR), &leaf(&nullable(&t(INT)))),
+        "0 0 1 15 0",
+    );
     list.of("operator_methods_come_before_the_nullable_check");
-    list.tree("binary.operator-method-before-nullable-check", &table, binary(ADD, &c, &leaf(&nullable(&t(INT)))), "0 1 1 07 0");
+    list.tree(
+        "binary.operator-method-before-nullable-check",
+        &table,
+        binary(ADD, &c, &leaf(&nullable(&t(INT)))),
+        "0 1 1 07 0",
+    );
     list.of("long_plus_long_is_int");
     list.tree("binary.marked.long-plus-long-is-int", &none, binary(ADD, &l(LONG), &l(LONG)), "0 1 1 00 0");
     list.of("long_minus_long_is_long");
@@ -198,14 +220,29 @@ fn binary_operators(list: &mut List) {
     list.tree("binary.is-gives-boolean", &none, binary(IS, &l(INT), &l(STRING)), "0 1 1 06 0");
     list.tree("binary.as-gives-the-right-type", &none, binary(AS, &l(INT), &l(CHAR)), "0 1 1 07 0");
     list.tree("binary.eq-takes-nullable-operands", &none, binary(EQ, &leaf(&nullable(&t(INT))), &l(INT)), "0 1 1 06 0");
-    list.tree("binary.and-reports-nullable-operands-as-not-boolean", &none, binary(AND, &leaf(&nullable(&t(BOOLEAN))), &leaf(&nullable(&t(BOOLEAN)))), "0 0 1 06 2/6 0 1/6 0 2");
+    list.tree(
+        "binary.and-reports-nullable-operands-as-not-boolean",
+        &none,
+        binary(AND, &leaf(&nullable(&t(BOOLEAN))), &leaf(&nullable(&t(BOOLEAN)))),
+        "0 0 1 06 2/6 0 1/6 0 2",
+    );
     list.of("a_bitwise_operator_gives_the_left_type_reported_or_not");
-    list.tree("binary.bitwise-reported-gives-the-left-type", &none, binary(BIT_AND, &l(STRING), &l(INT)), "0 0 1 08 1/7 0 0");
+    list.tree(
+        "binary.bitwise-reported-gives-the-left-type",
+        &none,
+        binary(BIT_AND, &l(STRING), &l(INT)),
+        "0 0 1 08 1/7 0 0",
+    );
     list.tree("binary.bitwise-gives-the-left-type", &none, binary(BIT_AND, &l(LONG), &l(INT)), "0 1 1 01 0");
     list.of("diagnostic_kinds_of_binary_operators");
     list.tree("binary.2-plus-on-booleans", &none, binary(ADD, &l(BOOLEAN), &l(BOOLEAN)), "0 0 1 15 1/2 0 0");
     list.tree("binary.3-minus-on-strings", &none, binary(SUB, &l(STRING), &l(STRING)), "0 0 1 15 1/3 0 0");
-    list.tree("binary.4-unrelated-comparison-is-a-warning-and-does-not-pass", &none, binary(EQ, &l(INT), &l(STRING)), "0 0 1 06 1/4 0 0");
+    list.tree(
+        "binary.4-unrelated-comparison-is-a-warning-and-does-not-pass",
+        &none,
+        binary(EQ, &l(INT), &l(STRING)),
+        "0 0 1 06 1/4 0 0",
+    );
     list.tree("binary.char-and-string-compare", &none, binary(EQ, &l(CHAR), &l(STRING)), "0 1 1 06 0");
     list.tree("binary.5-not-comparable", &none, binary(LT, &l(INT), &l(STRING)), "0 0 1 06 1/5 0 0");
     list.tree("binary.6-logical-left", &none, binary(AND, &l(INT), &l(BOOLEAN)), "0 0 1 06 1/6 0 1");
@@ -223,13 +260,28 @@ fn operator_methods(list: &mut List) {
     let c_plus = binary(ADD, &leaf(&named(C)), &l(INT));
     list.of("operator_methods_only_for_a_named_left_type");
     list.tree("operators.named-left", &table, binary(ADD, &leaf(&named(A)), &l(INT)), "0 1 1 07 0");
-    list.tree("operators.named-right-does-not-count", &table, binary(ADD, &l(INT), &leaf(&named(A))), "0 0 1 15 1/2 0 0");
-    list.tree("operators.nullable-left-does-not-count", &table, binary(ADD, &leaf(&nullable(&named(A))), &l(INT)), "0 0 1 15 1/1 0 0");
+    list.tree(
+        "operators.named-right-does-not-count",
+        &table,
+        binary(ADD, &l(INT), &leaf(&named(A))),
+        "0 0 1 15 1/2 0 0",
+    );
+    list.tree(
+        "operators.nullable-left-does-not-count",
+        &table,
+        binary(ADD, &leaf(&nullable(&named(A))), &l(INT)),
+        "0 0 1 15 1/1 0 0",
+    );
     list.of("the_climb_stops_at_a_class_without_an_operator_set");
     let mut stops = table.clone();
     stops.operators(C, 2);
     list.tree("operators.marked.the-climb-stops-at-a-class-without-a-set", &stops, c_plus.clone(), "0 0 1 15 1/2 0 0");
-    list.tree("operators.a-class-without-a-set-does-not-climb", &table, binary(ADD, &leaf(&named(B)), &l(INT)), "0 0 1 15 1/2 0 0");
+    list.tree(
+        "operators.a-class-without-a-set-does-not-climb",
+        &table,
+        binary(ADD, &leaf(&named(B)), &l(INT)),
+        "0 0 1 15 1/2 0 0",
+    );
     let mut climbs = table.clone();
     climbs.operators(C, 2);
     climbs.operators(B, 0);
@@ -238,14 +290,29 @@ fn operator_methods(list: &mut List) {
     let mut bare = base();
     bare.operators(A, 0x7ff);
     for op in 0..11 {
-        list.tree(&format!("operators.operator-{}-without-a-function-gives-any", op), &bare, binary(op, &leaf(&named(A)), &l(INT)), "0 1 1 09 0");
+        list.tree(
+            &format!("operators.operator-{}-without-a-function-gives-any", op),
+            &bare,
+            binary(op, &leaf(&named(A)), &l(INT)),
+            "0 1 1 09 0",
+        );
     }
-    list.tree("operators.and-is-no-operator-method", &bare, binary(AND, &leaf(&named(A)), &l(BOOLEAN)), "0 0 1 06 1/6 0 1");
+    list.tree(
+        "operators.and-is-no-operator-method",
+        &bare,
+        binary(AND, &leaf(&named(A)), &l(BOOLEAN)),
+        "0 0 1 06 1/6 0 1",
+    );
     for bit in 0..11u16 {
         let mut one = base();
         one.operators(A, 1 << bit);
         one.function(A, plus + bit, 0, false, &[CHAR], &[]);
-        list.tree(&format!("operators.mask-bit-{}-is-that-operator", bit), &one, binary(bit as u8, &leaf(&named(A)), &l(INT)), "0 1 1 07 0");
+        list.tree(
+            &format!("operators.mask-bit-{}-is-that-operator", bit),
+            &one,
+            binary(bit as u8, &leaf(&named(A)), &l(INT)),
+            "0 1 1 07 0",
+        );
     }
 }
 
@@ -255,7 +322,12 @@ fn unary_operators(list: &mut List) {
     list.tree("unary.marked.not-null-on-int", &none, unary(NOT_NULL, &l(INT)), "0 0 1 15 1/13 0 0");
     list.of("a_nullable_operand_of_a_unary_operator_is_reported_earlier");
     for op in 0..7 {
-        list.tree(&format!("unary.operator-{}-on-a-nullable", op), &none, unary(op, &leaf(&nullable(&t(INT)))), "0 0 1 15 1/8 0 0");
+        list.tree(
+            &format!("unary.operator-{}-on-a-nullable", op),
+            &none,
+            unary(op, &leaf(&nullable(&t(INT)))),
+            "0 0 1 15 1/8 0 0",
+        );
     }
     list.of("diagnostic_kinds_of_unary_operators");
     list.tree("unary.9-minus-on-string-keeps-the-type", &none, unary(MINUS, &l(STRING)), "0 0 1 08 1/9 0 0");
@@ -266,7 +338,12 @@ fn unary_operators(list: &mut List) {
     list.tree("unary.address-of", &none, unary(ADDR_OF, &l(INT)), "0 1 2 0d00 0");
     list.tree("unary.minus-on-error-is-reported", &none, unary(MINUS, &l(ERROR)), "0 0 1 15 1/9 0 0");
     list.tree("unary.not-null-on-any-is-reported", &none, unary(NOT_NULL, &l(ANY)), "0 0 1 15 1/13 0 0");
-    list.tree("unary.dereferenced-pointer-to-error-is-a-silent-error", &none, unary(DEREFERENCE, &leaf(&pointer(&t(ERROR)))), "0 0 1 15 0");
+    list.tree(
+        "unary.dereferenced-pointer-to-error-is-a-silent-error",
+        &none,
+        unary(DEREFERENCE, &leaf(&pointer(&t(ERROR)))),
+        "0 0 1 15 0",
+    );
 }
 
 fn calls(list: &mut List) {
@@ -293,7 +370,12 @@ fn calls(list: &mut List) {
     table.plain(F, &[CHAR], &[(P, 0, int()), (Q, 0, string())]);
     table.plain(F, &[BOOLEAN], &[(P, 0, string()), (Q, 0, int())]);
     list.tree("call.both-unnamed-meet-the-first-parameter", &table, call(F, &[l(INT), l(LONG)]), "0 1 1 07 0");
-    list.tree("call.unnamed-meets-the-first-that-nobody-names", &table, call(F, &[named_arg(P, &l(STRING)), l(INT)]), "0 1 1 06 0");
+    list.tree(
+        "call.unnamed-meets-the-first-that-nobody-names",
+        &table,
+        call(F, &[named_arg(P, &l(STRING)), l(INT)]),
+        "0 1 1 06 0",
+    );
     list.tree("call.the-name-may-come-later", &table, call(F, &[l(INT), named_arg(P, &l(STRING))]), "0 1 1 06 0");
 
     list.of("an_exact_match_scores_2_an_accepted_one_1");
@@ -356,9 +438,24 @@ fn calls(list: &mut List) {
     fits.plain(F, &[CHAR], &[(P, 0, int())]);
     fits.plain(F, &[CHAR], &[(P, 0, int()), (Q, 0, int())]);
     fits.plain(F, &[CHAR], &[(Q, 0, int())]);
-    list.tree("call.an-unknown-name-once-per-fitting-overload", &fits, call(F, &[named_arg(Z, &l(INT))]), "0 0 1 15 3/16 1 1/16 1 1/18 0 0");
-    list.tree("call.a-name-unknown-to-one-overload-is-reported-although-the-other-matches", &fits, call(F, &[named_arg(Q, &l(INT))]), "0 0 1 07 1/16 1 1");
-    list.tree("call.an-unknown-name-with-one-fitting-overload-may-have-no-mismatch", &fits, call(F, &[l(INT), named_arg(Z, &l(INT))]), "0 0 1 07 1/16 2 2");
+    list.tree(
+        "call.an-unknown-name-once-per-fitting-overload",
+        &fits,
+        call(F, &[named_arg(Z, &l(INT))]),
+        "0 0 1 15 3/16 1 1/16 1 1/18 0 0",
+    );
+    list.tree(
+        "call.a-name-unknown-to-one-overload-is-reported-although-the-other-matches",
+        &fits,
+        call(F, &[named_arg(Q, &l(INT))]),
+        "0 0 1 07 1/16 1 1",
+    );
+    list.tree(
+        "call.an-unknown-name-with-one-fitting-overload-may-have-no-mismatch",
+        &fits,
+        call(F, &[l(INT), named_arg(Z, &l(INT))]),
+        "0 0 1 07 1/16 2 2",
+    );
 
     list.of("argument_counts");
     for count in 0..=16usize {
@@ -367,7 +464,12 @@ fn calls(list: &mut List) {
         let short = if count == 16 { &row[..15] } else { &row[..] };
         table.plain(F, &[CHAR], short);
         let args: Vec<Bytes> = (0..count).map(|_| l(INT)).collect();
-        list.tree(&format!("call.15-with-{}-arguments", count), &table, call(F, &args), &format!("0 0 1 15 1/15 0 {}", count));
+        list.tree(
+            &format!("call.15-with-{}-arguments", count),
+            &table,
+            call(F, &args),
+            &format!("0 0 1 15 1/15 0 {}", count),
+        );
     }
     let mut table = base();
     table.plain(F, &[CHAR], &[(P, 0, int()), (Q, DEFAULT, string())]);
@@ -379,7 +481,12 @@ fn calls(list: &mut List) {
     let mut table = base();
     table.plain(F, &[CHAR], &[(P, VARARG, int()), (Q, 0, string())]);
     list.tree("call.a-vararg-not-last-accepts-every-type", &table, call(F, &[l(STRING), l(BOOLEAN)]), "0 1 1 07 0");
-    list.tree("call.a-vararg-not-last-does-not-open-the-count", &table, call(F, &[l(INT), l(INT), l(INT)]), "0 0 1 15 1/15 0 3");
+    list.tree(
+        "call.a-vararg-not-last-does-not-open-the-count",
+        &table,
+        call(F, &[l(INT), l(INT), l(INT)]),
+        "0 0 1 15 1/15 0 3",
+    );
 
     list.of("type_variables");
     let mut table = base();
@@ -403,11 +510,21 @@ fn calls(list: &mut List) {
     table.suspend(NONE, F);
     let tree = call(F, &[unary(MINUS, &l(STRING))]);
     list.tree("call.suspend-is-reported-before-the-arguments", &table, tree.clone(), "0 0 1 07 3/14 0 0/9 1 0/17 1 1");
-    list.ask("call.suspend-is-allowed-inside-suspend", &table, question_in(NONE, NONE, true, &call(F, &[l(INT)])), "0 1 1 07 0");
+    list.ask(
+        "call.suspend-is-allowed-inside-suspend",
+        &table,
+        question_in(NONE, NONE, true, &call(F, &[l(INT)])),
+        "0 1 1 07 0",
+    );
     let mut table = base();
     table.function(A, F, 0, false, &[CHAR], &[]);
     table.suspend(NONE, F);
-    list.tree("method.an-ownerless-suspend-entry-is-not-the-methods", &table, method(F, &leaf(&named(A)), &[]), "0 1 1 07 0");
+    list.tree(
+        "method.an-ownerless-suspend-entry-is-not-the-methods",
+        &table,
+        method(F, &leaf(&named(A)), &[]),
+        "0 1 1 07 0",
+    );
     table.suspend(A, F);
     list.tree("method.suspend", &table, method(F, &leaf(&named(A)), &[]), "0 0 1 07 1/14 0 0");
 }
@@ -467,7 +584,12 @@ fn members(list: &mut List) {
     table.class(C, A, NONE, false);
     table.field(A, P, &[LONG]);
     table.visibility(A, P, 3);
-    list.ask("member.of-the-class-itself", &table, question_in(A, NONE, false, &member(P, &leaf(&named(A)))), "0 1 1 01 0");
+    list.ask(
+        "member.of-the-class-itself",
+        &table,
+        question_in(A, NONE, false, &member(P, &leaf(&named(A)))),
+        "0 1 1 01 0",
+    );
     list.tree("member.no-climb-unresolved", &table, member(P, &leaf(&named(B))), "0 0 1 15 1/22 0 0");
     list.tree("member.no-climb-and-not-in-types-is-a-silent-error", &table, member(P, &leaf(&named(C))), "0 0 1 15 0");
     list.of("a_name_found_only_as_a_function_gives_a_function_type_with_no_parameters");
@@ -492,7 +614,12 @@ fn members(list: &mut List) {
     list.tree("member.of-pair", &none, of(built_in("second"), &named(0)), "0 1 1 09 0");
     list.tree("member.22-of-pair", &none, of(size, &named(0)), "0 0 1 15 1/22 0 0");
     list.tree("member.of-named-set", &none, of(size, &named(5)), "0 1 1 00 0");
-    list.tree("member.first-of-a-list-is-its-element-type", &none, of(built_in("first"), &crate::bytes::list(&t(CHAR))), "0 1 1 07 0");
+    list.tree(
+        "member.first-of-a-list-is-its-element-type",
+        &none,
+        of(built_in("first"), &crate::bytes::list(&t(CHAR))),
+        "0 1 1 07 0",
+    );
     list.tree("member.first-of-named-list-is-any", &none, of(built_in("first"), &named(1)), "0 1 1 09 0");
     list.tree("member.get-of-an-array", &none, of(built_in("get"), &array(Some(2), &t(CHAR))), "0 1 1 07 0");
     list.tree("member.keys-of-a-map", &none, of(built_in("keys"), &map(&t(INT), &t(INT))), "0 1 2 0f09 0");
@@ -524,12 +651,22 @@ fn symbols(list: &mut List) {
         let mut table = base();
         table.function(A, F, first, false, &[CHAR], &[]);
         table.function(A, F, second, false, &[BOOLEAN], &[(P, 0, t(INT))]);
-        list.tree(&format!("symbol.access-by-the-first-entry-{}", name), &table, method(F, &leaf(&named(A)), &[]), expected);
+        list.tree(
+            &format!("symbol.access-by-the-first-entry-{}", name),
+            &table,
+            method(F, &leaf(&named(A)), &[]),
+            expected,
+        );
     }
     let mut table = base();
     table.function(A, F, 3, true, &[CHAR], &[]);
     table.function(A, F, 0, false, &[BOOLEAN], &[]);
-    list.tree("symbol.access-by-the-first-entry-though-it-drops-out-as-builtin", &table, method(F, &leaf(&named(A)), &[]), "0 0 1 06 1/20 0 3");
+    list.tree(
+        "symbol.access-by-the-first-entry-though-it-drops-out-as-builtin",
+        &table,
+        method(F, &leaf(&named(A)), &[]),
+        "0 0 1 06 1/20 0 3",
+    );
     list.of("its_first_entry_serves_suspend");
     let mut table = base();
     table.function(A, F, 0, true, &[CHAR], &[]);
@@ -564,9 +701,19 @@ fn methods(list: &mut List) {
     list.tree("method.base-not-named-arguments-unvisited", &table, on(&t(INT), &[bad()]), "0 1 1 09 0");
     list.tree("method.no-list-arguments-unvisited", &table, on(&named(B), &[bad()]), "0 1 1 09 0");
     list.tree("method.module-base-arguments-unvisited", &table, on(&module(A), &[bad()]), "0 1 1 09 0");
-    list.tree("method.arguments-visited-where-there-is-a-list", &table, on(&named(A), &[bad()]), "0 0 1 07 2/9 2 0/17 2 1");
+    list.tree(
+        "method.arguments-visited-where-there-is-a-list",
+        &table,
+        on(&named(A), &[bad()]),
+        "0 0 1 07 2/9 2 0/17 2 1",
+    );
     list.tree("method.one-nullable-is-taken-off", &table, on(&nullable(&named(A)), &[l(INT)]), "0 1 1 07 0");
-    list.tree("method.only-one-nullable-is-taken-off", &table, on(&nullable(&nullable(&named(A))), &[l(INT)]), "0 1 1 09 0");
+    list.tree(
+        "method.only-one-nullable-is-taken-off",
+        &table,
+        on(&nullable(&nullable(&named(A))), &[l(INT)]),
+        "0 1 1 09 0",
+    );
     list.tree("method.an-error-object-gives-any-and-does-not-pass", &table, on(&t(ERROR), &[l(INT)]), "0 0 1 09 0");
     list.tree("method.the-count-leaves-the-object-out", &table, on(&named(A), &[]), "0 0 1 15 1/15 0 0");
     let mut table = base();
@@ -575,8 +722,18 @@ fn methods(list: &mut List) {
     list.of("visibility_of_members_is_looked_up_for_named_bases_only");
     let mut table = base();
     table.visibility(A, built_in("size"), 3);
-    list.tree("member.visibility-for-a-named-base", &table, member(built_in("size"), &leaf(&named(A))), "0 0 1 15 1/20 0 3");
-    list.tree("member.visibility-not-for-a-list", &table, member(built_in("size"), &leaf(&crate::bytes::list(&named(A)))), "0 1 1 00 0");
+    list.tree(
+        "member.visibility-for-a-named-base",
+        &table,
+        member(built_in("size"), &leaf(&named(A))),
+        "0 0 1 15 1/20 0 3",
+    );
+    list.tree(
+        "member.visibility-not-for-a-list",
+        &table,
+        member(built_in("size"), &leaf(&crate::bytes::list(&named(A)))),
+        "0 1 1 00 0",
+    );
 }
 
 fn table_refusals(list: &mut List) {
@@ -664,23 +821,47 @@ fn table_refusals(list: &mut List) {
     put("table.6-a-later-superclass", joined(&[&with_super(1, 2), &[2, 2, 0, 255, 255, 255, 255, 0]]), 6);
     put("table.an-earlier-superclass", joined(&[&[2, 2, 0, 255, 255, 255, 255, 0], &with_super(1, 2)]), 0);
     put("table.a-superclass-without-a-record", with_super(1, 2), 0);
-    put("table.a-superclass-behind-a-malformed-record-is-not-told-apart", joined(&[&with_super(1, 2), &class(2), &[2, 2, 0, 255, 255, 255, 255, 0]]), 2);
-    put("table.6-a-superclass-behind-a-record-with-an-undefined-id", joined(&[&with_super(1, 2), &with_super(3, 77), &[2, 2, 0, 255, 255, 255, 255, 0]]), 6);
+    put(
+        "table.a-superclass-behind-a-malformed-record-is-not-told-apart",
+        joined(&[&with_super(1, 2), &class(2), &[2, 2, 0, 255, 255, 255, 255, 0]]),
+        2,
+    );
+    put(
+        "table.6-a-superclass-behind-a-record-with-an-undefined-id",
+        joined(&[&with_super(1, 2), &with_super(3, 77), &[2, 2, 0, 255, 255, 255, 255, 0]]),
+        6,
+    );
     put("table.7-error-in-a-type", vec![5, 0, 0, 0, 0, 15, 21], 7);
     let field = |ty: &[u8]| joined(&[&[5, 0, 0, 0, 0], ty]);
     put("table.191-nullables-over-int", field(&nullables(191, &[INT])), 0);
     put("table.7-192-nullables-over-int", field(&nullables(192, &[INT])), 7);
     put("table.2-191-nullables-cut", field(&nullables(191, &[])), 2);
     put("table.7-192-nullables-and-no-more", field(&nullables(192, &[])), 7);
-    put("table.4-an-undefined-id-in-a-type-without-end", field(&[&[16, 17, 99, 0][..], &nullables(190, &[INT])].concat()), 4);
-    put("table.2-a-malformed-body-in-a-type-without-end", field(&[&[16, 14, 2, 0, 0, 0, 0, 0][..], &nullables(190, &[INT])].concat()), 2);
+    put(
+        "table.4-an-undefined-id-in-a-type-without-end",
+        field(&[&[16, 17, 99, 0][..], &nullables(190, &[INT])].concat()),
+        4,
+    );
+    put(
+        "table.2-a-malformed-body-in-a-type-without-end",
+        field(&[&[16, 14, 2, 0, 0, 0, 0, 0][..], &nullables(190, &[INT])].concat()),
+        2,
+    );
     put("table.7-a-body-that-crosses-the-192nd-byte-is-not-examined", field(&nullables(190, &[17, 99, 99])), 7);
     put("table.4-a-body-that-ends-at-the-192nd-byte-is-examined", field(&nullables(189, &[17, 99, 99])), 4);
     put("table.7-kind-21-at-the-192nd-byte", field(&nullables(191, &[21])), 7);
     put("table.2-kind-22-at-the-192nd-byte", field(&nullables(191, &[22])), 2);
     put("table.7-kind-22-at-the-193rd-byte-is-not-read", field(&nullables(192, &[22])), 7);
-    put("table.5-a-repeated-parameter-whose-type-has-no-end", joined(&[&[4, 0, 0, 0, 0, 0, 0, 2, 0, 1, 0, 0, 0, 1, 0, 0], &nullables(200, &[])]), 5);
-    put("table.7-nothing-behind-a-type-without-end-is-read", joined(&[&[4, 0, 0, 0, 0, 0, 0, 2, 0, 1, 0, 0], &nullables(192, &[99, 99, 99])]), 7);
+    put(
+        "table.5-a-repeated-parameter-whose-type-has-no-end",
+        joined(&[&[4, 0, 0, 0, 0, 0, 0, 2, 0, 1, 0, 0, 0, 1, 0, 0], &nullables(200, &[])]),
+        5,
+    );
+    put(
+        "table.7-nothing-behind-a-type-without-end-is-read",
+        joined(&[&[4, 0, 0, 0, 0, 0, 0, 2, 0, 1, 0, 0], &nullables(192, &[99, 99, 99])]),
+        7,
+    );
 }
 
 fn question_refusals(list: &mut List) {
@@ -729,14 +910,30 @@ fn question_refusals(list: &mut List) {
     put("question.8-a-65th-node-that-is-cut", chain(64, &[4, 0]), R8);
     put("question.8-a-65th-node-that-is-missing", chain(64, &[]), R8);
     put("question.8-a-65th-node-with-a-cut-type", chain(64, &leaf(&nullables(191, &[]))), R8);
-    put("question.191-nullables-over-int", question(&leaf(&nullables(191, &[INT]))), &format!("0 1 192 {}00 0", "0c".repeat(191)));
+    put(
+        "question.191-nullables-over-int",
+        question(&leaf(&nullables(191, &[INT]))),
+        &format!("0 1 192 {}00 0", "0c".repeat(191)),
+    );
     put("question.11-192-nullables-over-int", question(&leaf(&nullables(192, &[INT]))), R11);
     put("question.8-191-nullables-cut", question(&leaf(&nullables(191, &[]))), R8);
     put("question.11-192-nullables-and-no-more", question(&leaf(&nullables(192, &[]))), R11);
-    put("question.10-before-11-in-a-type-without-end", question(&leaf(&[&[16, 17, 40, 0][..], &nullables(190, &[INT])].concat())), R10);
-    put("question.8-before-11-in-a-type-without-end", question(&leaf(&[&[16, 18, 17][..], &nullables(190, &[INT])].concat())), R8);
+    put(
+        "question.10-before-11-in-a-type-without-end",
+        question(&leaf(&[&[16, 17, 40, 0][..], &nullables(190, &[INT])].concat())),
+        R10,
+    );
+    put(
+        "question.8-before-11-in-a-type-without-end",
+        question(&leaf(&[&[16, 18, 17][..], &nullables(190, &[INT])].concat())),
+        R8,
+    );
     put("question.11-nothing-behind-the-192nd-byte-is-read", question(&leaf(&nullables(192, &[22, 22, 22]))), R11);
-    put("question.11-a-body-that-crosses-the-192nd-byte-is-not-examined", question(&leaf(&nullables(190, &[17, 99, 99]))), R11);
+    put(
+        "question.11-a-body-that-crosses-the-192nd-byte-is-not-examined",
+        question(&leaf(&nullables(190, &[17, 99, 99]))),
+        R11,
+    );
     put("question.error-inside-a-leaf", question(&leaf(&crate::bytes::list(&[ERROR]))), "0 1 2 0f15 0");
     let mut names = Table::new();
     names.name("a");
@@ -781,13 +978,28 @@ fn unsaid(list: &mut List) {
     list.tree("rust.21-for-a-nullable-module", &none, member(0, &leaf(&nullable(&module(0)))), "0 0 1 15 1/21 0 0");
     list.tree("rust.any-for-a-module", &none, member(0, &leaf(&module(0))), "0 1 1 09 0");
     let size = built_in("size");
-    list.raw("rust.members-of-pair-hide-a-field", vec![5, 0, 0, 22, 0, 1], question(&member(size, &leaf(&named(0)))), "0 0 1 15 1/22 0 0");
-    list.raw("rust.members-of-a-collection-hide-a-field", vec![5, 1, 0, 22, 0, 1], question(&member(size, &leaf(&named(1)))), "0 1 1 00 0");
+    list.raw(
+        "rust.members-of-pair-hide-a-field",
+        vec![5, 0, 0, 22, 0, 1],
+        question(&member(size, &leaf(&named(0)))),
+        "0 0 1 15 1/22 0 0",
+    );
+    list.raw(
+        "rust.members-of-a-collection-hide-a-field",
+        vec![5, 1, 0, 22, 0, 1],
+        question(&member(size, &leaf(&named(1)))),
+        "0 1 1 00 0",
+    );
     let mut letter = Table::new();
     let t = letter.name("T");
     letter.field(t, size, &[LONG]);
     list.tree("rust.a-type-variable-hides-a-field", &letter, member(size, &leaf(&named(t))), "0 1 1 09 0");
-    list.tree("rust.an-unknown-member-outside-types-is-a-silent-error", &none, member(0, &leaf(&named(6))), "0 0 1 15 0");
+    list.tree(
+        "rust.an-unknown-member-outside-types-is-a-silent-error",
+        &none,
+        member(0, &leaf(&named(6))),
+        "0 0 1 15 0",
+    );
     let builtin = vec![4, 255, 255, 0, 0, 0, 1, 0, 0];
     list.raw("rust.none-of-the-builtins-fits-is-a-silent-error", builtin, question(&call(0, &[l(INT)])), "0 0 1 15 0");
     let twice = [4, 255, 255, 0, 0, 0, 0, 0, 0].repeat(2);

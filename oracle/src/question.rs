@@ -180,14 +180,8 @@ pub fn build(question: &[u8], names: &[String]) -> Asked {
             Some(names[id as usize].clone())
         }
     };
-    let mut builder = Builder {
-        bytes: question,
-        names,
-        at: 5,
-        positions: Vec::new(),
-        kinds: Vec::new(),
-        operators: Vec::new(),
-    };
+    let mut builder =
+        Builder { bytes: question, names, at: 5, positions: Vec::new(), kinds: Vec::new(), operators: Vec::new() };
     let tree = builder.node(0);
     Asked {
         current_type: optional(0),

@@ -239,12 +239,7 @@ fn calls<'a>(expr: &'a Expr, types: &HashMap<usize, &Ty>, out: &mut Vec<Call<'a>
 }
 
 /// Compares every visited call of a run with the words; answers the rulings, or what differs.
-pub fn compare(
-    filled: &Filled,
-    asked: &Asked,
-    judged: &Judged,
-    diagnostics: &[Diagnostic],
-) -> Result<Rulings, String> {
+pub fn compare(filled: &Filled, asked: &Asked, judged: &Judged, diagnostics: &[Diagnostic]) -> Result<Rulings, String> {
     let types: HashMap<usize, &Ty> = judged.finished.iter().map(|(node, ty)| (*node, ty)).collect();
     let mut found = Vec::new();
     calls(&asked.tree, &types, &mut found);
@@ -262,7 +257,11 @@ pub fn compare(
                 return Err(format!("node {}: arguments visited without a list", call.node));
             }
             words.saw(if call.owner.is_some() { "a method without a list" } else { "an empty list" });
-            if call.owner.is_some() { Ty::Any } else { Ty::Error }
+            if call.owner.is_some() {
+                Ty::Any
+            } else {
+                Ty::Error
+            }
         } else {
             if let Some(owner) = &call.owner {
                 if !words.allowed(asked, list[0].visibility, owner) {

@@ -27,7 +27,9 @@ fn profiles_have_their_names_and_places() {
 
 #[test]
 fn accepted_profiles_are_accepted() {
-    for profile in [Profile::Rich, Profile::Calls, Profile::Wide, Profile::Members, Profile::Operators, Profile::Outside] {
+    for profile in
+        [Profile::Rich, Profile::Calls, Profile::Wide, Profile::Members, Profile::Operators, Profile::Outside]
+    {
         for index in 0..3_000 {
             let case = gen::case(profile, 5, index);
             let number = oracle::answer::refusal(&case.table, &case.question);

@@ -58,7 +58,9 @@ fn each_line_reads_back() {
 
 #[test]
 fn hex_has_runs() {
-    for bytes in [vec![], vec![1, 2, 3], vec![0; 60_001], [1, 2].repeat(300), [vec![7], vec![0; 23], vec![9; 2]].concat()] {
+    for bytes in
+        [vec![], vec![1, 2, 3], vec![0; 60_001], [1, 2].repeat(300), [vec![7], vec![0; 23], vec![9; 2]].concat()]
+    {
         assert_eq!(unhex(&hex(&bytes)), Some(bytes));
     }
     assert_eq!(hex(&[0; 60_001]), "00*60001");

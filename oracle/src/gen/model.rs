@@ -216,7 +216,13 @@ impl Model {
             _ => 4 + rng.below(3),
         };
         let most = if rng.chance(10) { 16 } else { 4 };
-        let builtin = if rng.chance(30) { 50 } else if rng.chance(10) { 100 } else { 0 };
+        let builtin = if rng.chance(30) {
+            50
+        } else if rng.chance(10) {
+            100
+        } else {
+            0
+        };
         let mut overloads: Vec<Vec<Param>> = Vec::new();
         let visibility = if rng.chance(50) { 0 } else { rng.below(4) as u8 };
         for _ in 0..count {
