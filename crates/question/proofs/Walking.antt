@@ -1,9 +1,10 @@
 -- One step of the walk over the nodes: of the check and of `skip`. Assumes nothing.
-use Prim.Native.Nat.{ℕ, zero, suc, _+_, _-_}
+use Prim.Native.Nat.{ℕ, zero, suc, _+_, _-_, _<_}
 use borrow.Author.Tests.{eq-eqb, ne-eqb}
 use mathlib.Core.List.{List}
-use mathlib.Core.Path.{_≡_, refl}
+use mathlib.Core.Path.{_≡_, refl, sym}
 use native.Mathlib.Omega.{arith}
+use Rattle.question.specs.Parse.{mostNodes}
 use Rattle.question.specs.Read.{nodeAt, ownBytes, children}
 use Rattle.question.specs.Refused.{nodeFault, moreFault, endFault, nodesFault}
 use Rattle.question.specs.Skip.{skipFrom}
@@ -47,6 +48,11 @@ module _ (N : Names) (q : List ℕ) (at : ℕ) where
             let b : suc pending - 1 ≡ pending = omega arith in
             rw (a, b, eq-eqb (nodeFault N (nodeAt q at)) 0 e)
 
+  -- a turn of the check, with the node's own bytes and its children in hand
+  pub fault-turn : (left pending own kids : ℕ) → (pending ≡ 0 → ⊥) → (left ≡ 0 → ⊥) → nodeFault N (nodeAt q at) ≡ 0 → own ≡ ownBytes (nodeAt q at)
+      → kids ≡ children (nodeAt q at) → nodesFault N (left - 1) q (at + own) (pending - 1 + kids) ≡ nodesFault N left q at pending
+  fault-turn left pending own kids p l e o k = rw (o, k) (sym (fault-on left pending p l e))
+
 module _ (q : List ℕ) (at nodes : ℕ) where
   pub skip-end : (left pending : ℕ) → pending ≡ 0 → record { at = at; nodes = nodes } ≡ skipFrom left q at nodes pending
   unfolding skipFrom
@@ -59,13 +65,18 @@ module _ (q : List ℕ) (at nodes : ℕ) where
   skip-stop zero pending e = refl
   skip-stop (suc left) pending e = absurd (omega arith)
 
-  pub skip-on : (left pending : ℕ) → (pending ≡ 0 → ⊥) → (left ≡ 0 → ⊥)
-      → skipFrom left q at nodes pending ≡ skipFrom (left - 1) q (at + ownBytes (nodeAt q at)) (nodes + 1) (pending - 1 + children (nodeAt q at))
+  skip-on : (left pending : ℕ) → (pending ≡ 0 → ⊥)
+      → skipFrom (suc left) q at nodes pending ≡ skipFrom left q (at + ownBytes (nodeAt q at)) (nodes + 1) (pending - 1 + children (nodeAt q at))
   unfolding skipFrom
-  skip-on left zero p l = absurd (p refl)
-  skip-on zero (suc pending) p l = absurd (l refl)
-  skip-on (suc left) (suc pending) p l =
-      let a : suc left - 1 ≡ left = omega arith in
+  skip-on left zero p = absurd (p refl)
+  skip-on left (suc pending) p =
       let b : suc pending - 1 ≡ pending = omega arith in
       let d : nodes + 1 ≡ suc nodes = omega arith in
-      rw (a, b, d)
+      rw (b, d)
+
+  -- a turn of `skip`, with the node's own bytes and its children in hand
+  pub skip-turn : (pending own kids : ℕ) → (pending ≡ 0 → ⊥) → nodes < mostNodes → own ≡ ownBytes (nodeAt q at) → kids ≡ children (nodeAt q at)
+      → skipFrom (mostNodes - (nodes + 1)) q (at + own) (nodes + 1) (pending - 1 + kids) ≡ skipFrom (mostNodes - nodes) q at nodes pending
+  skip-turn pending own kids p h o k =
+      let l : mostNodes - nodes ≡ suc (mostNodes - (nodes + 1)) = omega arith in
+      rw (o, k, l) (sym (skip-on (mostNodes - (nodes + 1)) pending p))

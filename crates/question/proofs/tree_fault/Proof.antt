@@ -4,7 +4,7 @@ use lib.ListN.{length}
 use mathlib.Core.Path.{_≡_, refl, sym, ap, _∙_}
 use native.Mathlib.Omega.{arith}
 use Rattle.question.proofs.Reading.{step-small, step-few}
-use Rattle.question.proofs.Walking.{fault-end, fault-more, fault-stop, fault-on}
+use Rattle.question.proofs.Walking.{fault-end, fault-more, fault-stop, fault-turn}
 use Rattle.question.proofs.tree_fault.Statement.{statement}
 use Rattle.question.proofs.tree_fault.Tie as tie
 use Rattle.question.specs.Read.{ownBytes, children}
@@ -26,19 +26,27 @@ more-fault-requires : tie.Need-more-fault-requires Inv-loop μ-loop
 more-fault-requires c κs = search needs
 
 returns : tie.Need-returns Inv-loop μ-loop
-returns c = (c .more-fault .ensures) ∙ ap moreFault (c .before .before .node-at .ensures) ∙ sym (fault-more (c .before .before .before .before .before .before .args .names) ((c .before .before .before .before .before .before .args .question) .now) (c .before .before .before .before .loop .at) (c .before .before .before .before .loop .left) (c .before .before .before .before .loop .pending) (c .before .before .before .loop-test .taken) (c .before .if1 .taken)) ∙ (c .before .before .before .before .loop .inv .0)
+returns c =
+    let s = c .before .before .before .before .loop in
+    c .more-fault .ensures ∙ ap moreFault (c .before .before .node-at .ensures)
+    ∙ sym (fault-more (c .before .before .before .before .before .before .args .names) (c .before .before .before .before .before .before .args .question .now) (s .at) (s .left) (s .pending) (omega arith) (omega arith)) ∙ s .inv .0
 
 node-fault-requires : tie.Need-node-fault-requires Inv-loop μ-loop
 node-fault-requires c κs = search needs
 
 returns-2 : tie.Need-returns-2 Inv-loop μ-loop
-returns-2 c = let e = (c .before .node-fault .ensures) ∙ ap (nodeFault (c .before .before .before .before .before .before .before .args .names)) (c .before .before .before .node-at .ensures) in e ∙ sym (fault-stop (c .before .before .before .before .before .before .before .args .names) ((c .before .before .before .before .before .before .before .args .question) .now) (c .before .before .before .before .before .loop .at) (c .before .before .before .before .before .loop .left) (c .before .before .before .before .before .loop .pending) (c .before .before .before .before .loop-test .taken) (c .before .before .if1 .left) (λ z. (c .if2 .taken) (e ∙ z))) ∙ (c .before .before .before .before .before .loop .inv .0)
+returns-2 c =
+    let s = c .before .before .before .before .before .loop in
+    let e = c .before .node-fault .ensures ∙ ap (nodeFault (c .before .before .before .before .before .before .before .args .names)) (c .before .before .before .node-at .ensures) in
+    e ∙ sym (fault-stop (c .before .before .before .before .before .before .before .args .names) (c .before .before .before .before .before .before .before .args .question .now) (s .at) (s .left) (s .pending) (omega arith) (omega arith) (omega arith)) ∙ s .inv .0
 
 own-bytes-requires : tie.Need-own-bytes-requires Inv-loop μ-loop
 own-bytes-requires c κs = search needs
 
 add-at : tie.Need-add-at Inv-loop μ-loop
-add-at c = omega (arith, ((c .own-bytes .ensures) ∙ ap ownBytes (c .before .before .before .before .node-at .ensures)), step-small ((c .before .before .before .before .before .before .before .before .args .question) .now) (c .before .before .before .before .before .before .loop .at))
+add-at c =
+    let o = c .own-bytes .ensures ∙ ap ownBytes (c .before .before .before .before .node-at .ensures) in
+    omega (arith, step-small (c .before .before .before .before .before .before .before .before .args .question .now) (c .before .before .before .before .before .before .loop .at))
 
 sub-pending : tie.Need-sub-pending Inv-loop μ-loop
 sub-pending c = omega arith
@@ -47,7 +55,9 @@ children-requires : tie.Need-children-requires Inv-loop μ-loop
 children-requires c κs = search needs
 
 add-pending : tie.Need-add-pending Inv-loop μ-loop
-add-pending c = omega (arith, ((c .children .ensures) ∙ ap children (c .before .before .before .before .before .node-at .ensures)), step-few ((c .before .before .before .before .before .before .before .before .before .args .question) .now) (c .before .before .before .before .before .before .before .loop .at), (c .before .before .before .before .before .before .before .loop .inv))
+add-pending c =
+    let k = c .children .ensures ∙ ap children (c .before .before .before .before .before .node-at .ensures) in
+    omega (arith, step-few (c .before .before .before .before .before .before .before .before .before .args .question .now) (c .before .before .before .before .before .before .before .loop .at), c .before .before .before .before .before .before .before .loop .inv)
 
 sub-left : tie.Need-sub-left Inv-loop μ-loop
 sub-left c = omega arith
@@ -56,13 +66,25 @@ loop-less : tie.Need-loop-less Inv-loop μ-loop
 loop-less c = omega arith
 
 loop-again : tie.Need-loop-again Inv-loop μ-loop
-loop-again c = let o = ((c .before .own-bytes .ensures) ∙ ap ownBytes (c .before .before .before .before .before .node-at .ensures)) in let k = ((c .children .ensures) ∙ ap children (c .before .before .before .before .before .node-at .ensures)) in let e = (c .before .before .before .node-fault .ensures) ∙ ap (nodeFault (c .before .before .before .before .before .before .before .before .before .args .names)) (c .before .before .before .before .before .node-at .ensures) in (rw (o, k) (sym (fault-on (c .before .before .before .before .before .before .before .before .before .args .names) ((c .before .before .before .before .before .before .before .before .before .args .question) .now) (c .before .before .before .before .before .before .before .loop .at) (c .before .before .before .before .before .before .before .loop .left) (c .before .before .before .before .before .before .before .loop .pending) (c .before .before .before .before .before .before .loop-test .taken) (c .before .before .before .before .if1 .left) (sym e ∙ (c .before .before .if2 .left))) ∙ (c .before .before .before .before .before .before .before .loop .inv .0)), omega arith, omega (arith, k, step-few ((c .before .before .before .before .before .before .before .before .before .args .question) .now) (c .before .before .before .before .before .before .before .loop .at), (c .before .before .before .before .before .before .before .loop .inv)), omega (arith, o, step-small ((c .before .before .before .before .before .before .before .before .before .args .question) .now) (c .before .before .before .before .before .before .before .loop .at), (c .before .before .before .before .before .before .before .loop .inv)))
+loop-again c =
+    let q = c .before .before .before .before .before .before .before .before .before .args .question .now in
+    let s = c .before .before .before .before .before .before .before .loop in
+    let o = c .before .own-bytes .ensures ∙ ap ownBytes (c .before .before .before .before .before .node-at .ensures) in
+    let k = c .children .ensures ∙ ap children (c .before .before .before .before .before .node-at .ensures) in
+    let e = c .before .before .before .node-fault .ensures ∙ ap (nodeFault (c .before .before .before .before .before .before .before .before .before .args .names)) (c .before .before .before .before .before .node-at .ensures) in (
+      fault-turn (c .before .before .before .before .before .before .before .before .before .args .names) q (s .at) (s .left) (s .pending) _ _ (omega arith) (omega arith) (omega arith) o k ∙ s .inv .0,
+      omega arith,
+      omega (arith, step-few q (s .at), s .inv),
+      omega (arith, step-small q (s .at), s .inv),
+    )
 
 end-fault-requires : tie.Need-end-fault-requires Inv-loop μ-loop
 end-fault-requires c κs = search needs
 
 returns-3 : tie.Need-returns-3 Inv-loop μ-loop
-returns-3 c = (c .end-fault .ensures) ∙ sym (fault-end (c .before .before .before .before .args .names) ((c .before .before .before .before .args .question) .now) (c .before .before .loop .at) (c .before .before .loop .left) (c .before .before .loop .pending) (c .before .loop-test .left)) ∙ (c .before .before .loop .inv .0)
+returns-3 c =
+    let s = c .before .before .loop in
+    c .end-fault .ensures ∙ sym (fault-end (c .before .before .before .before .args .names) (c .before .before .before .before .args .question .now) (s .at) (s .left) (s .pending) (omega arith)) ∙ s .inv .0
 
 pub tree-fault-spec : {M : Type 1} → statement M
 tree-fault-spec =

@@ -1,13 +1,13 @@
 use Prim.Native.Nat.{_+_, _*_, _≤_, _-_, max}
 use borrow.Author.Needs.{needs}
 use lib.ListN.{length}
-use mathlib.Core.Path.{_≡_, refl, sym, ap, _∙_}
+use mathlib.Core.Path.{_≡_, refl, ap, _∙_}
 use native.Mathlib.Omega.{arith}
 use Rattle.question.proofs.Reading.{step-small, step-few}
-use Rattle.question.proofs.Walking.{skip-end, skip-stop, skip-on}
+use Rattle.question.proofs.Walking.{skip-end, skip-stop, skip-turn}
 use Rattle.question.proofs.node.skip.Statement.{statement}
 use Rattle.question.proofs.node.skip.Tie as tie
-use Rattle.question.specs.Read.{nodeAt, ownBytes, children}
+use Rattle.question.specs.Read.{ownBytes, children}
 use Rattle.question.specs.Skip.{skipFrom, skipAt}
 
 abbrev Inv-loop : tie.InvT-loop
@@ -20,7 +20,9 @@ loop-holds : tie.Need-loop-holds Inv-loop μ-loop
 loop-holds c = (unfold skipAt in refl, omega arith, omega arith, omega arith)
 
 returns : tie.Need-returns Inv-loop μ-loop
-returns c = skip-stop ((c .before .before .before .before .args .q) .now) (c .before .before .loop .at) (c .before .before .loop .nodes) (64 - (c .before .before .loop .nodes)) (c .before .before .loop .pending) (omega arith) ∙ (c .before .before .loop .inv .0)
+returns c =
+    let s = c .before .before .loop in
+    skip-stop (c .before .before .before .before .args .q .now) (s .at) (s .nodes) (64 - s .nodes) (s .pending) (omega arith) ∙ s .inv .0
 
 node-at-requires : tie.Need-node-at-requires Inv-loop μ-loop
 node-at-requires c κs = search needs
@@ -29,7 +31,9 @@ own-bytes-requires : tie.Need-own-bytes-requires Inv-loop μ-loop
 own-bytes-requires c κs = search needs
 
 add-at : tie.Need-add-at Inv-loop μ-loop
-add-at c = omega (arith, ((c .own-bytes .ensures) ∙ ap ownBytes (c .before .node-at .ensures)), step-small ((c .before .before .before .before .before .before .args .q) .now) (c .before .before .before .before .loop .at))
+add-at c =
+    let o = c .own-bytes .ensures ∙ ap ownBytes (c .before .node-at .ensures) in
+    omega (arith, step-small (c .before .before .before .before .before .before .args .q .now) (c .before .before .before .before .loop .at))
 
 add-nodes : tie.Need-add-nodes Inv-loop μ-loop
 add-nodes c = omega arith
@@ -41,16 +45,29 @@ children-requires : tie.Need-children-requires Inv-loop μ-loop
 children-requires c κs = search needs
 
 add-pending : tie.Need-add-pending Inv-loop μ-loop
-add-pending c = omega (arith, ((c .children .ensures) ∙ ap children (c .before .before .node-at .ensures)), step-few ((c .before .before .before .before .before .before .before .args .q) .now) (c .before .before .before .before .before .loop .at), (c .before .before .before .before .before .loop .inv))
+add-pending c =
+    let k = c .children .ensures ∙ ap children (c .before .before .node-at .ensures) in
+    omega (arith, step-few (c .before .before .before .before .before .before .before .args .q .now) (c .before .before .before .before .before .loop .at), c .before .before .before .before .before .loop .inv)
 
 loop-less : tie.Need-loop-less Inv-loop μ-loop
 loop-less c = omega arith
 
 loop-again : tie.Need-loop-again Inv-loop μ-loop
-loop-again c = let o = ((c .before .own-bytes .ensures) ∙ ap ownBytes (c .before .before .node-at .ensures)) in let k = ((c .children .ensures) ∙ ap children (c .before .before .node-at .ensures)) in let l : 64 - (c .before .before .before .before .before .loop .nodes) - 1 ≡ 64 - ((c .before .before .before .before .before .loop .nodes) + 1) = omega arith in (rw (o, k) (sym (skip-on ((c .before .before .before .before .before .before .before .args .q) .now) (c .before .before .before .before .before .loop .at) (c .before .before .before .before .before .loop .nodes) (64 - (c .before .before .before .before .before .loop .nodes)) (c .before .before .before .before .before .loop .pending) (c .before .before .before .before .loop-test .taken) (omega arith) ∙ ap (λ n. skipFrom n ((c .before .before .before .before .before .before .before .args .q) .now) ((c .before .before .before .before .before .loop .at) + ownBytes (nodeAt ((c .before .before .before .before .before .before .before .args .q) .now) (c .before .before .before .before .before .loop .at))) ((c .before .before .before .before .before .loop .nodes) + 1) ((c .before .before .before .before .before .loop .pending) - 1 + children (nodeAt ((c .before .before .before .before .before .before .before .args .q) .now) (c .before .before .before .before .before .loop .at)))) l) ∙ (c .before .before .before .before .before .loop .inv .0)), omega arith, omega (arith, k, step-few ((c .before .before .before .before .before .before .before .args .q) .now) (c .before .before .before .before .before .loop .at), (c .before .before .before .before .before .loop .inv)), omega (arith, o, step-small ((c .before .before .before .before .before .before .before .args .q) .now) (c .before .before .before .before .before .loop .at), (c .before .before .before .before .before .loop .inv)))
+loop-again c =
+    let q = c .before .before .before .before .before .before .before .args .q .now in
+    let s = c .before .before .before .before .before .loop in
+    let o = c .before .own-bytes .ensures ∙ ap ownBytes (c .before .before .node-at .ensures) in
+    let k = c .children .ensures ∙ ap children (c .before .before .node-at .ensures) in (
+      skip-turn q (s .at) (s .nodes) (s .pending) _ _ (omega arith) (omega arith) o k ∙ s .inv .0,
+      omega arith,
+      omega (arith, step-few q (s .at), s .inv),
+      omega (arith, step-small q (s .at), s .inv),
+    )
 
 returns-2 : tie.Need-returns-2 Inv-loop μ-loop
-returns-2 c = skip-end ((c .before .before .before .args .q) .now) (c .before .loop .at) (c .before .loop .nodes) (64 - (c .before .loop .nodes)) (c .before .loop .pending) (c .loop-test .left) ∙ (c .before .loop .inv .0)
+returns-2 c =
+    let s = c .before .loop in
+    skip-end (c .before .before .before .args .q .now) (s .at) (s .nodes) (64 - s .nodes) (s .pending) (omega arith) ∙ s .inv .0
 
 pub skip-spec : {M : Type 1} → statement M
 skip-spec =
