@@ -2,3 +2,4 @@ pub mod Types
 pub mod Turns
 pub mod Bounds
 pub mod Cases
+pub mod Ranks
