@@ -7,3 +7,4 @@ pub mod Opened
 pub mod Finds
 pub mod Found
 pub mod Accepted
+pub mod Moved

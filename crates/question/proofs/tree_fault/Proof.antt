@@ -1,3 +1,5 @@
+-- The loop's invariant: what is to be found is what is found from `at` on, where at most 17 trees a node wait to be read. The measure is how many nodes
+-- may still come. Assumes nothing.
 use Prim.Native.Nat.{_+_, _*_, _≤_, max}
 use borrow.Author.Needs.{needs}
 use lib.ListN.{length}
