@@ -18,15 +18,15 @@ pub const SEED: u64 = 2026;
 
 /// Per profile: how many cases, the longest input taken, and the step through the indices (a sweep
 /// is too long to be stored whole).
-const GENERATED: [(Profile, usize, usize, u64); 15] = [
-    (Profile::Rich, 250, 480, 1),
-    (Profile::Calls, 500, 400, 1),
+const GENERATED: [(Profile, usize, usize, u64); 16] = [
+    (Profile::Rich, 180, 520, 1),
+    (Profile::Calls, 350, 440, 1),
     (Profile::Wide, 300, 400, 1),
-    (Profile::Members, 200, 480, 1),
-    (Profile::Operators, 150, 480, 1),
+    (Profile::Members, 130, 520, 1),
+    (Profile::Operators, 110, 520, 1),
     (Profile::Outside, 40, 900, 1),
-    (Profile::Damaged, 300, 400, 1),
-    (Profile::Boundary, 300, 700, 1),
+    (Profile::Damaged, 250, 420, 1),
+    (Profile::Boundary, 260, 500, 1),
     (Profile::Random, 200, 300, 1),
     (Profile::Short, 60, 900, 3_301),
     (Profile::OneNode, 120, 900, 3),
@@ -34,6 +34,7 @@ const GENERATED: [(Profile, usize, usize, u64); 15] = [
     (Profile::Singles, 200, 900, 41),
     (Profile::Assign, 200, 900, 59),
     (Profile::Flips, 200, 900, 263),
+    (Profile::Typed, 180, 480, 1),
 ];
 
 /// The cases in order: the named examples, then the generated ones inside the compared domain.

@@ -61,7 +61,7 @@ fn the_same_seed_gives_the_same_bytes() {
     assert_ne!(gen::mixed(1, 0), gen::mixed(2, 0));
 }
 
-const CHECKSUM: u64 = 0x6777_bb96_af93_ccd2;
+const CHECKSUM: u64 = 0x8c85_d2b7_fc2a_d21b;
 
 #[test]
 fn the_type_list_has_at_least_60_types() {

@@ -24,7 +24,7 @@ fn the_stored_files_are_what_the_oracle_says() {
     }
     assert!(stored_text == *text, "the text has another length");
     assert!(std::fs::read(folder().join("answers.bin")).expect("samples/answers.bin") == *binary);
-    assert!(text.len() + binary.len() < 2_500_000);
+    assert!(text.len() + binary.len() < 2_300_000);
 }
 
 #[test]

@@ -4,6 +4,7 @@ pub mod boundary;
 pub mod damage;
 pub mod model;
 pub mod sweep;
+pub mod typed;
 
 use crate::bytes::Bytes;
 use crate::rng::Rng;
@@ -48,9 +49,11 @@ pub enum Profile {
     Assign,
     /// Every single-byte change of a few inputs.
     Flips,
+    /// Long trees built for a wanted type, most of which pass.
+    Typed,
 }
 
-pub const PROFILES: [(Profile, &str); 15] = [
+pub const PROFILES: [(Profile, &str); 16] = [
     (Profile::Rich, "rich"),
     (Profile::Calls, "calls"),
     (Profile::Wide, "wide"),
@@ -66,6 +69,7 @@ pub const PROFILES: [(Profile, &str); 15] = [
     (Profile::Singles, "singles"),
     (Profile::Assign, "assign"),
     (Profile::Flips, "flips"),
+    (Profile::Typed, "typed"),
 ];
 
 impl Profile {
@@ -127,13 +131,14 @@ pub fn case(profile: Profile, seed: u64, index: u64) -> Case {
         Profile::Singles => sweep::singles(at),
         Profile::Assign => sweep::assign(at),
         Profile::Flips => sweep::flips(at),
+        Profile::Typed => typed::typed(&mut rng),
     };
     Case { table, question, buffer: buffer_length(&mut rng) }
 }
 
 /// The profiles without an end, mixed.
 pub fn mixed(seed: u64, index: u64) -> Case {
-    const TURN: [Profile; 10] = [
+    const TURN: [Profile; 11] = [
         Profile::Rich,
         Profile::Calls,
         Profile::Wide,
@@ -144,6 +149,7 @@ pub fn mixed(seed: u64, index: u64) -> Case {
         Profile::Boundary,
         Profile::Random,
         Profile::Outside,
+        Profile::Typed,
     ];
-    case(TURN[(index % 10) as usize], seed, index / 10)
+    case(TURN[(index % 11) as usize], seed, index / 11)
 }
