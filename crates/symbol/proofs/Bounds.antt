@@ -15,7 +15,7 @@ use Rattle.ty.specs.declared.read.TypeRead.the-variants.{Whole, Cut, Malformed,
 use Rattle.ty.specs.declared.read.TypeRead.{TypeRead}
 use Rattle.symbol.proofs.Turns.{read-inside}
 use Rattle.symbol.proofs.Types.{ends-in}
-use Rattle.symbol.specs.Front.{brokenHead, plainHead, nameHead, classHead, operatorsHead, paramsRead, functionWith, functionHead, fieldWith, fieldHead, visibilityHead, suspendHead, variantHead, headOf}
+use Rattle.symbol.specs.Front.{brokenHead, plainHead, nameHead, classHead, operatorsHead, paramsRead, functionWith, functionHead, fieldWith, fieldHead, visibilityHead, suspendHead, variantHead, headBy, headOf}
 use Rattle.symbol.specs.Walk.{EndsIn}
 use Rattle.symbol.specs.declared.front.Head.{Head}
 use Rattle.symbol.specs.declared.params.Reading.{Reading}
@@ -87,7 +87,7 @@ module _ (s : List ℕ) (some : 0 < length s) where
   variant = plain 5 _ 8 _ _ _ (omega arith)
 
   pub head-bounded : Bounded s (headOf s)
-  unfolding headOf
+  unfolding headOf headBy
   head-bounded =
       by-choice (Bounded s) (eqb (getD s 0 0) 1) (λ _. name) λ _.
       by-choice (Bounded s) (eqb (getD s 0 0) 2) (λ _. class) λ _.

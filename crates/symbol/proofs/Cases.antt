@@ -10,7 +10,7 @@ use Rattle.ty.specs.Bytes.{sameBytes}
 use Rattle.ty.specs.Read.{bodyLength, children, idIn, itemOf, itemAt, stopped, readFrom, readType}
 use Rattle.symbol.specs.Symbols.{Param, Overload}
 use Rattle.symbol.specs.Spelling.{builtinNames, spelled}
-use Rattle.symbol.specs.Front.{plainHead, orNone, goodByte, goodBytes, nameHead, classHead, operatorsHead, among, paramStep, runParams, paramsRead, functionWith, functionHead, fieldHead, visibilityHead, suspendHead, variantHead, headOf}
+use Rattle.symbol.specs.Front.{plainHead, orNone, goodByte, goodBytes, nameHead, classHead, operatorsHead, among, paramStep, runParams, paramsRead, functionWith, functionHead, fieldHead, visibilityHead, suspendHead, variantHead, headBy, headOf}
 use Rattle.symbol.specs.Table.{recordsFrom, recordsOf, countOf}
 use Rattle.symbol.specs.Refused.{sameKey, hasKey, hasClass, superLate, recordFault, faultFrom, tableFault}
 use Rattle.symbol.specs.Lookup.{recordsWith, typeLength, paramsFrom, overloadOf, namesIn, capitalIn, symbolsIn, symbolsOf}
@@ -104,7 +104,7 @@ pub record Cases : Type 0 where
       symbolsOf table .functionsOf 65535 41 ≡ record { builtin = true; visibility = 0; params = []; result = 11 ∷ [] } ∷ []
 
 pub cases : Cases
-unfolding choose sameBytes bodyLength children idIn itemOf itemAt stopped readFrom readType builtinNames spelled orNone goodByte goodBytes nameHead classHead operatorsHead among paramStep runParams paramsRead functionWith functionHead fieldHead plainHead visibilityHead suspendHead variantHead headOf recordsFrom countOf sameKey hasKey hasClass superLate recordFault faultFrom tableFault recordsWith typeLength paramsFrom overloadOf namesIn capitalIn symbolsIn climbs isSubclass names classA classB operatorsA functions fieldA others table twice endless
+unfolding choose sameBytes bodyLength children idIn itemOf itemAt stopped readFrom readType builtinNames spelled orNone goodByte goodBytes nameHead classHead operatorsHead among paramStep runParams paramsRead functionWith functionHead fieldHead plainHead visibilityHead suspendHead variantHead headBy headOf recordsFrom countOf sameKey hasKey hasClass superLate recordFault faultFrom tableFault recordsWith typeLength paramsFrom overloadOf namesIn capitalIn symbolsIn climbs isSubclass names classA classB operatorsA functions fieldA others table twice endless
 cases =
     record {
       empty = refl;

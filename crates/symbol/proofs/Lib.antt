@@ -1,5 +1,13 @@
 pub mod Types
 pub mod Turns
 pub mod Bounds
+pub mod Own
+pub mod Records
+pub mod Sizes
+pub mod Rows
+pub mod Keys
+pub mod Marks
+pub mod Cleans
+pub mod Passes
 pub mod Cases
 pub mod Ranks

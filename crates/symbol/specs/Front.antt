@@ -153,15 +153,18 @@ suspendHead s = plainHead s 5 false 7 (idAt s 1) (idAt s 3) (max (orNone (idAt s
 unfoldable pub variantHead : List ℕ → Head
 variantHead s = plainHead s 5 false 8 (idAt s 1) (idAt s 3) (max (idAt s 1) (idAt s 3))
 
--- any other kind is malformed
-unfoldable pub headOf : List ℕ → Head
-headOf s =
-    choose (eqb (getD s 0 0) 1) (nameHead s)
-    (choose (eqb (getD s 0 0) 2) (classHead s)
-    (choose (eqb (getD s 0 0) 3) (operatorsHead s)
-    (choose (eqb (getD s 0 0) 4) (functionHead s)
-    (choose (eqb (getD s 0 0) 5) (fieldHead s)
-    (choose (eqb (getD s 0 0) 6) (visibilityHead s)
-    (choose (eqb (getD s 0 0) 7) (suspendHead s)
-    (choose (eqb (getD s 0 0) 8) (variantHead s)
+-- a record of that kind; any other kind is malformed
+unfoldable pub headBy : ℕ → List ℕ → Head
+headBy kind s =
+    choose (eqb kind 1) (nameHead s)
+    (choose (eqb kind 2) (classHead s)
+    (choose (eqb kind 3) (operatorsHead s)
+    (choose (eqb kind 4) (functionHead s)
+    (choose (eqb kind 5) (fieldHead s)
+    (choose (eqb kind 6) (visibilityHead s)
+    (choose (eqb kind 7) (suspendHead s)
+    (choose (eqb kind 8) (variantHead s)
     (brokenHead s))))))))
+
+unfoldable pub headOf : List ℕ → Head
+headOf s = headBy (getD s 0 0) s

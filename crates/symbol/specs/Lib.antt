@@ -3,8 +3,10 @@ pub mod Spelling
 pub mod Front
 pub mod Table
 pub mod Refused
+pub mod Bucket
 pub mod Lookup
 pub mod Subclass
 pub mod Sections
 pub mod Walk
+pub mod Asked
 pub mod Answer

@@ -2,9 +2,10 @@
 -- one run.
 use Prim.Native.Nat.{ℕ, suc, _+_}
 use mathlib.Core.Path.{_≡_}
+use mathlib.Core.Bool.{_&&_}
 use mathlib.Core.List.{List, [], _∷_}
 use lib.ListN.{length}
-use lib.Dec.{ltb, eqb}
+use lib.Dec.{ltb, leb, eqb}
 use Rattle.ty.specs.Choose.{choose}
 use Rattle.symbol.specs.declared.walk.Cursor.{Cursor}
 use Rattle.symbol.specs.declared.checks.Sections.{Sections}
@@ -35,6 +36,22 @@ sectionsOf rs =
       visibilities = sectionOf 6 rs;
       suspends = sectionOf 7 rs;
       variants = sectionOf 8 rs;
+    }
+
+-- the sections when, at the cursor c, the kind rises from `low` to `high`: c is where kinds above low, up to high, begin
+abbrev pub entered : ℕ → ℕ → Cursor → ℕ → Cursor → Cursor
+entered low high c k old = choose (ltb low k && leb k high) c old
+
+unfoldable pub sectionsEntered : Sections → ℕ → ℕ → Cursor → Sections
+sectionsEntered s low high c =
+    record {
+      classes = entered low high c 2 (s .classes);
+      operators = entered low high c 3 (s .operators);
+      functions = entered low high c 4 (s .functions);
+      fields = entered low high c 5 (s .fields);
+      visibilities = entered low high c 6 (s .visibilities);
+      suspends = entered low high c 7 (s .suspends);
+      variants = entered low high c 8 (s .variants);
     }
 
 abbrev pub start : Cursor

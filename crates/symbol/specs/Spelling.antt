@@ -1,8 +1,8 @@
 -- The spellings of the built-in names, in the order of their ids. Document 01, "Types as bytes": the built-in names have fixed numbers.
-use Prim.Native.Nat.{ℕ}
+use Prim.Native.Nat.{ℕ, zero, suc}
 use mathlib.Core.Bool.{Bool, false, _||_}
 use mathlib.Core.List.{List, [], _∷_, _++_}
-use lib.ListN.{take, replicate}
+use lib.ListN.{take, drop, replicate}
 use Rattle.ty.specs.Bytes.{sameBytes}
 
 -- a name as a record has it: 24 bytes, zero-padded
@@ -53,6 +53,11 @@ builtinNames =
     padded (117 ∷ 112 ∷ 112 ∷ 101 ∷ 114 ∷ 99 ∷ 97 ∷ 115 ∷ 101 ∷ []) ∷
     padded (107 ∷ 101 ∷ 121 ∷ 115 ∷ []) ∷
     []
+
+-- so many names of 24 bytes each, one behind the other
+unfoldable pub rowsOf : ℕ → List ℕ → List (List ℕ)
+rowsOf zero s = []
+rowsOf (suc n) s = take 24 s ∷ rowsOf n (drop 24 s)
 
 -- a name's 24 bytes are among some
 unfoldable pub spelled : List ℕ → List (List ℕ) → Bool

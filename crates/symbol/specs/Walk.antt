@@ -38,7 +38,8 @@ recordAt t c = frontRecord (drop (c .at) t)
 -- a step: the record's front, and the cursor behind it
 pub record StepIs (t : List ℕ) (c : Cursor) (r : Step) : Type 0 where
   pub head : r .head ≡ headOf (drop (c .at) t)
-  pub next : r .next .at ≡ c .at + headOf (drop (c .at) t) .len
+  pub own : r .head ≡ headOf (recordAt t c)
+  pub next : r .next .at ≡ c .at + r .head .len
   pub index : r .next .index ≡ c .index + 1
   pub low : c .at < r .next .at
   pub high : r .next .at ≤ length t
@@ -47,3 +48,9 @@ pub record StepIs (t : List ℕ) (c : Cursor) (r : Step) : Type 0 where
 unfoldable pub before : ℕ → List Record → List Record
 before zero rs = []
 before (suc k) rs = getD rs k [] ∷ before k rs
+
+-- the record at the cursor has that front
+pub record Stands (t : List ℕ) (c : Cursor) (h : Head) : Type 0 where
+  pub at : At t c
+  pub some : c .at < length t
+  pub head : h ≡ headOf (drop (c .at) t)

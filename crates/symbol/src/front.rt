@@ -7,9 +7,9 @@ use ty::read::read_type;
 use ty::tail;
 ghost use mathlib.Core.Path.{_≡_};
 ghost use Prim.Native.Nat.{_≤_, _<_, max};
-ghost use lib.ListN.{length, getD};
+ghost use lib.ListN.{length};
 ghost use Rattle.ty.specs.Bytes.{idAt};
-ghost use Rattle.symbol.specs.Front.{brokenHead, plainHead, orNone, goodByte, goodBytes, nameHead, classHead, operatorsHead, fieldWith, fieldHead, visibilityHead, suspendHead, variantHead, headOf};
+ghost use Rattle.symbol.specs.Front.{brokenHead, plainHead, orNone, goodByte, goodBytes, nameHead, classHead, operatorsHead, fieldWith, fieldHead, visibilityHead, suspendHead, variantHead, headBy};
 ghost use Rattle.symbol.specs.Walk.{HeadIs, EndsIn};
 
 // The longest type in a table.
@@ -216,8 +216,7 @@ pub fn read_record(s: &[u8]) -> Head
 }
 
 fn read_kind(s: &[u8], kind: u8) -> Head
-    requires { ⌜ kind ≡ getD (now s) 0 0 ⌝ }
-    ensures { λ r. ⌜ r ≡ headOf (now (s .entry)) ⌝ }
+    ensures { λ r. ⌜ r ≡ headBy kind (now (s .entry)) ⌝ }
 {
     if kind == 1 {
         return read_name(s);

@@ -4,4 +4,5 @@ pub mod front;
 pub mod functions;
 pub mod lookups;
 pub mod params;
+pub mod spelling;
 pub mod walk;

@@ -2,6 +2,7 @@ use borrow.Author.Needs.{needs}
 use Rattle.symbol.proofs.Bounds.{head-bounded}
 use Rattle.symbol.proofs.front.read_record.Statement.{statement}
 use Rattle.symbol.proofs.front.read_record.Tie as tie
+use Rattle.symbol.specs.Front.{headOf}
 
 shared-slice-read-read-kind : tie.Need-shared-slice-read-read-kind
 shared-slice-read-read-kind c = search needs
@@ -10,7 +11,8 @@ read-kind-requires : tie.Need-read-kind-requires
 read-kind-requires c κs = search needs
 
 returns : tie.Need-returns
-returns c = let b = rw (← (c .read-kind .ensures)) at (head-bounded ((c .before .before .before .args .s .now)) ((c .before .before .before .pre))) in record { same = (c .read-kind .ensures); low = b .low; high = b .high }
+unfolding headOf
+returns c = let b = head-bounded ((c .before .before .before .args .s .now)) ((c .before .before .before .pre)) in record { same = (c .read-kind .ensures); low = rw ((c .read-kind .ensures)) (b .low); high = rw ((c .read-kind .ensures)) (b .high) }
 
 pub read-record-spec : {M : Type 1} → statement M
 read-record-spec = tie.close (tie.spec shared-slice-read-read-kind read-kind-requires returns)

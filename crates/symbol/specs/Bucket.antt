@@ -1,0 +1,24 @@
+-- Buckets of keys, by which the check of a table finds quickly that a key was not met before. Records with one key have one bucket; nothing but the check's speed
+-- depends on which it is.
+use Prim.Native.Nat.{ℕ, zero, suc, _+_, _*_, _%_}
+use mathlib.Core.List.{List}
+use lib.ListN.{getD}
+use lib.Dec.{ltb, eqb}
+use Rattle.ty.specs.Choose.{choose}
+use Rattle.symbol.specs.Front.{headOf}
+use Rattle.symbol.specs.Table.{Record}
+use Rattle.symbol.specs.Refused.{nameBytes}
+
+-- of the first k bytes of a name
+unfoldable pub hashOf : ℕ → List ℕ → ℕ
+hashOf zero name = 0
+hashOf (suc k) name = (hashOf k name * 31 + getD name k 0) % 262144
+
+-- of two ids
+abbrev pub pairOf : ℕ → ℕ → ℕ
+pairOf one two = (one * 509 + two) % 262144
+
+unfoldable pub bucketOf : Record → ℕ
+bucketOf r =
+    choose (eqb (headOf r .kind) 1) (hashOf 24 (nameBytes r))
+    (choose (ltb (headOf r .kind) 4) (headOf r .one) (pairOf (headOf r .one) (headOf r .two)))
