@@ -1,10 +1,10 @@
 -- A question's header. Document 01, "Table and question": current type, package (2 bytes, 65,535 none), in-suspend byte 0 or 1.
 use Prim.Native.Nat.{ℕ}
-use mathlib.Core.List.{List}
-use lib.ListN.{getD}
 use lib.Dec.{eqb}
-use Rattle.ty.specs.Bytes.{idAt}
+use lib.ListN.{getD}
+use mathlib.Core.List.{List}
 use Rattle.question.specs.declared.Header.{Header}
+use Rattle.ty.specs.Bytes.{idAt}
 
 -- how many bytes a header has; the tree stands behind them
 abbrev pub headerBytes : ℕ

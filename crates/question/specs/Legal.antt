@@ -1,14 +1,14 @@
 -- What an accepted question's tree holds: each leaf one whole type, and no id that is not defined.
 use Prim.Native.Nat.{ℕ}
-use mathlib.Core.Path.{_≡_}
-use mathlib.Core.Bool.{Bool, true}
 use lib.ListN.{length}
+use mathlib.Core.Bool.{Bool, true}
+use mathlib.Core.Path.{_≡_}
+use Rattle.question.specs.Refused.{defined}
+use Rattle.question.specs.Tree.{Node, Row, leaf, binary, unary, named, member, call, method, nil, cons}
+use Rattle.question.specs.declared.Names.{Names}
 use Rattle.ty.specs.Bytes.{Ty}
 use Rattle.ty.specs.Read.{readType, longestType}
 use Rattle.ty.specs.declared.read.TypeRead.the-variants.{Whole}
-use Rattle.question.specs.declared.Names.{Names}
-use Rattle.question.specs.Refused.{defined}
-use Rattle.question.specs.Tree.{Node, Row, leaf, binary, unary, named, member, call, method, nil, cons}
 
 -- the bytes are one type of at most 192 bytes; top is the highest id in it
 pub record LeafLegal (N : Names) (t : Ty) : Type 0 where

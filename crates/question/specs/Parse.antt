@@ -1,12 +1,12 @@
 -- The tree of a question. It is read as a row of trees: each node takes its children off the front of the row that stands behind it.
 use Prim.Native.Nat.{ℕ, zero, suc, _+_}
-use mathlib.Core.List.{List, []}
 use lib.ListN.{take, drop}
-use Rattle.question.specs.declared.node.NodeRead.{NodeRead}
-use Rattle.question.specs.declared.node.NodeRead.the-variants.{Bad, Leaf, Endless, Binary, Unary, Named, Member, Call, Method}
+use mathlib.Core.List.{List, []}
 use Rattle.question.specs.Header.{headerBytes}
 use Rattle.question.specs.Read.{nodeAt, ownBytes, children}
 use Rattle.question.specs.Tree.{Node, Row, leaf, binary, unary, named, member, call, method, nil, cons}
+use Rattle.question.specs.declared.node.NodeRead.the-variants.{Bad, Leaf, Endless, Binary, Unary, Named, Member, Call, Method}
+use Rattle.question.specs.declared.node.NodeRead.{NodeRead}
 
 -- document 01: at most 64 nodes
 abbrev pub mostNodes : ℕ

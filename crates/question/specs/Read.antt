@@ -1,18 +1,18 @@
 -- Reading one node's own bytes, without its children. Document 01, "Table and question": 0 leaf, a type; 1 binary, operator byte in `BinOp` order 0 to 22;
 -- 2 unary, `UnOp` order 0 to 6; 3 named argument, id; 4 member, id; 5 call, id and count to 16; 6 method call, id and count, object first.
 use Prim.Native.Nat.{ℕ, suc, _+_}
-use mathlib.Core.Bool.{Bool, _&&_}
-use mathlib.Core.List.{List}
-use lib.ListN.{length, getD, drop}
 use lib.Dec.{leb, eqb}
+use lib.ListN.{length, getD, drop}
+use mathlib.Core.Bool.{_&&_}
+use mathlib.Core.List.{List}
+use Rattle.question.specs.declared.node.NodeRead.the-variants.{Bad, Leaf, Endless, Binary, Unary, Named, Member, Call, Method}
+use Rattle.question.specs.declared.node.NodeRead.{NodeRead}
+use Rattle.ty.specs.Bytes.{idAt}
 use Rattle.ty.specs.Choose.{choose}
 use Rattle.ty.specs.Kind.{noKind}
-use Rattle.ty.specs.Bytes.{idAt}
 use Rattle.ty.specs.Read.{readType, longestType}
-use Rattle.ty.specs.declared.read.TypeRead.{TypeRead}
 use Rattle.ty.specs.declared.read.TypeRead.the-variants.{Whole, Cut, Malformed, Endless as Unended}
-use Rattle.question.specs.declared.node.NodeRead.{NodeRead}
-use Rattle.question.specs.declared.node.NodeRead.the-variants.{Bad, Leaf, Endless, Binary, Unary, Named, Member, Call, Method}
+use Rattle.ty.specs.declared.read.TypeRead.{TypeRead}
 
 -- the last operators of `BinOp` and of `UnOp`, and the most arguments of a call
 abbrev pub lastBinary : ℕ

@@ -1,19 +1,18 @@
 -- Refusals of a question. Document 01, "Refused, and by whose doing": 8 over 16,384 bytes, malformed, cut, or bytes behind the tree; 9 a 65th node; 10 undefined id;
 -- 11 leaf type without end in 192 bytes. Lengths before contents; then the first faulty node (header before nodes), lowest number within it.
 use Prim.Native.Nat.{ℕ, zero, suc, _+_}
-use mathlib.Core.Bool.{Bool, true, false, _&&_, _||_}
-use mathlib.Core.List.{List}
+use lib.Dec.{ltb, eqb}
 use lib.ListN.{length}
-use lib.Dec.{ltb, leb, eqb}
+use mathlib.Core.Bool.{Bool, _&&_, _||_}
+use mathlib.Core.List.{List}
+use Rattle.question.specs.Header.{headerBytes, suspendByte, headerOf}
+use Rattle.question.specs.Parse.{mostNodes}
+use Rattle.question.specs.Read.{nodeAt, ownBytes, children}
+use Rattle.question.specs.declared.Names.{Names}
+use Rattle.question.specs.declared.node.NodeRead.the-variants.{Bad, Leaf, Endless, Binary, Unary, Named, Member, Call, Method}
+use Rattle.question.specs.declared.node.NodeRead.{NodeRead}
 use Rattle.ty.specs.Choose.{choose}
 use Rattle.ty.specs.Name.{noId, idDefined}
-use Rattle.question.specs.declared.Header.{Header}
-use Rattle.question.specs.declared.Names.{Names}
-use Rattle.question.specs.declared.node.NodeRead.{NodeRead}
-use Rattle.question.specs.declared.node.NodeRead.the-variants.{Bad, Leaf, Endless, Binary, Unary, Named, Member, Call, Method}
-use Rattle.question.specs.Header.{headerBytes, suspendByte, headerOf}
-use Rattle.question.specs.Read.{nodeAt, ownBytes, children}
-use Rattle.question.specs.Parse.{mostNodes}
 
 abbrev pub longestQuestion : ℕ
 longestQuestion = 16384

@@ -1,9 +1,9 @@
 -- Past the nodes of `pending` trees, at most so many, none of them judged. Document 01: the arguments of a method call that stay unvisited.
 use Prim.Native.Nat.{ℕ, zero, suc, _+_}
 use mathlib.Core.List.{List}
-use Rattle.question.specs.declared.node.Skipped.{Skipped}
-use Rattle.question.specs.Read.{nodeAt, ownBytes, children}
 use Rattle.question.specs.Parse.{mostNodes}
+use Rattle.question.specs.Read.{nodeAt, ownBytes, children}
+use Rattle.question.specs.declared.node.Skipped.{Skipped}
 
 -- `nodes` were passed before
 unfoldable pub skipFrom : ℕ → List ℕ → ℕ → ℕ → ℕ → Skipped

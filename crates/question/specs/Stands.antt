@@ -1,12 +1,12 @@
 -- A tree stands at a position of the question: its root is read there, and its children stand behind it, one behind the other.
 use Prim.Native.Nat.{ℕ, _+_}
-use mathlib.Core.Path.{_≡_}
-use mathlib.Core.List.{List}
 use lib.ListN.{length, take, drop}
-use Rattle.ty.specs.Bytes.{Ty}
-use Rattle.question.specs.declared.node.NodeRead.the-variants.{Leaf, Binary, Unary, Named, Member, Call, Method}
+use mathlib.Core.List.{List}
+use mathlib.Core.Path.{_≡_}
 use Rattle.question.specs.Read.{nodeAt}
 use Rattle.question.specs.Tree.{Node, Row, leaf, binary, unary, named, member, call, method, nil, cons, bytes, count}
+use Rattle.question.specs.declared.node.NodeRead.the-variants.{Leaf, Binary, Unary, Named, Member, Call, Method}
+use Rattle.ty.specs.Bytes.{Ty}
 
 -- a leaf's type is the bytes behind its kind
 pub record LeafAt (q : List ℕ) (t : Ty) (at : ℕ) : Type 0 where

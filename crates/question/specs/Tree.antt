@@ -1,7 +1,7 @@
 -- The question's tree. Document 01, "Table and question": one tree, parent first, its nodes numbered from 0 in byte order.
 use Prim.Native.Nat.{ℕ, suc, _+_, _≤_}
-use mathlib.Core.Option.{Option, none, some}
 use lib.ListN.{length}
+use mathlib.Core.Option.{Option, none, some}
 use Rattle.ty.specs.Bytes.{Ty}
 use Rattle.ty.specs.Read.{longestType}
 
