@@ -820,6 +820,11 @@ fn table_refusals(list: &mut List) {
     put("table.6-its-own-superclass", with_super(1, 1), 6);
     put("table.6-a-later-superclass", joined(&[&with_super(1, 2), &[2, 2, 0, 255, 255, 255, 255, 0]]), 6);
     put("table.an-earlier-superclass", joined(&[&[2, 2, 0, 255, 255, 255, 255, 0], &with_super(1, 2)]), 0);
+    put(
+        "table.5-a-superclass-that-stands-earlier-and-again-later",
+        joined(&[&[2, 2, 0, 255, 255, 255, 255, 0], &with_super(1, 2), &[2, 2, 0, 255, 255, 255, 255, 0]]),
+        5,
+    );
     put("table.a-superclass-without-a-record", with_super(1, 2), 0);
     put(
         "table.a-superclass-behind-a-malformed-record-is-not-told-apart",

@@ -11,8 +11,7 @@ use oracle::name::BUILT_IN;
 use oracle::{question_number, table, table_number};
 use std::io::{BufWriter, Write};
 
-const PROFILES: [Profile; 5] =
-    [Profile::Damaged, Profile::Boundary, Profile::Random, Profile::Rich, Profile::Calls];
+const PROFILES: [Profile; 5] = [Profile::Damaged, Profile::Boundary, Profile::Random, Profile::Rich, Profile::Calls];
 
 fn stop(message: &str) -> ! {
     eprintln!("questions: {}", message);
