@@ -1,17 +1,25 @@
--- The climb's fuel is enough where superclasses stand earlier. Assumes nothing.
+-- The climb's fuel is enough where superclasses stand earlier, as in an accepted table, and a loop climbs along. Assumes nothing.
 use Prim.Native.Nat.{ℕ, zero, suc, _+_, _≤_, _<_}
-use mathlib.Core.Path.{_≡_, refl, ap}
+use mathlib.Core.Path.{_≡_, refl, sym, ap, _∙_}
 use mathlib.Core.Bool.{Bool, true, false}
+use mathlib.Core.List.{List}
 use mathlib.Core.Option.{Option, none, some}
 use native.Mathlib.Nat.{not-suc-le-zero}
 use native.Mathlib.Omega.{arith}
 use lib.Dec.{eqb}
-use borrow.Author.Tests.{eqb-true, eqb-false}
+use borrow.Author.Tests.{eqb-true, eqb-false, ne-eqb}
+use Rattle.ty.proofs.Choice.{by-choice}
 use Rattle.ty.specs.Choose.{choose}
 use Rattle.ty.specs.Name.{noId}
 use Rattle.ty.specs.Bytes.{Ty}
+use Rattle.symbol.proofs.Ranks.{rankOf, class-rank, super-lower}
+use Rattle.symbol.specs.declared.lookups.Mask.{Mask}
+use Rattle.symbol.specs.declared.lookups.Mask.the-variants as mask
+use Rattle.symbol.specs.Answer.{maskOf}
+use Rattle.symbol.specs.Lookup.{symbolsOf}
+use Rattle.symbol.specs.Refused.{tableFault}
 use Rattle.symbol.specs.Symbols.{Symbols}
-use Rattle.rules.specs.OperatorMethod.{atClass, climb}
+use Rattle.rules.specs.OperatorMethod.{methodId, hasOperator, firstResult, atClass, climb}
 
 -- each class has a rank of at most the number of class records, and its superclass, if there is one, a lower one
 pub record Ranked (S : Symbols) : Type 0 where
@@ -41,3 +49,78 @@ module _ (S : Symbols) (R : Ranked S) where
   -- as many steps as there are classes, and one, are enough
   pub climb-enough : (f op c : ℕ) → climb S (suc (S .classes) + f) op c ≡ climb S (suc (S .classes)) op c
   climb-enough f op c = let l : R .rank c ≤ S .classes = R .low c in enough (suc (S .classes) + f) (suc (S .classes)) op c (omega arith) (omega arith)
+
+-- ---- in an accepted table
+pub ranked : (t : List ℕ) → tableFault t ≡ 0 → Ranked (symbolsOf t)
+ranked t e = record { rank = rankOf t; low = class-rank t; falls = super-lower t e }
+
+-- how far the climb can still go from class c
+unfoldable pub height : List ℕ → ℕ → ℕ
+height t c = choose (eqb c noId) 0 (suc (rankOf t c))
+
+-- the climb from `class` goes on at class c, with so many steps left
+pub record Going (t : List ℕ) (op class c : ℕ) : Type 0 where
+  pub fuel : ℕ
+  pub left : height t c ≤ fuel
+  pub same : climb (symbolsOf t) (suc (symbolsOf t .classes)) op class ≡ climb (symbolsOf t) fuel op c
+
+module _ (t : List ℕ) where
+  pub super-below : tableFault t ≡ 0 → (c : ℕ) → (c ≡ noId → ⊥) → height t (symbolsOf t .superOf c) < height t c
+  unfolding height choose
+  super-below e c n = rw (ne-eqb c noId n) (go (eqb (symbolsOf t .superOf c) noId) refl)
+    where
+      go : (b : Bool) → eqb (symbolsOf t .superOf c) noId ≡ b → choose b 0 (suc (rankOf t (symbolsOf t .superOf c))) < suc (rankOf t c)
+      go true i = omega arith
+      go false i = omega (arith, super-lower t e c (eqb-false _ _ i))
+
+  some-height : (c : ℕ) → (c ≡ noId → ⊥) → 0 < height t c
+  unfolding height choose
+  some-height c n = rw (ne-eqb c noId n) (omega arith)
+
+module _ (t : List ℕ) (op class : ℕ) where
+  pub going-first : Going t op class class
+  unfolding height
+  going-first =
+      record {
+        fuel = suc (symbolsOf t .classes);
+        left = by-choice (λ (n : ℕ). n ≤ suc (symbolsOf t .classes)) _ (λ _. omega arith) (λ _. omega (arith, class-rank t class));
+        same = refl;
+      }
+
+  -- one class of the climb
+  climb-at : (f c : ℕ) → (c ≡ noId → ⊥)
+      → climb (symbolsOf t) (suc f) op c ≡ atClass (symbolsOf t) op c (symbolsOf t .operatorsOf c) (climb (symbolsOf t) f op (symbolsOf t .superOf c))
+  unfolding climb choose
+  climb-at f c n = rw (ne-eqb c noId n)
+
+  climb-end : (f c : ℕ) → c ≡ noId → climb (symbolsOf t) f op c ≡ none
+  unfolding climb choose
+  climb-end zero c e = refl
+  climb-end (suc f) c e = rw e
+
+  pub going-end : (c : ℕ) → Going t op class c → c ≡ noId → climb (symbolsOf t) (suc (symbolsOf t .classes)) op class ≡ none
+  going-end c g e = g .same ∙ climb-end (g .fuel) c e
+
+  module _ (c : ℕ) (n : c ≡ noId → ⊥) where
+    -- the climb with a step taken
+    stepped : (f : ℕ) → height t c ≤ f → climb (symbolsOf t) (suc (symbolsOf t .classes)) op class ≡ climb (symbolsOf t) f op c
+        → (g : ℕ) × (f ≡ suc g) × (climb (symbolsOf t) (suc (symbolsOf t .classes)) op class ≡ atClass (symbolsOf t) op c (symbolsOf t .operatorsOf c) (climb (symbolsOf t) g op (symbolsOf t .superOf c)))
+    stepped zero l s = absurd (omega (arith, some-height t c n))
+    stepped (suc f) l s = (f, refl, s ∙ climb-at f c n)
+
+    pub no-set : Going t op class c → (r : Mask) → maskOf r ≡ symbolsOf t .operatorsOf c → r ≡ mask.Nothing
+        → climb (symbolsOf t) (suc (symbolsOf t .classes)) op class ≡ none
+    unfolding atClass
+    no-set g r h e = stepped (g .fuel) (g .left) (g .same) .2 ∙ rw (← h, e)
+
+    module _ (g : Going t op class c) (r : Mask) (m : ℕ) (h : maskOf r ≡ symbolsOf t .operatorsOf c) (e : r ≡ mask.Is m) where
+      pub has-method : hasOperator m op ≡ true
+          → climb (symbolsOf t) (suc (symbolsOf t .classes)) op class ≡ some (firstResult (symbolsOf t .functionsOf c (methodId op)))
+      unfolding atClass choose
+      has-method b = stepped (g .fuel) (g .left) (g .same) .2 ∙ rw (← h, e, b)
+
+      pub going-up : tableFault t ≡ 0 → hasOperator m op ≡ false → Going t op class (symbolsOf t .superOf c)
+      unfolding atClass choose
+      going-up a b =
+          let s = stepped (g .fuel) (g .left) (g .same) in
+          record { fuel = s .0; left = omega (arith, super-below t a c n, s .1, g .left); same = s .2 ∙ rw (← h, e, b) }

@@ -4,6 +4,7 @@ pub mod Visibility
 pub mod Out
 pub mod Diag
 pub mod Made
+pub mod Ruled
 pub mod Operand
 pub mod Assign
 pub mod Accept

@@ -1,0 +1,28 @@
+use borrow.Author.Needs.{needs}
+use Rattle.area.specs.Source.{typeFrom}
+use Rattle.rules.proofs.binary.add.Statement.{statement}
+use Rattle.rules.proofs.binary.add.Tie as tie
+use Rattle.rules.specs.Binary.{addOut}
+use Rattle.rules.specs.Out.{unless}
+use Rattle.rules.specs.Ruled.{reportOf}
+use Rattle.ty.proofs.Choice.{chain}
+
+pub add-spec : {M : Type 1} → statement M
+unfolding addOut typeFrom reportOf unless
+add-spec =
+    tie.close
+    (tie.spec
+    (λ c κs. search needs)
+    (λ c table x y. rw (c .plain .ensures table x y) (search chain depth 16))
+    (λ c κs. search needs)
+    (λ c κs. search needs)
+    (λ c κs. search needs)
+    (λ c table x y. rw (c .plain2 .ensures table x y, ← c .before .before .fractional .ensures, ← c .before .before .before .before .numbers .ensures) (search chain depth 16))
+    (λ c κs. search needs)
+    (λ c table x y. rw (c .plain3 .ensures table x y, ← c .before .before .fractional .ensures, ← c .before .before .before .before .numbers .ensures) (search chain depth 16))
+    (λ c κs. search needs)
+    (λ c κs. search needs)
+    (λ c κs. search needs)
+    (λ c table x y. rw (c .plain4 .ensures table x y, ← c .before .before .before .before .before .numbers .ensures, ← c .before .before .before .either .ensures, ← c .before .before .either2 .ensures) (search chain depth 16))
+    (λ c κs. search needs)
+    (λ c table x y. rw (c .fails .ensures table x y, ← c .before .before .before .before .before .numbers .ensures, ← c .before .before .before .either .ensures, ← c .before .before .either2 .ensures) (search chain depth 16)))

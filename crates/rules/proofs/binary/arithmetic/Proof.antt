@@ -1,0 +1,25 @@
+use borrow.Author.Needs.{needs}
+use Rattle.area.specs.Source.{typeFrom}
+use Rattle.rules.proofs.binary.arithmetic.Statement.{statement}
+use Rattle.rules.proofs.binary.arithmetic.Tie as tie
+use Rattle.rules.specs.Binary.{arithmeticOut}
+use Rattle.rules.specs.Out.{unless}
+use Rattle.rules.specs.Ruled.{reportOf}
+use Rattle.ty.proofs.Choice.{chain}
+
+pub arithmetic-spec : {M : Type 1} → statement M
+unfolding arithmeticOut typeFrom reportOf unless
+arithmetic-spec =
+    tie.close
+    (tie.spec
+    (λ c κs. search needs)
+    (λ c κs. search needs)
+    (λ c κs. search needs)
+    (λ c table x y. rw (c .plain .ensures table x y, ← c .before .before .fractional .ensures, ← c .before .before .before .before .numbers .ensures) (search chain depth 16))
+    (λ c κs. search needs)
+    (λ c κs. search needs)
+    (λ c table x y. rw (c .plain2 .ensures table x y, ← c .before .before .before .before .fractional .ensures, ← c .before .before .before .before .before .before .numbers .ensures, ← c .before .before .either .ensures) (search chain depth 16))
+    (λ c κs. search needs)
+    (λ c table x y. rw (c .plain3 .ensures table x y, ← c .before .before .before .before .fractional .ensures, ← c .before .before .before .before .before .before .numbers .ensures, ← c .before .before .either .ensures) (search chain depth 16))
+    (λ c κs. search needs)
+    (λ c table x y. rw (c .fails .ensures table x y, ← c .before .before .numbers .ensures) (search chain depth 16)))

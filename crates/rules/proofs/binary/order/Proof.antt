@@ -1,0 +1,17 @@
+use borrow.Author.Needs.{needs}
+use Rattle.area.specs.Source.{typeFrom}
+use Rattle.rules.proofs.binary.order.Statement.{statement}
+use Rattle.rules.proofs.binary.order.Tie as tie
+use Rattle.rules.specs.Out.{unless}
+use Rattle.rules.specs.Ruled.{reportOf}
+
+pub order-spec : {M : Type 1} → statement M
+unfolding typeFrom reportOf unless
+order-spec =
+    tie.close
+    (tie.spec
+    (λ c κs. search needs)
+    (λ c κs. search needs)
+    (λ c κs. search needs)
+    (λ c κs. search needs)
+    (λ c table x y. rw (c .checked .ensures table x y, c .before .before .before .numbers .ensures, c .before .before .either .ensures, c .before .char-string .ensures)))
