@@ -46,6 +46,10 @@ record Numbers : Type 0 where
   headerFirst : number 0 (40 ∷ 0 ∷ 255 ∷ 255 ∷ 0 ∷ 9 ∷ []) ≡ 10
   -- a malformed header with an undefined id
   suspendFirst : number 0 (40 ∷ 0 ∷ 255 ∷ 255 ∷ 2 ∷ 0 ∷ 0 ∷ []) ≡ 8
+  -- 16,384 bytes: the header is looked at
+  longest : number 0 (40 ∷ 0 ∷ 255 ∷ 255 ∷ 0 ∷ replicate 16379 0) ≡ 10
+  -- 16,385 bytes: it is not
+  tooLong : number 0 (40 ∷ 0 ∷ 255 ∷ 255 ∷ 0 ∷ replicate 16380 0) ≡ 8
   binaryLast : number 0 (under (1 ∷ 22 ∷ 0 ∷ 0 ∷ 0 ∷ 0 ∷ [])) ≡ 0
   binaryPast : number 0 (under (1 ∷ 23 ∷ 0 ∷ 0 ∷ 0 ∷ 0 ∷ [])) ≡ 8
   unaryPast : number 0 (under (2 ∷ 7 ∷ 0 ∷ 0 ∷ [])) ≡ 8
@@ -102,6 +106,8 @@ numbers =
       packageKnown = refl;
       headerFirst = refl;
       suspendFirst = refl;
+      longest = refl;
+      tooLong = refl;
       binaryLast = refl;
       binaryPast = refl;
       unaryPast = refl;

@@ -33,6 +33,14 @@ fn headers() {
     check::expect(number(b"\x28\x00\xff\xff\x00\x09", 0) == 10);
 }
 
+// The length: of a question that is too long nothing else is looked at.
+fn lengths() {
+    let mut long = [0u8; 16385];
+    long[0] = 40;
+    check::expect(number(&long[..16384], 0) == 10);
+    check::expect(number(&long, 0) == 8);
+}
+
 // The nodes: operators, counts, what is cut, bytes behind the tree.
 fn nodes() {
     // document 01's sample, with the last unary operator
@@ -173,6 +181,7 @@ fn limits() {
 
 fn main() {
     headers();
+    lengths();
     nodes();
     ids();
     limits();
