@@ -9,5 +9,8 @@ pub mod Keys
 pub mod Marks
 pub mod Cleans
 pub mod Passes
+pub mod Accepts
+pub mod Finds
+pub mod Lists
 pub mod Cases
 pub mod Ranks

@@ -43,6 +43,23 @@ abbrev pub visibilityOf : Visibility → Option ℕ
 visibilityOf visibility.Nothing = none
 visibilityOf (visibility.Is v) = some v
 
+-- ---- a search for the records of kind k with the key a, b
+
+-- one that stands at a place, and the others behind it
+pub record HereIs (t : List ℕ) (all : List Record) (k a b : ℕ) (p : Place) : Type 0 where
+  pub first : all ≡ frontRecord (drop (p .at) t) ∷ recordsWith k a b (recordsOf (drop (p .next .at) t))
+  pub head : p .head ≡ headOf (drop (p .at) t)
+  pub own : p .head ≡ headOf (frontRecord (drop (p .at) t))
+  pub kind : p .head .kind ≡ k
+  pub error : p .head .error ≡ false
+  pub inside : p .at + p .head .len ≤ length t
+  pub next : At t (p .next)
+  pub later : p .at < p .next .at
+
+abbrev pub FoundIs : List ℕ → List Record → ℕ → ℕ → ℕ → Found → Type 0
+FoundIs t all k a b found.Nothing = all ≡ []
+FoundIs t all k a b (found.Here p) = HereIs t all k a b p
+
 -- ---- functions
 
 -- the functions of an owner and a name from the cursor on
@@ -58,7 +75,7 @@ pub record FunctionAt (t : List ℕ) (p : Place) : Type 0 where
   pub head : p .head ≡ headOf (drop (p .at) t)
   pub kind : p .head .kind ≡ 4
   pub error : p .head .error ≡ false
-  pub inside : p .at ≤ length t
+  pub inside : p .at + p .head .len ≤ length t
   pub next : At t (p .next)
 
 -- a search among `all` finds nothing, or the first at a place and the others behind it
