@@ -131,7 +131,7 @@ pub record Going (t marks : List ℕ) (c : Cursor) (k n : ℕ) (s : Sections) : 
   pub few : n ≤ c .index
   pub marked : Marked k (before (c .index) (recordsOf t)) marks
   pub classes : (id : ℕ) → getD marks id 0 ≡ 2 → hasClass id (before (c .index) (recordsOf t)) ≡ true
-  pub wide : length marks ≡ 262144
+  pub wide : length marks ≡ 65536
   pub ahead : Ahead t c k
   pub entered : Entered k (recordsOf t) s
 
@@ -235,7 +235,7 @@ module _ (t marks : List ℕ) (c : Cursor) (k n : ℕ) (s : Sections) (g : Going
           let o : choose (eqb (headOf (recordAt t c) .kind) 1) 1 0 ≡ m = sym (e ∙ ap (λ (h : Head). choose (eqb (h .kind) 1) 1 0) (st .own)) in
           omega (arith, g .names)
 
-      module _ (b : ℕ) (is : b ≡ bucketOf (recordAt t c)) (low : b < 262144) where
+      module _ (b : ℕ) (is : b ≡ bucketOf (recordAt t c)) (low : b < 65536) where
         next-marked : Marked (p .head .kind) (before (p .next .index) (recordsOf t)) (set marks b (p .head .kind))
         next-marked =
             let h : headOf (recordAt t c) .kind ≡ p .head .kind = ap (λ (h : Head). h .kind) (sym (st .own)) in
@@ -270,7 +270,7 @@ module _ (t marks : List ℕ) (c : Cursor) (k n : ℕ) (s : Sections) (g : Going
             }
 
 -- at the start
-pub going-start : (t marks : List ℕ) (c : Cursor) (s : Sections) → length t ≤ 60000 → c ≡ start → length marks ≡ 262144
+pub going-start : (t marks : List ℕ) (c : Cursor) (s : Sections) → length t ≤ 60000 → c ≡ start → length marks ≡ 65536
     → ((id : ℕ) → getD marks id 0 ≡ 0) → Going t marks c 0 0 s
 unfolding before countOf
 going-start t marks c s h e w z = subst (λ (x : Cursor). Going t marks x 0 0 s) (sym e) first

@@ -12,11 +12,11 @@ use Rattle.symbol.specs.Refused.{nameBytes}
 -- of the first k bytes of a name
 unfoldable pub hashOf : ℕ → List ℕ → ℕ
 hashOf zero name = 0
-hashOf (suc k) name = (hashOf k name * 31 + getD name k 0) % 262144
+hashOf (suc k) name = (hashOf k name * 31 + getD name k 0) % 65536
 
 -- of two ids
 abbrev pub pairOf : ℕ → ℕ → ℕ
-pairOf one two = (one * 509 + two) % 262144
+pairOf one two = (one * 509 + two) % 65536
 
 unfoldable pub bucketOf : Record → ℕ
 bucketOf r =

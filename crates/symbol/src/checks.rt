@@ -206,12 +206,12 @@ fn record_fault(t: &[u8], me: Cursor, h: Head, kind: u8, names: u16, fresh: bool
 
 // A number for 24 bytes of a name.
 fn hash(name: &[u8]) -> usize
-    ensures { λ r. ⌜ (r ≡ hashOf 24 (now (name .entry))) × (r < 262144) ⌝ }
+    ensures { λ r. ⌜ (r ≡ hashOf 24 (now (name .entry))) × (r < 65536) ⌝ }
 {
     let mut sum: usize = 0;
     let mut i: usize = 0;
     while i < 24 {
-        sum = (sum * 31 + wide(byte_at(name, i))) % 262144;
+        sum = (sum * 31 + wide(byte_at(name, i))) % 65536;
         i += 1;
     }
     sum
@@ -232,7 +232,7 @@ fn index(id: u16) -> usize
 // The bucket of the record h at me.
 fn bucket(t: &[u8], me: Cursor, h: Head) -> usize
     requires { ⌜ Stands (now t) me h ⌝ }
-    ensures { λ r. ⌜ (r ≡ bucketOf (recordAt (now (t .entry)) me)) × (r < 262144) ⌝ }
+    ensures { λ r. ⌜ (r ≡ bucketOf (recordAt (now (t .entry)) me)) × (r < 65536) ⌝ }
 {
     if h.kind == 1 {
         return hash(name_at(t, me.at));
@@ -240,7 +240,7 @@ fn bucket(t: &[u8], me: Cursor, h: Head) -> usize
     if h.kind < 4 {
         return index(h.one);
     }
-    (index(h.one) * 509 + index(h.two)) % 262144
+    (index(h.one) * 509 + index(h.two)) % 65536
 }
 
 // Nothing was marked by a key of this kind; functions may repeat.
@@ -323,7 +323,7 @@ fn check_records(t: &[u8]) -> Checked
     requires { ⌜ length (now t) ≤ 60000 ⌝ }
     ensures { λ r. ⌜ r ≡ checkedOf (now (t .entry)) ⌝ }
 {
-    let mut marks = [0u8; 262144];
+    let mut marks = [0u8; 65536];
     let mut c = Cursor::new();
     let mut kind: u8 = 0;
     let mut names: u16 = 0;

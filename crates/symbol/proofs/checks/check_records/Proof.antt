@@ -20,7 +20,7 @@ new-requires-2 : tie.Need-new-requires-2 Inv-loop μ-loop
 new-requires-2 c κs = search needs
 
 loop-holds : tie.Need-loop-holds Inv-loop μ-loop
-loop-holds c = going-start _ _ _ _ ((c .before .before .before .pre)) ((c .before .new .ensures)) (length-replicate {A = ℕ} 262144 0) (λ id. zeros 262144 id)
+loop-holds c = going-start _ _ _ _ ((c .before .before .before .pre)) ((c .before .new .ensures)) (length-replicate {A = ℕ} 65536 0) (λ id. zeros 65536 id)
 
 step-requires : tie.Need-step-requires Inv-loop μ-loop
 step-requires c κs = ((c .if1 .taken), (c .before .before .loop .inv .at .behind))

@@ -8,7 +8,7 @@ use Rattle.symbol.proofs.checks.hash.Tie as tie
 use Rattle.symbol.specs.Bucket.{hashOf}
 
 abbrev Inv-loop : tie.InvT-loop
-Inv-loop name sum₀ i₀ sum i = (i ≤ 24) × (sum ≡ hashOf i name) × (sum < 262144)
+Inv-loop name sum₀ i₀ sum i = (i ≤ 24) × (sum ≡ hashOf i name) × (sum < 65536)
 
 abbrev μ-loop : tie.MeasureT-loop
 μ-loop name sum₀ i₀ sum i = 24 - i
