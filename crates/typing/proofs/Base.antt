@@ -41,7 +41,7 @@ unfolding noDiag
 nil-noDiag [] e = refl
 nil-noDiag (d ∷ ds) e = absurd (nil≢cons (sym e))
 
--- noError
+-- no Error among joined lists
 pub noError-append : (gs hs : List Given) → noError gs ≡ true → noError hs ≡ true → noError (gs ++ hs) ≡ true
 unfolding noError
 noError-append [] hs p q = q
@@ -69,7 +69,7 @@ pub noError-one-real : (n : ℕ) (t : Ty) → noError (record { node = n; ty = t
 unfolding noError
 noError-one-real n t e = not-same t errorTy (and-left (not (sameBytes t errorTy)) true e)
 
--- typeIn in a joined list
+-- the type that joined lists give to a number
 pub typeIn-none-left : (gs hs : List Given) (k : ℕ) → typeIn gs k ≡ none → typeIn (gs ++ hs) k ≡ typeIn hs k
 unfolding typeIn choose
 typeIn-none-left [] hs k e = refl

@@ -1,4 +1,4 @@
--- The two definitions of a typing say the same. Assumes nothing.
+-- Typings by a condition at each number, and by recursion over the tree, are the same. Assumes nothing.
 use Prim.Native.Nat.{ℕ, suc, _≤_, _<_}
 use mathlib.Core.List.{List}
 use mathlib.Core.Logic.{_≢_, _⊎_, inl, inr, _↔_}

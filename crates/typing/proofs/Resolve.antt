@@ -164,7 +164,7 @@ module _ (S : Symbols) where
           }
       go (w ∷ ws) nobody p q = absurd (h (ap (λ (z : Verdict). z .ty) (sym q)))
 
-  -- the law that the uniqueness of typings asks for
+  -- a call is silent, and not Error, exactly where its clean rule holds
   pub law : (os : List Overload) (n : ℕ) (xs : List Arg) (T : Ty) → T ≢ errorTy → CleanArgs S os xs T ↔ (resolve S os n xs ≡ silent T)
   unfolding resolve
   law os n xs T h = (

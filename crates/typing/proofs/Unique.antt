@@ -1,4 +1,4 @@
--- Uniqueness and decidability of typings, over any rules whose calls resolve as their clean rule says. Assumes nothing.
+-- Any two typings are alike, and there is one exactly where the judgement passes. Assumes nothing.
 use Prim.Native.Nat.{ℕ, _≤_, _<_}
 use mathlib.Core.Bool.{Bool, true, not}
 use mathlib.Core.List.{List, [], _∷_, List·Memᴰ, List·Memᴰ·cases-cons, List·Memᴰ·not-nil, List·Memᴰ·head, List·Memᴰ·tail}
@@ -46,7 +46,7 @@ module _ (S : Symbols) (H : Header) where
   whole : (tree : Node) (τ : Choice) (t : Structural S H tree τ) → Agrees τ (judge S H tree 0) 0 (after tree 0) (t .root)
   whole tree τ t = forward S H τ tree 0 (t .root) (t .obeys)
 
-  -- (b) the judgement of a tree that has a typing
+  -- a typing gives each number what the judgement gives it
   pub typing-types : (tree : Node) (τ : Choice) → Structural S H tree τ → (k : ℕ) → τ k ≡ typeIn (judge S H tree 0 .typed) k
   typing-types tree τ t k = go (split k (after tree 0))
     where
@@ -61,11 +61,11 @@ module _ (S : Symbols) (H : Header) where
   unfolding passes
   typing-passes tree τ t = let a = whole tree τ t in and-both (nil-noDiag _ (a .quiet)) (a .good)
 
-  -- (a) any two typings are alike
+  -- any two typings are alike
   pub typings-alike : (tree : Node) (τ σ : Choice) → Structural S H tree τ → Structural S H tree σ → (k : ℕ) → τ k ≡ σ k
   typings-alike tree τ σ t s k = typing-types tree τ t k ∙ sym (typing-types tree σ s k)
 
-  -- (c) a judgement that passes is a typing
+  -- a judgement that passes is a typing
   pub passes-typing : (tree : Node) → passes (judge S H tree 0) ≡ true → Structural S H tree (typeIn (judge S H tree 0 .typed))
   unfolding passes
   passes-typing tree p =
