@@ -14,3 +14,4 @@ pub mod Finds
 pub mod Lists
 pub mod Cases
 pub mod Ranks
+pub mod Subclasses

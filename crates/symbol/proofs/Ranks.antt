@@ -211,3 +211,27 @@ module _ (t : List ℕ) (e : tableFault t ≡ 0) where
 pub class-rank : (t : List ℕ) (c : ℕ) → rankOf t c ≤ symbolsOf t .classes
 unfolding symbolsIn
 class-rank t c = rank-low (recordsOf t) c
+
+-- how far one can still climb from class c
+unfoldable pub height : List ℕ → ℕ → ℕ
+height t c = choose (eqb c noId) 0 (suc (rankOf t c))
+
+pub super-below : (t : List ℕ) → tableFault t ≡ 0 → (c : ℕ) → (c ≡ noId → ⊥) → height t (symbolsOf t .superOf c) < height t c
+unfolding height choose
+super-below t e c n = rw (ne-eqb c noId n) (go (eqb (symbolsOf t .superOf c) noId) refl)
+  where
+    go : (b : Bool) → eqb (symbolsOf t .superOf c) noId ≡ b → choose b 0 (suc (rankOf t (symbolsOf t .superOf c))) < suc (rankOf t c)
+    go true i = omega arith
+    go false i = omega (arith, super-lower t e c (eqb-false _ _ i))
+
+pub some-height : (t : List ℕ) (c : ℕ) → (c ≡ noId → ⊥) → 0 < height t c
+unfolding height choose
+some-height t c n = rw (ne-eqb c noId n) (omega arith)
+
+pub height-low : (t : List ℕ) (c : ℕ) → height t c ≤ suc (symbolsOf t .classes)
+unfolding height choose
+height-low t c = go (eqb c noId)
+  where
+    go : (b : Bool) → choose b 0 (suc (rankOf t c)) ≤ suc (symbolsOf t .classes)
+    go true = omega arith
+    go false = omega (arith, class-rank t c)

@@ -5,4 +5,5 @@ pub mod functions;
 pub mod lookups;
 pub mod params;
 pub mod spelling;
+pub mod subclass;
 pub mod walk;
