@@ -12,6 +12,9 @@ pub mod Passes
 pub mod Accepts
 pub mod Finds
 pub mod Lists
+pub mod Wholes
+pub mod Arrays
+pub mod Calls
 pub mod Cases
 pub mod Ranks
 pub mod Subclasses

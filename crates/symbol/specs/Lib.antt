@@ -10,3 +10,4 @@ pub mod Sections
 pub mod Walk
 pub mod Asked
 pub mod Answer
+pub mod Row

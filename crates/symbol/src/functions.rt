@@ -1,4 +1,17 @@
-// One function of a table.
+// Reading one function of an accepted table.
+use crate::front::LONGEST;
+use crate::front::id_at;
+use crate::lookups::Place;
+use ty::TypeRead;
+use ty::byte_at;
+use ty::read::read_type;
+ghost use mathlib.Core.Path.{_≡_};
+ghost use mathlib.Core.Bool.{true, false};
+ghost use Prim.Native.Nat.{_+_, _≤_, _<_};
+ghost use lib.ListN.{length, getD};
+ghost use Rattle.symbol.specs.Answer.{overloadAt, FunctionAt, FunctionRead};
+ghost use Rattle.symbol.specs.Lookup.{wholeLength, typeLength, paramsFrom};
+ghost use Rattle.symbol.specs.Row.{part, RowAt, paramAdded, noParams, ParamsAre};
 
 // The parameters of a function: how many, and of each its name, whether it has a default and is vararg, and where its type lies in the table.
 pub struct Params {
@@ -17,4 +30,111 @@ pub struct Function {
     pub start: usize,
     pub len: usize,
     pub params: Params,
+}
+
+impl Params {
+    fn new() -> Params
+        ensures { λ r. ⌜ r ≡ noParams ⌝ }
+    {
+        let names = [0u16; 16];
+        let defaults = [false; 16];
+        let varargs = [false; 16];
+        let starts = [0usize; 16];
+        let lens = [0usize; 16];
+        Params {
+            count: 0,
+            names,
+            defaults,
+            varargs,
+            starts,
+            lens,
+        }
+    }
+
+    // One parameter more.
+    fn add(self, name: u16, default: bool, vararg: bool, start: usize, len: usize) -> Params
+        requires { ⌜ self .count < 16 ⌝ }
+        ensures { λ r. ⌜ r ≡ paramAdded self name default vararg start len ⌝ }
+    {
+        let k = self.count;
+        let mut names = self.names;
+        let mut defaults = self.defaults;
+        let mut varargs = self.varargs;
+        let mut starts = self.starts;
+        let mut lens = self.lens;
+        names[k] = name;
+        defaults[k] = default;
+        varargs[k] = vararg;
+        starts[k] = start;
+        lens[k] = len;
+        Params {
+            count: k + 1,
+            names,
+            defaults,
+            varargs,
+            starts,
+            lens,
+        }
+    }
+}
+
+// How long a type is that was read so.
+fn whole_length(read: TypeRead) -> usize
+    ensures { λ r. ⌜ r ≡ wholeLength read ⌝ }
+{
+    match read {
+        TypeRead::Whole {
+            len,
+            top: _,
+            error: _,
+        } => len,
+        TypeRead::Cut => 0,
+        TypeRead::Malformed => 0,
+        TypeRead::Endless { top: _, error: _ } => 0,
+    }
+}
+
+// The length of the type that begins at from, in the bytes before end.
+fn type_length(t: &[u8], from: usize, end: usize) -> usize
+    requires { ⌜ (from ≤ end) × (end ≤ length (now t)) ⌝ }
+    ensures { λ r. ⌜ r ≡ typeLength (part (now (t .entry)) from end) ⌝ }
+{
+    whole_length(read_type(&t[from..end], LONGEST))
+}
+
+// The parameters that begin at from, in the bytes before end.
+fn read_params(t: &[u8], from: usize, end: usize, count: usize) -> Params
+    requires { ⌜ (from ≤ end) × (end ≤ length (now t)) × (count ≤ 16) × RowAt count (part (now t) from end) ⌝ }
+    ensures { λ r. ⌜ ParamsAre (now (t .entry)) (paramsFrom count (part (now (t .entry)) from end)) count r ⌝ }
+{
+    let mut at = from;
+    let mut p = Params::new();
+    while p.count < count {
+        let start = at + 3;
+        let len = type_length(t, start, end);
+        let flag = byte_at(t, at + 2);
+        p = p.add(id_at(t, at), flag % 2 == 1, 2 <= flag, start, len);
+        at = start + len;
+    }
+    p
+}
+
+// The function at a place.
+pub fn read_function(t: &[u8], p: Place) -> Function
+    requires { ⌜ FunctionAt (now t) p ⌝ }
+    ensures { λ r. ⌜ FunctionRead (now (t .entry)) (overloadAt (now (t .entry)) p) r ⌝ }
+{
+    let at = p.at;
+    let h = p.head;
+    let end = at + h.len;
+    let start = at + 8;
+    let len = type_length(t, start, end);
+    let params = read_params(t, start + len, end, byte_at(t, at + 7) as usize);
+    Function {
+        builtin: byte_at(t, at + 6) == 1,
+        visibility: byte_at(t, at + 5),
+        start,
+        len,
+        params,
+    }
 }

@@ -1,0 +1,287 @@
+-- A function record without Error that is not broken has whole types. Assumes nothing.
+use Prim.Native.Nat.{ℕ, zero, suc, _+_, _-_, _≤_, _<_, max}
+use borrow.Author.Tests.{eq-eqb, eqb-true, ltb-false}
+use lib.Dec.{eqb, ltb}
+use lib.ListN.{length, getD, drop, length-drop}
+use lib.Seq.{drop-drop}
+use mathlib.Core.Bool.{Bool, true, false, not, true≢false, false≢true, _||_}
+use mathlib.Core.List.{List}
+use mathlib.Core.Path.{_≡_, refl, sym, ap, _∙_, subst}
+use native.Mathlib.Omega.{arith}
+use Rattle.ty.proofs.Choice.{by-choice}
+use Rattle.ty.proofs.Sized.{whole}
+use Rattle.ty.specs.Bytes.{idAt}
+use Rattle.ty.specs.Choose.{choose}
+use Rattle.ty.specs.Read.{readType, longestType}
+use Rattle.ty.specs.declared.read.TypeRead.the-variants.{Whole, Cut, Malformed, Endless}
+use Rattle.ty.specs.declared.read.TypeRead.{TypeRead}
+use Rattle.symbol.proofs.Cleans.{or-false}
+use Rattle.symbol.proofs.Own.{whole-before}
+use Rattle.symbol.proofs.Turns.{param-onward, first-inside, run-inside}
+use Rattle.symbol.specs.Front.{brokenHead, plainHead, orNone, nameHead, classHead, operatorsHead, paramWith, paramStep, runParams, resultWith, firstReading, paramsRead, functionRead, functionWith, functionHead, fieldWith, fieldHead, visibilityHead, suspendHead, variantHead, headBy, headOf}
+use Rattle.symbol.specs.Lookup.{wholeLength, typeLength}
+use Rattle.symbol.specs.Row.{TypeAt, RowAt}
+use Rattle.symbol.specs.declared.front.Head.{Head}
+use Rattle.symbol.specs.declared.params.Reading.{Reading}
+
+or-true : (v : Bool) → v || true ≡ true
+or-true true = refl
+or-true false = refl
+
+-- ---- a record of kind 4 is a function
+record Only (s : List ℕ) (h : Head) : Type 0 where
+  is : h .kind ≡ 4 → h ≡ functionHead s
+
+module _ (s : List ℕ) where
+  other : (h : Head) → (h .kind ≡ 4 → ⊥) → Only s h
+  other h n = record { is = λ e. absurd (n e) }
+
+  broken : Only s (brokenHead s)
+  broken = other (brokenHead s) (λ e. omega arith)
+
+  plain : (n : ℕ) (bad : Bool) (kind one two top : ℕ) → (kind ≡ 4 → ⊥) → Only s (plainHead s n bad kind one two top)
+  unfolding plainHead
+  plain n bad kind one two top h = by-choice (Only s) (ltb (length s) n) (λ _. broken) λ _. by-choice (Only s) bad (λ _. broken) (λ _. other _ h)
+
+  field-with : (one two : ℕ) (r : TypeRead) → Only s (fieldWith s one two r)
+  field-with one two (Whole n top e) = other _ (λ k. omega arith)
+  field-with one two Cut = broken
+  field-with one two Malformed = broken
+  field-with one two (Endless top e) = other _ (λ k. omega arith)
+
+  field : Only s (fieldHead s)
+  unfolding fieldHead
+  field = by-choice (Only s) (ltb (length s) 5) (λ _. broken) λ _. field-with (idAt s 1) (idAt s 3) (readType (drop 5 s) longestType)
+
+  name : Only s (nameHead s)
+  unfolding nameHead
+  name = plain 26 _ 1 0 0 0 (λ e. omega arith)
+
+  class : Only s (classHead s)
+  unfolding classHead
+  class = plain 8 _ 2 _ _ _ (λ e. omega arith)
+
+  operators : Only s (operatorsHead s)
+  unfolding operatorsHead
+  operators = plain 5 _ 3 _ _ _ (λ e. omega arith)
+
+  visibility : Only s (visibilityHead s)
+  unfolding visibilityHead
+  visibility = plain 6 _ 6 _ _ _ (λ e. omega arith)
+
+  suspend : Only s (suspendHead s)
+  unfolding suspendHead
+  suspend = plain 5 _ 7 _ _ _ (λ e. omega arith)
+
+  variant : Only s (variantHead s)
+  unfolding variantHead
+  variant = plain 5 _ 8 _ _ _ (λ e. omega arith)
+
+  kind-function : (kind : ℕ) → Only s (headBy kind s)
+  unfolding headBy
+  kind-function kind =
+      by-choice (Only s) (eqb kind 1) (λ _. name) λ _.
+      by-choice (Only s) (eqb kind 2) (λ _. class) λ _.
+      by-choice (Only s) (eqb kind 3) (λ _. operators) λ _.
+      by-choice (Only s) (eqb kind 4) (λ _. record { is = λ _. refl }) λ _.
+      by-choice (Only s) (eqb kind 5) (λ _. field) λ _.
+      by-choice (Only s) (eqb kind 6) (λ _. visibility) λ _.
+      by-choice (Only s) (eqb kind 7) (λ _. suspend) λ _.
+      by-choice (Only s) (eqb kind 8) (λ _. variant) (λ _. broken)
+
+  head-function : headOf s .kind ≡ 4 → headOf s ≡ functionHead s
+  unfolding headOf
+  head-function k = kind-function (getD s 0 0) .is k
+
+-- ---- its first bytes
+pub record Fields (s : List ℕ) (h : Head) : Type 0 where
+  pub long : 8 ≤ length s
+  pub visibility : getD s 5 0 ≤ 3
+  pub flag : getD s 6 0 ≤ 1
+  pub count : getD s 7 0 ≤ 16
+  pub is : h ≡ functionWith s (paramsRead s)
+
+fields : (s : List ℕ) (h : Head) → h ≡ functionHead s → h .kind ≡ 4 → Fields s h
+unfolding functionHead
+fields s h =
+    by-choice (λ (x : Head). h ≡ x → h .kind ≡ 4 → Fields s h) (ltb (length s) 8) (λ _ e k. absurd (omega (arith, ap (λ (x : Head). x .kind) e))) λ a.
+    by-choice (λ (x : Head). h ≡ x → h .kind ≡ 4 → Fields s h) (ltb 3 (getD s 5 0)) (λ _ e k. absurd (omega (arith, ap (λ (x : Head). x .kind) e))) λ b.
+    by-choice (λ (x : Head). h ≡ x → h .kind ≡ 4 → Fields s h) (ltb 1 (getD s 6 0)) (λ _ e k. absurd (omega (arith, ap (λ (x : Head). x .kind) e))) λ c.
+    by-choice (λ (x : Head). h ≡ x → h .kind ≡ 4 → Fields s h) (ltb 16 (getD s 7 0)) (λ _ e k. absurd (omega (arith, ap (λ (x : Head). x .kind) e))) λ d e k.
+    record {
+      long = ltb-false (length s) 8 a;
+      visibility = ltb-false 3 (getD s 5 0) b;
+      flag = ltb-false 1 (getD s 6 0) c;
+      count = ltb-false 16 (getD s 7 0) d;
+      is = e;
+    }
+
+-- ---- a type without end is an error
+abbrev Endlessly : Reading → Type 0
+Endlessly c = c .state ≡ 2 → c .error ≡ true
+
+first-endless : (s : List ℕ) → Endlessly (firstReading s)
+first-endless s = go (max (orNone (idAt s 1)) (idAt s 3)) (readType (drop 8 s) longestType)
+  where
+    go : (high : ℕ) (r : TypeRead) → Endlessly (resultWith high r)
+    go high (Whole n top e) q = absurd (omega arith)
+    go high Cut q = absurd (omega arith)
+    go high Malformed q = absurd (omega arith)
+    go high (Endless top e) q = refl
+
+step-endless : (s : List ℕ) (c : Reading) → Endlessly c → Endlessly (paramStep s c)
+unfolding paramStep
+step-endless s c h =
+    by-choice Endlessly (not (eqb (c .state) 0)) (λ _. h) λ _.
+    by-choice Endlessly (ltb (length s - c .len) 3) (λ _ q. absurd (omega arith)) λ _.
+    by-choice Endlessly (ltb 3 (getD s (c .len + 2) 0)) (λ _ q. absurd (omega arith)) λ _.
+    go (readType (drop (c .len + 3) s) longestType)
+  where
+    go : (r : TypeRead) → Endlessly (paramWith c (idAt s (c .len)) r)
+    go (Whole n top e) q = absurd (omega arith)
+    go Cut q = absurd (omega arith)
+    go Malformed q = absurd (omega arith)
+    go (Endless top e) q = or-true (c .error)
+
+run-endless : (n : ℕ) (s : List ℕ) (c : Reading) → Endlessly c → Endlessly (runParams n s c)
+unfolding runParams
+run-endless zero s c h = h
+run-endless (suc n) s c h = run-endless n s (paramStep s c) (step-endless s c h)
+
+read-endless : (s : List ℕ) → Endlessly (paramsRead s)
+unfolding paramsRead
+read-endless s = run-endless (getD s 7 0) s (firstReading s) (first-endless s)
+
+-- ---- where no error is at the end, there was none before
+step-error : (s : List ℕ) (c : Reading) → paramStep s c .error ≡ false → c .error ≡ false
+unfolding paramStep
+step-error s c =
+    by-choice (λ (r : Reading). r .error ≡ false → c .error ≡ false) (not (eqb (c .state) 0)) (λ _ q. q) λ _.
+    by-choice (λ (r : Reading). r .error ≡ false → c .error ≡ false) (ltb (length s - c .len) 3) (λ _ q. q) λ _.
+    by-choice (λ (r : Reading). r .error ≡ false → c .error ≡ false) (ltb 3 (getD s (c .len + 2) 0)) (λ _ q. q) λ _.
+    go (readType (drop (c .len + 3) s) longestType)
+  where
+    go : (r : TypeRead) → paramWith c (idAt s (c .len)) r .error ≡ false → c .error ≡ false
+    go (Whole n top e) q = or-false (c .error) e q .0
+    go Cut q = q
+    go Malformed q = q
+    go (Endless top e) q = or-false (c .error) true q .0
+
+error-before : (n : ℕ) (s : List ℕ) (c : Reading) → runParams n s c .error ≡ false → c .error ≡ false
+unfolding runParams
+error-before zero s c e = e
+error-before (suc n) s c e = step-error s c (error-before n s (paramStep s c) e)
+
+-- ---- one whole type
+type-at : (s : List ℕ) (k : ℕ) → k ≤ length s → (n top : ℕ) → readType (drop k s) longestType ≡ Whole n top false
+    → TypeAt s k × (typeLength (drop k s) ≡ n)
+unfolding typeLength
+type-at s k h n top q =
+    let l : wholeLength (readType (drop k s) longestType) ≡ n = ap wholeLength q in
+    let b = whole (drop k s) longestType n top false q in
+    (record { top = top; whole = rw l q; inside = omega (arith, length-drop k s) }, l)
+
+first-whole : (s : List ℕ) → 8 ≤ length s → firstReading s .state ≡ 0 → firstReading s .error ≡ false
+    → TypeAt s 8 × (firstReading s .len ≡ 8 + typeLength (drop 8 s))
+first-whole s h = go (readType (drop 8 s) longestType) refl (max (orNone (idAt s 1)) (idAt s 3))
+  where
+    go : (r : TypeRead) → readType (drop 8 s) longestType ≡ r → (high : ℕ) → resultWith high r .state ≡ 0 → resultWith high r .error ≡ false
+        → TypeAt s 8 × (resultWith high r .len ≡ 8 + typeLength (drop 8 s))
+    go (Whole n top true) q high v e = absurd (true≢false e)
+    go (Whole n top false) q high v e = let w = type-at s 8 h n top q in (w .0, ap (λ (k : ℕ). 8 + k) (sym (w .1)))
+    go Cut q high v e = absurd (omega arith)
+    go Malformed q high v e = absurd (omega arith)
+    go (Endless top b) q high v e = absurd (omega arith)
+
+-- one parameter
+param-whole : (s : List ℕ) (c : Reading) → c .len ≤ length s → c .state ≡ 0 → paramStep s c .state ≡ 0 → paramStep s c .error ≡ false
+    → TypeAt (drop (c .len) s) 3 × (paramStep s c .len ≡ c .len + (3 + typeLength (drop 3 (drop (c .len) s))))
+unfolding paramStep
+param-whole s c h z =
+    by-choice (λ (r : Reading). r .state ≡ 0 → r .error ≡ false → Q r) (not (eqb (c .state) 0))
+    (λ e v _. absurd (true≢false (sym e ∙ ap not (eq-eqb (c .state) 0 v)))) λ _.
+    by-choice (λ (r : Reading). r .state ≡ 0 → r .error ≡ false → Q r) (ltb (length s - c .len) 3) (λ _ v _. absurd (omega arith)) λ a.
+    by-choice (λ (r : Reading). r .state ≡ 0 → r .error ≡ false → Q r) (ltb 3 (getD s (c .len + 2) 0)) (λ _ v _. absurd (omega arith)) λ _.
+    go (ltb-false (length s - c .len) 3 a) (readType (drop (c .len + 3) s) longestType) refl
+  where
+    Q : Reading → Type 0
+    Q r = TypeAt (drop (c .len) s) 3 × (r .len ≡ c .len + (3 + typeLength (drop 3 (drop (c .len) s))))
+
+    go : 3 ≤ length s - c .len → (r : TypeRead) → readType (drop (c .len + 3) s) longestType ≡ r → paramWith c (idAt s (c .len)) r .state ≡ 0
+        → paramWith c (idAt s (c .len)) r .error ≡ false → Q (paramWith c (idAt s (c .len)) r)
+    go l (Whole n top true) q v e = absurd (true≢false (sym (or-true (c .error)) ∙ e))
+    go l (Whole n top false) q v e =
+        let d : drop 3 (drop (c .len) s) ≡ drop (c .len + 3) s = drop-drop 3 (c .len) s in
+        let w = type-at (drop (c .len) s) 3 (omega (arith, length-drop (c .len) s)) n top (ap (λ (x : List ℕ). readType x longestType) d ∙ q) in
+        (w .0, omega (arith, w .1))
+    go l Cut q v e = absurd (omega arith)
+    go l Malformed q v e = absurd (omega arith)
+    go l (Endless top b) q v e = absurd (omega arith)
+
+-- ---- all of them
+row-whole : (n : ℕ) (s : List ℕ) (c : Reading) → c .len ≤ length s → runParams n s c .state ≡ 0 → runParams n s c .error ≡ false
+    → RowAt n (drop (c .len) s)
+unfolding runParams
+row-whole zero s c h v e = tt
+row-whole (suc n) s c h v e =
+    let v₁ = whole-before n s (paramStep s c) v in
+    let e₁ = error-before n s (paramStep s c) e in
+    let w = param-whole s c h (whole-before 1 s c v₁) v₁ e₁ in
+    let r = row-whole n s (paramStep s c) (param-onward s c h .high) v e in (
+      w .0,
+      subst (λ (x : List ℕ). RowAt n x)
+          (ap (λ (k : ℕ). drop k s) (w .1) ∙ sym (drop-drop (3 + typeLength (drop 3 (drop (c .len) s))) (c .len) s))
+          r,
+    )
+
+-- A FUNCTION RECORD of an accepted table
+pub record FunctionWhole (s : List ℕ) : Type 0 where
+  pub fields : Fields s (headOf s)
+  pub state : paramsRead s .state ≡ 0
+  pub repeated : headOf s .repeated ≡ paramsRead s .repeated
+  pub error : paramsRead s .error ≡ false
+  pub result : TypeAt s 8
+  pub start : firstReading s .len ≡ 8 + typeLength (drop 8 s)
+  pub row : RowAt (getD s 7 0) (drop (8 + typeLength (drop 8 s)) s)
+
+with-whole : (s : List ℕ) (c : Reading) → Endlessly c → functionWith s c .kind ≡ 4 → functionWith s c .error ≡ false
+    → (c .state ≡ 0) × (c .error ≡ false) × (functionWith s c .repeated ≡ c .repeated)
+unfolding functionWith
+with-whole s c h =
+    by-choice (λ (x : Head). x .kind ≡ 4 → x .error ≡ false → (c .state ≡ 0) × (c .error ≡ false) × (x .repeated ≡ c .repeated)) (eqb (c .state) 0)
+    (λ z k e. (eqb-true (c .state) 0 z, e, refl)) λ _.
+    by-choice (λ (x : Head). x .kind ≡ 4 → x .error ≡ false → (c .state ≡ 0) × (c .error ≡ false) × (x .repeated ≡ c .repeated)) (eqb (c .state) 2)
+    (λ z k e. absurd (true≢false (sym (h (eqb-true (c .state) 2 z)) ∙ e)))
+    (λ _ k e. absurd (omega arith))
+
+pub function-whole : (s : List ℕ) → headOf s .kind ≡ 4 → headOf s .error ≡ false → FunctionWhole s
+unfolding paramsRead
+function-whole s k e =
+    let f = fields s (headOf s) (head-function s k) k in
+    let w = with-whole s (paramsRead s) (read-endless s) (ap (λ (x : Head). x .kind) (sym (f .is)) ∙ k) (ap (λ (x : Head). x .error) (sym (f .is)) ∙ e) in
+    rest s f (w .0) (w .1) (ap (λ (x : Head). x .repeated) (f .is) ∙ w .2)
+  where
+    rest : (s : List ℕ) → Fields s (headOf s) → paramsRead s .state ≡ 0 → paramsRead s .error ≡ false → headOf s .repeated ≡ paramsRead s .repeated
+        → FunctionWhole s
+    rest s f v e r =
+        let i = first-inside s (f .long) in
+        let v₀ = whole-before (getD s 7 0) s (firstReading s) (read-run s v) in
+        let e₀ = error-before (getD s 7 0) s (firstReading s) (read-error s e) in
+        let w = first-whole s (f .long) v₀ e₀ in
+        record {
+          fields = f;
+          state = v;
+          repeated = r;
+          error = e;
+          result = w .0;
+          start = w .1;
+          row =
+              subst (λ (k : ℕ). RowAt (getD s 7 0) (drop k s)) (w .1)
+              (row-whole (getD s 7 0) s (firstReading s) (i .high) (read-run s v) (read-error s e));
+        }
+      where
+        read-run : (s : List ℕ) → paramsRead s .state ≡ 0 → runParams (getD s 7 0) s (firstReading s) .state ≡ 0
+        read-run s v = v
+
+        read-error : (s : List ℕ) → paramsRead s .error ≡ false → runParams (getD s 7 0) s (firstReading s) .error ≡ false
+        read-error s e = e
