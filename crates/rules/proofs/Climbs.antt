@@ -8,11 +8,10 @@ use native.Mathlib.Nat.{not-suc-le-zero}
 use native.Mathlib.Omega.{arith}
 use lib.Dec.{eqb}
 use borrow.Author.Tests.{eqb-true, eqb-false, ne-eqb}
-use Rattle.ty.proofs.Choice.{by-choice}
 use Rattle.ty.specs.Choose.{choose}
 use Rattle.ty.specs.Name.{noId}
 use Rattle.ty.specs.Bytes.{Ty}
-use Rattle.symbol.proofs.Ranks.{rankOf, class-rank, super-lower}
+use Rattle.symbol.proofs.Ranks.{rankOf, class-rank, super-lower, height, height-low, some-height, super-below}
 use Rattle.symbol.specs.declared.lookups.Mask.{Mask}
 use Rattle.symbol.specs.declared.lookups.Mask.the-variants as mask
 use Rattle.symbol.specs.Answer.{maskOf}
@@ -50,13 +49,16 @@ module _ (S : Symbols) (R : Ranked S) where
   pub climb-enough : (f op c : ℕ) → climb S (suc (S .classes) + f) op c ≡ climb S (suc (S .classes)) op c
   climb-enough f op c = let l : R .rank c ≤ S .classes = R .low c in enough (suc (S .classes) + f) (suc (S .classes)) op c (omega arith) (omega arith)
 
+  -- so the climb unfolds into itself
+  pub climb-unfolds : (op c : ℕ)
+      → climb S (suc (S .classes)) op c ≡ choose (eqb c noId) none (atClass S op c (S .operatorsOf c) (climb S (suc (S .classes)) op (S .superOf c)))
+  unfolding climb
+  climb-unfolds op c =
+      let l : R .rank c ≤ S .classes = R .low c in enough (suc (S .classes)) (suc (suc (S .classes))) op c (omega arith) (omega arith)
+
 -- ---- in an accepted table
 pub ranked : (t : List ℕ) → tableFault t ≡ 0 → Ranked (symbolsOf t)
 ranked t e = record { rank = rankOf t; low = class-rank t; falls = super-lower t e }
-
--- how far the climb can still go from class c
-unfoldable pub height : List ℕ → ℕ → ℕ
-height t c = choose (eqb c noId) 0 (suc (rankOf t c))
 
 -- the climb from `class` goes on at class c, with so many steps left
 pub record Going (t : List ℕ) (op class c : ℕ) : Type 0 where
@@ -64,26 +66,12 @@ pub record Going (t : List ℕ) (op class c : ℕ) : Type 0 where
   pub left : height t c ≤ fuel
   pub same : climb (symbolsOf t) (suc (symbolsOf t .classes)) op class ≡ climb (symbolsOf t) fuel op c
 
-module _ (t : List ℕ) where
-  pub super-below : tableFault t ≡ 0 → (c : ℕ) → (c ≡ noId → ⊥) → height t (symbolsOf t .superOf c) < height t c
-  unfolding height choose
-  super-below e c n = rw (ne-eqb c noId n) (go (eqb (symbolsOf t .superOf c) noId) refl)
-    where
-      go : (b : Bool) → eqb (symbolsOf t .superOf c) noId ≡ b → choose b 0 (suc (rankOf t (symbolsOf t .superOf c))) < suc (rankOf t c)
-      go true i = omega arith
-      go false i = omega (arith, super-lower t e c (eqb-false _ _ i))
-
-  some-height : (c : ℕ) → (c ≡ noId → ⊥) → 0 < height t c
-  unfolding height choose
-  some-height c n = rw (ne-eqb c noId n) (omega arith)
-
 module _ (t : List ℕ) (op class : ℕ) where
   pub going-first : Going t op class class
-  unfolding height
   going-first =
       record {
         fuel = suc (symbolsOf t .classes);
-        left = by-choice (λ (n : ℕ). n ≤ suc (symbolsOf t .classes)) _ (λ _. omega arith) (λ _. omega (arith, class-rank t class));
+        left = height-low t class;
         same = refl;
       }
 

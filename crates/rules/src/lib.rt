@@ -1,4 +1,5 @@
 // The typing rules that a node's type comes by: assignability (sema/ty.rs), access, operators and members (sema/checker.rs).
+pub mod access;
 pub mod assign;
 pub mod binary;
 pub mod ruled;

@@ -1,0 +1,15 @@
+use borrow.Author.Needs.{needs}
+use Rattle.rules.proofs.access.access_report.Statement.{statement}
+use Rattle.rules.proofs.access.access_report.Tie as tie
+use Rattle.rules.specs.Access.{accessReport}
+use Rattle.rules.specs.Ruled.{reportOf}
+use Rattle.ty.proofs.Choice.{chain}
+
+pub access-report-spec : {M : Type 1} → statement M
+unfolding accessReport reportOf
+access-report-spec =
+    tie.close (tie.spec
+    (λ c κs. search needs)
+    (λ c. rw (← c .before .check-access .ensures) (search chain depth 16))
+    (λ c κs. search needs)
+    (λ c. rw (c .no-report .ensures, ← c .before .before .check-access .ensures) (search chain depth 16)))
