@@ -28,7 +28,7 @@ use Rattle.rules.specs.Member.{variableMember, pairMember, collectionMember, st
 use Rattle.rules.specs.OperatorMethod.{firstResult, atClass, climb, operatorReturn}
 use Rattle.rules.specs.Out.{unless, found as found·}
 use Rattle.rules.specs.Unary.{unaryOf, unaryOut}
-use Rattle.symbol.specs.Front.{plainHead, orNone, goodByte, goodBytes, nameHead, classHead, operatorsHead, among, paramStep, runParams, paramsRead, functionWith, functionHead, fieldHead, visibilityHead, suspendHead, variantHead, headOf}
+use Rattle.symbol.specs.Front.{plainHead, orNone, goodByte, goodBytes, nameHead, classHead, operatorsHead, among, paramStep, runParams, paramsRead, functionWith, functionHead, fieldHead, visibilityHead, suspendHead, variantHead, headBy, headOf}
 use Rattle.symbol.specs.Lookup.{recordsWith, typeLength, paramsFrom, overloadOf, namesIn, capitalIn, symbolsIn}
 use Rattle.symbol.specs.Lookup.{symbolsOf}
 use Rattle.symbol.specs.Refused.{sameKey, hasKey, hasClass, superLate, recordFault, faultFrom, tableFault}
@@ -129,7 +129,7 @@ pub record Marked : Type 0 where
   nothing : answerOf [] [] 65535 ≡ refused 8
 
 pub marked : Marked
-unfolding scoresOf innerOf nonNull sameBytes choose bodyLength children idIn itemOf itemAt stopped readFrom readType plainHead orNone goodByte goodBytes nameHead classHead operatorsHead among paramStep runParams paramsRead functionWith functionHead fieldHead visibilityHead suspendHead variantHead headOf recordsWith typeLength paramsFrom overloadOf namesIn capitalIn symbolsIn sameKey hasKey hasClass superLate recordFault faultFrom tableFault builtinNames spelled climbs isSubclass recordsFrom countOf headerOf first· rest· takeRow dropRow onto rowAt treeOf leafOf nodeOf nodeIn nodeAt ownBytes children·question headerFault idFault endlessFault nodeFault moreFault endFault nodesFault treeFault questionFault after nameOf recordOf records padded paramAccepts blocked accessReport assignRule assignIn canAssign addOut arithmeticOut operatorOut builtinBinary binaryOut at· variableMember pairMember collectionMember stringMember elementMember mapMember firstFunction fieldOr classMember namedMember kindMember visibilityReport memberReport baseMember memberOut firstResult atClass climb operatorReturn unless found· unaryOf unaryOut anyOwn own usable required endsVararg fits fitting suspendReport better chosen absent unknownOne unknowns allUnknown mismatchOne mismatches noneFits tieReport settle resolveIn resolve paramOf placeOf markAt markOne marksFrom unmarkedFrom plus· compared comparedWith namedOne namedScore unnamedOne unnamedScore score faultOf answered answerOf bufferOf baseName callIn methodIn methodBy callStep methodStep judge noError noDiag passes
+unfolding scoresOf innerOf nonNull sameBytes choose bodyLength children idIn itemOf itemAt stopped readFrom readType plainHead orNone goodByte goodBytes nameHead classHead operatorsHead among paramStep runParams paramsRead functionWith functionHead fieldHead visibilityHead suspendHead variantHead headBy headOf recordsWith typeLength paramsFrom overloadOf namesIn capitalIn symbolsIn sameKey hasKey hasClass superLate recordFault faultFrom tableFault builtinNames spelled climbs isSubclass recordsFrom countOf headerOf first· rest· takeRow dropRow onto rowAt treeOf leafOf nodeOf nodeIn nodeAt ownBytes children·question headerFault idFault endlessFault nodeFault moreFault endFault nodesFault treeFault questionFault after nameOf recordOf records padded paramAccepts blocked accessReport assignRule assignIn canAssign addOut arithmeticOut operatorOut builtinBinary binaryOut at· variableMember pairMember collectionMember stringMember elementMember mapMember firstFunction fieldOr classMember namedMember kindMember visibilityReport memberReport baseMember memberOut firstResult atClass climb operatorReturn unless found· unaryOf unaryOut anyOwn own usable required endsVararg fits fitting suspendReport better chosen absent unknownOne unknowns allUnknown mismatchOne mismatches noneFits tieReport settle resolveIn resolve paramOf placeOf markAt markOne marksFrom unmarkedFrom plus· compared comparedWith namedOne namedScore unnamedOne unnamedScore score faultOf answered answerOf bufferOf baseName callIn methodIn methodBy callStep methodStep judge noError noDiag passes
 marked = record {
   null-to-int = refl;
   null-argument = record { answer = refl; buffer = refl };

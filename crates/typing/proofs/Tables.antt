@@ -11,9 +11,10 @@ use mathlib.Core.Option.{some}
 use mathlib.Core.Path.{_≡_, refl, ap, sym, _∙_}
 use native.Mathlib.Omega.{arith}
 use Rattle.overload.proofs.Lists.{some≢none}
-use Rattle.symbol.specs.Front.{brokenHead, plainHead, nameHead, classHead, operatorsHead, functionWith, functionHead, fieldWith, fieldHead, visibilityHead, suspendHead, variantHead, headOf}
+use Rattle.symbol.proofs.Cleans.{clean-record}
+use Rattle.symbol.specs.Front.{brokenHead, plainHead, nameHead, classHead, operatorsHead, functionWith, functionHead, fieldWith, fieldHead, visibilityHead, suspendHead, variantHead, headBy, headOf}
 use Rattle.symbol.specs.Lookup.{isOf, recordsWith, fieldIn, wholeLength, typeLength, overloadOf, symbolsIn, symbolsOf}
-use Rattle.symbol.specs.Refused.{superLate, recordFault, faultFrom, tableFault}
+use Rattle.symbol.specs.Refused.{recordFault, faultFrom, tableFault}
 use Rattle.symbol.specs.Table.{Record, frontRecord, recordsFrom, recordsOf}
 use Rattle.symbol.specs.declared.front.Head.{Head}
 use Rattle.symbol.specs.declared.params.Reading.{Reading}
@@ -65,7 +66,7 @@ function-byte b s c =
     by-choice (FieldByte b) _ (λ _ e. absurd (omega arith)) λ _. by-choice (FieldByte b) _ (λ _ e. absurd (omega arith)) (λ _ e. absurd (omega arith))
 
 field-byte : (s : List ℕ) → FieldByte (getD s 0 0) (headOf s)
-unfolding headOf nameHead classHead operatorsHead functionHead visibilityHead suspendHead variantHead
+unfolding headOf headBy nameHead classHead operatorsHead functionHead visibilityHead suspendHead variantHead
 field-byte s =
     by-choice (FieldByte (getD s 0 0)) _ (λ _. plain-byte _ s _ _ _ _ _ _ (λ e. omega arith)) λ _.
     by-choice (FieldByte (getD s 0 0)) _ (λ _. plain-byte _ s _ _ _ _ _ _ (λ e. omega arith)) λ _.
@@ -82,7 +83,7 @@ field-byte s =
     by-choice (FieldByte (getD s 0 0)) _ (λ _. plain-byte _ s _ _ _ _ _ _ (λ e. omega arith)) (λ _ e. absurd (omega arith))
 
 field-head : (s : List ℕ) → getD s 0 0 ≡ 5 → headOf s ≡ fieldHead s
-unfolding headOf choose
+unfolding headOf headBy choose
 field-head s e = rw e
 
 -- a part's first byte is the whole's
@@ -159,15 +160,7 @@ not-chosen true n x e = absurd (omega arith)
 not-chosen false n x e = (refl, e)
 
 record-fine : (earlier : List Record) (r : Record) (rest : List Record) → recordFault earlier r rest ≡ 0 → Fine r
-unfolding recordFault
-record-fine earlier r rest e =
-    let (m, e₁) = not-chosen (headOf r .malformed) 1 _ e in
-    let (a, e₂) = not-chosen _ 2 _ e₁ in
-    let (b, e₃) = not-chosen _ 3 _ e₂ in
-    let (c, e₄) = not-chosen _ 4 _ e₃ in
-    let (d, e₅) = not-chosen (superLate earlier r rest) 5 _ e₄ in
-    let (x, e₆) = not-chosen (headOf r .error) 6 _ e₅ in
-    record { malformed = m; error = x }
+record-fine earlier r rest e = let c = clean-record earlier r rest e in record { malformed = c .whole; error = c .typed }
 
 all-fine : (earlier rs : List Record) → faultFrom earlier rs ≡ 0 → (r : Record) → List·Memᴰ r rs → Fine r
 unfolding faultFrom choose

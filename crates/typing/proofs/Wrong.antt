@@ -27,7 +27,7 @@ use Rattle.rules.specs.Member.{variableMember, pairMember, collectionMember, st
 use Rattle.rules.specs.OperatorMethod.{firstResult, atClass, climb, operatorReturn}
 use Rattle.rules.specs.Out.{unless, found as found·}
 use Rattle.rules.specs.Unary.{unaryOf, unaryOut}
-use Rattle.symbol.specs.Front.{plainHead, orNone, goodByte, goodBytes, nameHead, classHead, operatorsHead, among, paramStep, runParams, paramsRead, functionWith, functionHead, fieldHead, visibilityHead, suspendHead, variantHead, headOf}
+use Rattle.symbol.specs.Front.{plainHead, orNone, goodByte, goodBytes, nameHead, classHead, operatorsHead, among, paramStep, runParams, paramsRead, functionWith, functionHead, fieldHead, visibilityHead, suspendHead, variantHead, headBy, headOf}
 use Rattle.symbol.specs.Lookup.{recordsWith, typeLength, paramsFrom, overloadOf, namesIn, capitalIn, symbolsIn}
 use Rattle.symbol.specs.Lookup.{symbolsOf}
 use Rattle.symbol.specs.Refused.{sameKey, hasKey, hasClass, superLate, recordFault, faultFrom, tableFault}
@@ -63,7 +63,7 @@ other t q lent a b k i rest p e d h s =
 
 -- A judge that types every script Any: on the script that is a leaf Int.
 any-typed : (a : Answer) (b : List ℕ) (lent : ℕ) → a .ty ≡ padded answerBytes any → TypingsAnswer [] (script (leaf int)) lent a b → ⊥
-unfolding typeIn innerOf nonNull sameBytes choose bodyLength children idIn itemOf itemAt stopped readFrom readType plainHead orNone goodByte goodBytes nameHead classHead operatorsHead among paramStep runParams paramsRead functionWith functionHead fieldHead visibilityHead suspendHead variantHead headOf recordsWith typeLength paramsFrom overloadOf namesIn capitalIn symbolsIn sameKey hasKey hasClass superLate recordFault faultFrom tableFault builtinNames spelled climbs isSubclass recordsFrom countOf headerOf first· rest· takeRow dropRow onto rowAt treeOf leafOf nodeOf nodeIn nodeAt ownBytes children·question headerFault idFault endlessFault nodeFault moreFault endFault nodesFault treeFault questionFault after nameOf recordOf records padded paramAccepts blocked accessReport assignRule assignIn canAssign addOut arithmeticOut operatorOut builtinBinary binaryOut at· variableMember pairMember collectionMember stringMember elementMember mapMember firstFunction fieldOr classMember namedMember kindMember visibilityReport memberReport baseMember memberOut firstResult atClass climb operatorReturn unless found· unaryOf unaryOut anyOwn own usable required endsVararg fits fitting suspendReport better chosen absent unknownOne unknowns allUnknown mismatchOne mismatches noneFits tieReport settle resolveIn resolve paramOf placeOf markAt markOne marksFrom unmarkedFrom plus· compared comparedWith namedOne namedScore unnamedOne unnamedScore score faultOf answered answerOf bufferOf baseName callIn methodIn methodBy callStep methodStep judge noError noDiag passes
+unfolding typeIn innerOf nonNull sameBytes choose bodyLength children idIn itemOf itemAt stopped readFrom readType plainHead orNone goodByte goodBytes nameHead classHead operatorsHead among paramStep runParams paramsRead functionWith functionHead fieldHead visibilityHead suspendHead variantHead headBy headOf recordsWith typeLength paramsFrom overloadOf namesIn capitalIn symbolsIn sameKey hasKey hasClass superLate recordFault faultFrom tableFault builtinNames spelled climbs isSubclass recordsFrom countOf headerOf first· rest· takeRow dropRow onto rowAt treeOf leafOf nodeOf nodeIn nodeAt ownBytes children·question headerFault idFault endlessFault nodeFault moreFault endFault nodesFault treeFault questionFault after nameOf recordOf records padded paramAccepts blocked accessReport assignRule assignIn canAssign addOut arithmeticOut operatorOut builtinBinary binaryOut at· variableMember pairMember collectionMember stringMember elementMember mapMember firstFunction fieldOr classMember namedMember kindMember visibilityReport memberReport baseMember memberOut firstResult atClass climb operatorReturn unless found· unaryOf unaryOut anyOwn own usable required endsVararg fits fitting suspendReport better chosen absent unknownOne unknowns allUnknown mismatchOne mismatches noneFits tieReport settle resolveIn resolve paramOf placeOf markAt markOne marksFrom unmarkedFrom plus· compared comparedWith namedOne namedScore unnamedOne unnamedScore score faultOf answered answerOf bufferOf baseName callIn methodIn methodBy callStep methodStep judge noError noDiag passes
 any-typed a b lent h s = other [] (script (leaf int)) lent a b 0 9 [] refl refl (λ z. omega arith) h s
 
 pub every-any : (a : Answer) (b : List ℕ) (lent : ℕ) → a .ty ≡ padded answerBytes any → Demand3 [] (script (leaf int)) lent a b → ⊥
@@ -78,7 +78,7 @@ abbrev assignment : List ℕ
 assignment = script (binary 19 (call 40 0 []) (call 41 0 []))
 
 first-copied : (a : Answer) (b : List ℕ) (lent : ℕ) → a .ty ≡ padded answerBytes int → TypingsAnswer twoCalls assignment lent a b → ⊥
-unfolding typeIn innerOf nonNull sameBytes choose bodyLength children idIn itemOf itemAt stopped readFrom readType plainHead orNone goodByte goodBytes nameHead classHead operatorsHead among paramStep runParams paramsRead functionWith functionHead fieldHead visibilityHead suspendHead variantHead headOf recordsWith typeLength paramsFrom overloadOf namesIn capitalIn symbolsIn sameKey hasKey hasClass superLate recordFault faultFrom tableFault builtinNames spelled climbs isSubclass recordsFrom countOf headerOf first· rest· takeRow dropRow onto rowAt treeOf leafOf nodeOf nodeIn nodeAt ownBytes children·question headerFault idFault endlessFault nodeFault moreFault endFault nodesFault treeFault questionFault after nameOf recordOf records padded paramAccepts blocked accessReport assignRule assignIn canAssign addOut arithmeticOut operatorOut builtinBinary binaryOut at· variableMember pairMember collectionMember stringMember elementMember mapMember firstFunction fieldOr classMember namedMember kindMember visibilityReport memberReport baseMember memberOut firstResult atClass climb operatorReturn unless found· unaryOf unaryOut anyOwn own usable required endsVararg fits fitting suspendReport better chosen absent unknownOne unknowns allUnknown mismatchOne mismatches noneFits tieReport settle resolveIn resolve paramOf placeOf markAt markOne marksFrom unmarkedFrom plus· compared comparedWith namedOne namedScore unnamedOne unnamedScore score faultOf answered answerOf bufferOf baseName callIn methodIn methodBy callStep methodStep judge noError noDiag passes
+unfolding typeIn innerOf nonNull sameBytes choose bodyLength children idIn itemOf itemAt stopped readFrom readType plainHead orNone goodByte goodBytes nameHead classHead operatorsHead among paramStep runParams paramsRead functionWith functionHead fieldHead visibilityHead suspendHead variantHead headBy headOf recordsWith typeLength paramsFrom overloadOf namesIn capitalIn symbolsIn sameKey hasKey hasClass superLate recordFault faultFrom tableFault builtinNames spelled climbs isSubclass recordsFrom countOf headerOf first· rest· takeRow dropRow onto rowAt treeOf leafOf nodeOf nodeIn nodeAt ownBytes children·question headerFault idFault endlessFault nodeFault moreFault endFault nodesFault treeFault questionFault after nameOf recordOf records padded paramAccepts blocked accessReport assignRule assignIn canAssign addOut arithmeticOut operatorOut builtinBinary binaryOut at· variableMember pairMember collectionMember stringMember elementMember mapMember firstFunction fieldOr classMember namedMember kindMember visibilityReport memberReport baseMember memberOut firstResult atClass climb operatorReturn unless found· unaryOf unaryOut anyOwn own usable required endsVararg fits fitting suspendReport better chosen absent unknownOne unknowns allUnknown mismatchOne mismatches noneFits tieReport settle resolveIn resolve paramOf placeOf markAt markOne marksFrom unmarkedFrom plus· compared comparedWith namedOne namedScore unnamedOne unnamedScore score faultOf answered answerOf bufferOf baseName callIn methodIn methodBy callStep methodStep judge noError noDiag passes
 first-copied a b lent h s = other twoCalls assignment lent a b 8 0 [] refl refl (λ z. omega arith) h s
 
 pub first-call-copied : (a : Answer) (b : List ℕ) (lent : ℕ) → a .ty ≡ padded answerBytes int → Demand3 twoCalls assignment lent a b → ⊥
