@@ -15,6 +15,8 @@ pub mod Lists
 pub mod Wholes
 pub mod Arrays
 pub mod Calls
+pub mod Runs
+pub mod Climbs
 pub mod Cases
 pub mod Ranks
 pub mod Subclasses

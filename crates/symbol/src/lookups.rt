@@ -7,12 +7,14 @@ use ty::NameId;
 use ty::byte_at;
 ghost use mathlib.Core.Path.{_≡_};
 ghost use mathlib.Core.Bool.{_&&_, _||_};
+ghost use Prim.Native.Nat.{_-_, _≤_};
 ghost use lib.Dec.{ltb, eqb};
 ghost use lib.ListN.{drop};
 ghost use Rattle.symbol.specs.Answer.{partOf, PartIn, maskOf, visibilityOf, FoundIs, functionsFrom, FunctionFound};
 ghost use Rattle.symbol.specs.Lookup.{recordsWith, symbolsOf};
 ghost use Rattle.symbol.specs.Refused.{tableFault};
 ghost use Rattle.symbol.specs.Sections.{Accepted, sectionOf};
+ghost use Rattle.symbol.specs.Subclass.{isSubclass};
 ghost use Rattle.symbol.specs.Table.{recordsOf};
 ghost use Rattle.symbol.specs.Walk.{At};
 
@@ -210,4 +212,52 @@ pub fn next_function(t: &[u8], c: Cursor, owner: u16, name: u16) -> Found
     ensures { λ r. ⌜ FunctionFound (now (t .entry)) (functionsFrom (now (t .entry)) c owner name) owner name r ⌝ }
 {
     c.find(t, 4, owner, name)
+}
+
+// Whether a name is one capital letter. The names are the table's first records, of 26 bytes each.
+pub fn is_capital(t: &[u8], s: Sections, id: u16) -> bool
+    requires { ⌜ Accepted (now t) s ⌝ }
+    ensures { λ r. ⌜ r ≡ symbolsOf (now (t .entry)) .isCapital id ⌝ }
+{
+    let names = s.classes;
+    if id < NameId::FIRST_OF_TABLE {
+        return false;
+    }
+    let i = (id - NameId::FIRST_OF_TABLE) as usize;
+    if names.index <= i {
+        return false;
+    }
+    let letter = byte_at(t, 26 * i + 2);
+    (byte_at(t, 26 * i + 1) == 1) & ((65 <= letter) & (letter <= 90))
+}
+
+// How many classes the table has.
+fn class_count(s: Sections) -> usize
+    requires { ⌜ s .classes .index ≤ s .operators .index ⌝ }
+    ensures { λ r. ⌜ r ≡ s .operators .index - s .classes .index ⌝ }
+{
+    let from = s.classes;
+    let to = s.operators;
+    to.index - from.index
+}
+
+// `is_subclass` of checker.rs: whether `above` is met climbing from `class`.
+pub fn is_subclass(t: &[u8], s: Sections, class: u16, above: u16) -> bool
+    requires { ⌜ Accepted (now t) s ⌝ }
+    ensures { λ r. ⌜ r ≡ isSubclass (symbolsOf (now (t .entry))) class above ⌝ }
+{
+    let mut left = class_count(s);
+    let mut cur = class;
+    while 0 < left {
+        let over = superclass_of(t, s, cur);
+        if over == NameId::NONE {
+            return false;
+        }
+        if over == above {
+            return true;
+        }
+        cur = over;
+        left -= 1;
+    }
+    false
 }

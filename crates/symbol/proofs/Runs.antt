@@ -1,0 +1,245 @@
+-- The runs of an accepted table: names come first, and classes lie between their section's begin and the next. Assumes nothing.
+use Prim.Native.Nat.{ℕ, zero, suc, _+_, _-_, _*_, _≤_, _<_}
+use borrow.Author.Tests.{eq-eqb, ne-eqb, eqb-true, ltb-true, ltb-false, lt-ltb, le-ltb}
+use lib.Dec.{eqb, ltb}
+use lib.ListN.{length, getD, drop, take, length-drop}
+use lib.Seq.{getD-drop, getD-take}
+use mathlib.Core.Bool.{Bool, true, false, true≢false}
+use mathlib.Core.List.{List, [], _∷_}
+use mathlib.Core.Path.{_≡_, refl, sym, ap, _∙_, subst}
+use native.Mathlib.Nat.{not-suc-le-zero, le-of-suc-le-suc}
+use native.Mathlib.Omega.{arith, not-le}
+use Rattle.ty.proofs.Choice.{by-choice}
+use Rattle.ty.specs.Bytes.{idAt}
+use Rattle.ty.specs.Choose.{choose}
+use Rattle.ty.specs.Read.{readType, longestType}
+use Rattle.ty.specs.declared.read.TypeRead.the-variants.{Whole, Cut, Malformed, Endless}
+use Rattle.ty.specs.declared.read.TypeRead.{TypeRead}
+use Rattle.symbol.proofs.Accepts.{CleanFrom, accepted-clean}
+use Rattle.symbol.proofs.Bounds.{head-bounded}
+use Rattle.symbol.proofs.Own.{head-own}
+use Rattle.symbol.proofs.Records.{records-here, records-end}
+use Rattle.symbol.proofs.Sizes.{head-fits}
+use Rattle.symbol.specs.Front.{brokenHead, plainHead, nameHead, classHead, operatorsHead, paramsRead, functionWith, functionHead, fieldWith, fieldHead, visibilityHead, suspendHead, variantHead, headBy, headOf}
+use Rattle.symbol.specs.Lookup.{namesIn}
+use Rattle.symbol.specs.Refused.{lastKind, tableFault}
+use Rattle.symbol.specs.Sections.{countBelow, bytesBelow, sectionOf}
+use Rattle.symbol.specs.Table.{Record, frontRecord, recordsOf, countOf}
+use Rattle.symbol.specs.declared.front.Head.{Head}
+
+-- from kind k on there is none of a lower kind
+no-lower : (k : ℕ) (earlier rs : List Record) → CleanFrom earlier rs → k < lastKind earlier → countOf k rs ≡ 0
+unfolding countOf choose
+no-lower k earlier [] c l = refl
+no-lower k earlier (r ∷ rs) c l =
+    let h = c .0 .rises in
+    let n = no-lower k (r ∷ earlier) rs (c .1) (omega arith) in
+    let e : eqb (headOf r .kind) k ≡ false = ne-eqb (headOf r .kind) k (λ z. omega arith) in
+    rw (e, n)
+
+-- how many records have kind k: those below k + 1, without those below k
+pub count-run : (k : ℕ) (earlier rs : List Record) → CleanFrom earlier rs → countBelow k rs + countOf k rs ≡ countBelow (suc k) rs
+unfolding countBelow countOf choose
+count-run k earlier [] c = refl
+count-run k earlier (r ∷ rs) c = go (ltb (headOf r .kind) k) refl (eqb (headOf r .kind) k) refl (count-run k (r ∷ earlier) rs (c .1))
+  where
+    go : (u : Bool) → ltb (headOf r .kind) k ≡ u → (v : Bool) → eqb (headOf r .kind) k ≡ v → countBelow k rs + countOf k rs ≡ countBelow (suc k) rs
+        → choose (ltb (headOf r .kind) k) (suc (countBelow k rs)) 0 + (choose (eqb (headOf r .kind) k) 1 0 + countOf k rs)
+        ≡ choose (ltb (headOf r .kind) (suc k)) (suc (countBelow (suc k) rs)) 0
+    go true p v q ih =
+        let l = ltb-true (headOf r .kind) k p in
+        let n : eqb (headOf r .kind) k ≡ false = ne-eqb (headOf r .kind) k (λ z. omega arith) in
+        rw (p, n, lt-ltb (headOf r .kind) (suc k) (omega arith)) (omega arith)
+    go false p true q ih =
+        let e = eqb-true (headOf r .kind) k q in
+        let z : countBelow k rs ≡ 0 = none-below k rs (r ∷ earlier) (c .1) (omega arith) in
+        rw (p, q, lt-ltb (headOf r .kind) (suc k) (omega arith)) (omega arith)
+      where
+        none-below : (k : ℕ) (rs earlier : List Record) → CleanFrom earlier rs → k ≤ lastKind earlier → countBelow k rs ≡ 0
+        none-below k [] earlier c l = refl
+        none-below k (x ∷ xs) earlier c l = let h = c .0 .rises in rw (le-ltb (headOf x .kind) k (omega arith))
+    go false p false q ih =
+        let l = ltb-false (headOf r .kind) k p in
+        let ne : headOf r .kind ≡ k → ⊥ = λ z. true≢false (sym (eq-eqb (headOf r .kind) k z) ∙ q) in
+        let m : k < headOf r .kind = not-le (headOf r .kind) k (λ h. ne (omega arith)) in
+        let n : countOf k rs ≡ 0 = no-lower k (r ∷ earlier) rs (c .1) m in
+        rw (p, q, n, le-ltb (headOf r .kind) (suc k) m)
+
+pub class-run : (t : List ℕ) → tableFault t ≡ 0 → sectionOf 2 (recordsOf t) .index + countOf 2 (recordsOf t) ≡ sectionOf 3 (recordsOf t) .index
+class-run t e = count-run 2 [] (recordsOf t) (accepted-clean t e)
+
+-- ---- a record that is not malformed has a kind
+record Kinded (h : Head) : Type 0 where
+  is : h .malformed ≡ false → 1 ≤ h .kind
+
+module _ (s : List ℕ) where
+  known : (h : Head) → 1 ≤ h .kind → Kinded h
+  known h k = record { is = λ _. k }
+
+  broken : Kinded (brokenHead s)
+  broken = record { is = λ e. absurd (true≢false e) }
+
+  plain : (n : ℕ) (bad : Bool) (kind one two top : ℕ) → 1 ≤ kind → Kinded (plainHead s n bad kind one two top)
+  unfolding plainHead
+  plain n bad kind one two top h = by-choice Kinded (ltb (length s) n) (λ _. broken) λ _. by-choice Kinded bad (λ _. broken) (λ _. known _ h)
+
+  function : Kinded (functionHead s)
+  unfolding functionHead functionWith
+  function =
+      by-choice Kinded (ltb (length s) 8) (λ _. broken) λ _.
+      by-choice Kinded (ltb 3 (getD s 5 0)) (λ _. broken) λ _.
+      by-choice Kinded (ltb 1 (getD s 6 0)) (λ _. broken) λ _.
+      by-choice Kinded (ltb 16 (getD s 7 0)) (λ _. broken) λ _.
+      by-choice Kinded (eqb (paramsRead s .state) 0) (λ _. known _ (omega arith)) λ _.
+      by-choice Kinded (eqb (paramsRead s .state) 2) (λ _. known _ (omega arith)) (λ _. broken)
+
+  field-with : (one two : ℕ) (r : TypeRead) → Kinded (fieldWith s one two r)
+  field-with one two (Whole n top e) = known _ (omega arith)
+  field-with one two Cut = broken
+  field-with one two Malformed = broken
+  field-with one two (Endless top e) = known _ (omega arith)
+
+  field : Kinded (fieldHead s)
+  unfolding fieldHead
+  field = by-choice Kinded (ltb (length s) 5) (λ _. broken) λ _. field-with (idAt s 1) (idAt s 3) (readType (drop 5 s) longestType)
+
+  name : Kinded (nameHead s)
+  unfolding nameHead
+  name = plain 26 _ 1 0 0 0 (omega arith)
+
+  class : Kinded (classHead s)
+  unfolding classHead
+  class = plain 8 _ 2 _ _ _ (omega arith)
+
+  operators : Kinded (operatorsHead s)
+  unfolding operatorsHead
+  operators = plain 5 _ 3 _ _ _ (omega arith)
+
+  visibility : Kinded (visibilityHead s)
+  unfolding visibilityHead
+  visibility = plain 6 _ 6 _ _ _ (omega arith)
+
+  suspend : Kinded (suspendHead s)
+  unfolding suspendHead
+  suspend = plain 5 _ 7 _ _ _ (omega arith)
+
+  variant : Kinded (variantHead s)
+  unfolding variantHead
+  variant = plain 5 _ 8 _ _ _ (omega arith)
+
+  kind-known : (kind : ℕ) → Kinded (headBy kind s)
+  unfolding headBy
+  kind-known kind =
+      by-choice Kinded (eqb kind 1) (λ _. name) λ _.
+      by-choice Kinded (eqb kind 2) (λ _. class) λ _.
+      by-choice Kinded (eqb kind 3) (λ _. operators) λ _.
+      by-choice Kinded (eqb kind 4) (λ _. function) λ _.
+      by-choice Kinded (eqb kind 5) (λ _. field) λ _.
+      by-choice Kinded (eqb kind 6) (λ _. visibility) λ _.
+      by-choice Kinded (eqb kind 7) (λ _. suspend) λ _.
+      by-choice Kinded (eqb kind 8) (λ _. variant) (λ _. broken)
+
+  pub head-kinded : headOf s .malformed ≡ false → 1 ≤ headOf s .kind
+  unfolding headOf
+  head-kinded e = kind-known (getD s 0 0) .is e
+
+-- ---- names
+no-names : (earlier rs : List Record) → CleanFrom earlier rs → 1 < lastKind earlier → namesIn rs ≡ []
+unfolding namesIn choose
+no-names earlier [] c l = refl
+no-names earlier (r ∷ rs) c l =
+    let h = c .0 .rises in
+    rw (ne-eqb (headOf r .kind) 1 (λ z. omega arith)) (no-names (r ∷ earlier) rs (c .1) (omega arith))
+
+-- the first record: a name, or no name is behind it
+name-first : (earlier : List Record) (r : Record) (rs : List Record) → CleanFrom earlier (r ∷ rs) → headOf r .kind < 2 → namesIn (r ∷ rs) ≡ r ∷ namesIn rs
+unfolding namesIn choose
+name-first earlier r rs c l =
+    let k = head-kinded r (c .0 .whole) in
+    let e : headOf r .kind ≡ 1 = omega arith in
+    rw (eq-eqb (headOf r .kind) 1 e)
+
+-- behind the names there is none
+pub names-past : (i : ℕ) (earlier rs : List Record) → CleanFrom earlier rs → countBelow 2 rs ≤ i → getD (namesIn rs) i [] ≡ []
+unfolding countBelow choose
+names-past i earlier [] c h = none
+  where
+    none : getD (namesIn []) i [] ≡ []
+    none = unfold namesIn in refl
+names-past i earlier (r ∷ rs) c h = go i h (ltb (headOf r .kind) 2) refl (λ j l. names-past j (r ∷ earlier) rs (c .1) l)
+  where
+    go : (i : ℕ) → choose (ltb (headOf r .kind) 2) (suc (countBelow 2 rs)) 0 ≤ i → (v : Bool) → ltb (headOf r .kind) 2 ≡ v
+        → ((j : ℕ) → countBelow 2 rs ≤ j → getD (namesIn rs) j [] ≡ [])
+        → getD (namesIn (r ∷ rs)) i [] ≡ []
+    go zero h true q ih = absurd (not-suc-le-zero (rw q at h))
+    go (suc i) h true q ih =
+        ap (λ (x : List Record). getD x (suc i) []) (name-first earlier r rs c (ltb-true (headOf r .kind) 2 q)) ∙ ih i (le-of-suc-le-suc (rw q at h))
+    go i h false q ih =
+        let l = ltb-false (headOf r .kind) 2 q in
+        ap (λ (x : List Record). getD x i []) (later ∙ no-names (r ∷ earlier) rs (c .1) (omega arith))
+      where
+        later : namesIn (r ∷ rs) ≡ namesIn rs
+        later = unfold namesIn in rw (ne-eqb (headOf r .kind) 1 (λ z. omega (arith, ltb-false (headOf r .kind) 2 q)))
+
+-- a name at the front of some bytes
+record NameFirst (s : List ℕ) (earlier : List Record) : Type 0 where
+  len : headOf s .len ≡ 26
+  names : namesIn (recordsOf s) ≡ frontRecord s ∷ namesIn (recordsOf (drop 26 s))
+  count : countBelow 2 (recordsOf s) ≡ suc (countBelow 2 (recordsOf (drop 26 s)))
+  clean : CleanFrom (frontRecord s ∷ earlier) (recordsOf (drop 26 s))
+
+name-front : (s : List ℕ) (earlier : List Record) → CleanFrom earlier (recordsOf s) → 0 < countBelow 2 (recordsOf s) → NameFirst s earlier
+unfolding countBelow choose
+name-front [] earlier c h = absurd (omega (arith, ap (countBelow 2) (records-end [] 0 (omega arith))))
+name-front (b ∷ bs) earlier c h = go (ltb (headOf r .kind) 2) refl
+  where
+    s : List ℕ
+    s = b ∷ bs
+
+    r : Record
+    r = frontRecord (b ∷ bs)
+
+    some : 0 < length (b ∷ bs)
+    some = omega arith
+
+    here : recordsOf (b ∷ bs) ≡ frontRecord (b ∷ bs) ∷ recordsOf (drop (headOf (b ∷ bs) .len) (b ∷ bs))
+    here = records-here (b ∷ bs) some
+
+    clean : CleanFrom earlier (frontRecord (b ∷ bs) ∷ recordsOf (drop (headOf (b ∷ bs) .len) (b ∷ bs)))
+    clean = subst (λ (x : List Record). CleanFrom earlier x) here c
+
+    go : (v : Bool) → ltb (headOf (frontRecord (b ∷ bs)) .kind) 2 ≡ v → NameFirst (b ∷ bs) earlier
+    go false q =
+        let z : countBelow 2 (recordsOf (b ∷ bs)) ≡ 0 = ap (countBelow 2) here ∙ rw q in
+        absurd (omega arith)
+    go true q =
+        let k = head-kinded (frontRecord (b ∷ bs)) (clean .0 .whole) in
+        let l = ltb-true (headOf (frontRecord (b ∷ bs)) .kind) 2 q in
+        let o : headOf (frontRecord (b ∷ bs)) .kind ≡ headOf (b ∷ bs) .kind = ap (λ (x : Head). x .kind) (head-own (b ∷ bs) some) in
+        let n : headOf (b ∷ bs) .len ≡ 26 = head-fits (b ∷ bs) .name (omega arith) in
+        record {
+          len = n;
+          names =
+              ap namesIn here
+              ∙ name-first earlier (frontRecord (b ∷ bs)) (recordsOf (drop (headOf (b ∷ bs) .len) (b ∷ bs))) clean l
+              ∙ ap (λ (x : ℕ). frontRecord (b ∷ bs) ∷ namesIn (recordsOf (drop x (b ∷ bs)))) n;
+          count = ap (countBelow 2) here ∙ rw q (ap (λ (x : ℕ). suc (countBelow 2 (recordsOf (drop x (b ∷ bs))))) n);
+          clean = subst (λ (x : ℕ). CleanFrom (frontRecord (b ∷ bs) ∷ earlier) (recordsOf (drop x (b ∷ bs)))) n (clean .1);
+        }
+
+-- NAME i has its 26 bytes from byte 26 i on
+pub name-at : (i : ℕ) (s : List ℕ) (earlier : List Record) → CleanFrom earlier (recordsOf s) → i < countBelow 2 (recordsOf s) → (j : ℕ) → j < 26
+    → getD (getD (namesIn (recordsOf s)) i []) j 0 ≡ getD s (26 * i + j) 0
+name-at zero s earlier c h j l =
+    let f = name-front s earlier c h in
+    let z : j ≡ 26 * zero + j = omega arith in
+    ap (λ (x : List Record). getD (getD x 0 []) j 0) (f .names)
+    ∙ getD-take (headOf s .len) s j 0 (omega (arith, f .len))
+    ∙ ap (λ (k : ℕ). getD s k 0) z
+name-at (suc i) s earlier c h j l =
+    let f = name-front s earlier c (omega arith) in
+    let e : 26 + (26 * i + j) ≡ 26 * suc i + j = omega arith in
+    ap (λ (x : List Record). getD (getD x (suc i) []) j 0) (f .names)
+    ∙ name-at i (drop 26 s) (frontRecord s ∷ earlier) (f .clean) (omega (arith, f .count)) j l
+    ∙ getD-drop 26 s (26 * i + j) 0
+    ∙ ap (λ (k : ℕ). getD s k 0) e
