@@ -5,6 +5,7 @@ pub mod Out
 pub mod Diag
 pub mod Made
 pub mod Ruled
+pub mod Answer
 pub mod Operand
 pub mod Assign
 pub mod Accept

@@ -1,5 +1,7 @@
 // Binary nodes.
 use crate::assign::can_assign_to;
+use crate::method::Method;
+use crate::method::operator_overload_return;
 use crate::ruled::Diagnostic;
 use crate::ruled::Ruled;
 use crate::ruled::Single;
@@ -10,6 +12,7 @@ use crate::ruled::fails;
 use crate::ruled::plain;
 use crate::ruled::unless;
 use area::Source;
+use symbol::checks::Sections;
 use ty::Kind;
 use ty::NameId;
 ghost use Prim.Native.Nat.{ℕ};
@@ -18,9 +21,11 @@ ghost use mathlib.Core.Bool.{_||_};
 ghost use mathlib.Core.List.{List};
 ghost use Rattle.ty.specs.Bytes.{isString, sameBytes};
 ghost use Rattle.symbol.specs.Symbols.{Symbols};
+ghost use Rattle.symbol.specs.Sections.{Accepted};
+ghost use Rattle.symbol.specs.Lookup.{symbolsOf};
 ghost use Rattle.rules.specs.Operand.{numbers as numbersOf, integers as integersOf, either as eitherOf, charString};
 ghost use Rattle.rules.specs.Assign.{canAssign};
-ghost use Rattle.rules.specs.Binary.{fractional as fractionalOf, addOut, arithmeticOut, equalityOut, orderOut, isLogical, logicalOut, bitwiseOut, operatorOut, takesNullable, builtinBinary};
+ghost use Rattle.rules.specs.Binary.{fractional as fractionalOf, addOut, arithmeticOut, equalityOut, orderOut, isLogical, logicalOut, bitwiseOut, operatorOut, takesNullable, builtinBinary, binaryOut};
 ghost use Rattle.rules.specs.Ruled.{outOf, singleOut};
 
 // The numbers of the binary operators.
@@ -117,7 +122,7 @@ fn add(a: u8, b: u8, s: bool, t: bool) -> Single
         if fractional(a, b) {
             return plain(Kind::FLOAT);
         }
-        return plain(Kind::INT);
+        return plain(Kind::INT); // of two Longs too
     }
     if either(Kind::STRING, a, b) | either(Kind::ANY, a, b) {
         return plain(Kind::STRING);
@@ -233,8 +238,7 @@ fn operator(op: u8, a: u8, b: u8, lt: &[u8], rt: &[u8]) -> Ruled
     alone(clean(Source::Second))
 }
 
-// The type of a built-in operator on operands of the types lt and rt, and what is reported.
-pub fn builtin_binary(op: u8, lt: &[u8], rt: &[u8]) -> Ruled
+fn builtin_binary(op: u8, lt: &[u8], rt: &[u8]) -> Ruled
     ensures { λ r. ⌜ ((table : List ℕ) (S : Symbols) → outOf table (now (lt .entry)) (now (rt .entry)) r ≡ builtinBinary S op (now (lt .entry)) (now (rt .entry))) ⌝ }
 {
     let a = ty::kind_of(lt);
@@ -243,4 +247,21 @@ pub fn builtin_binary(op: u8, lt: &[u8], rt: &[u8]) -> Ruled
         return alone(fails(Diagnostic::NULLABLE_OPERANDS));
     }
     operator(op, a, b, lt, rt)
+}
+
+// The type of an operator on operands of the types lt and rt, and what is reported: Error first and silently, then an operator method, then the built-in
+// operators.
+pub fn check_binary(table: &[u8], sections: Sections, op: u8, lt: &[u8], rt: &[u8]) -> Ruled
+    requires { ⌜ Accepted (now table) sections ⌝ }
+    ensures { λ r. ⌜ outOf (now (table .entry)) (now (lt .entry)) (now (rt .entry)) r ≡ binaryOut (symbolsOf (now (table .entry))) op (now (lt .entry)) (now (rt .entry)) ⌝ }
+{
+    if either(Kind::ERROR, ty::kind_of(lt), ty::kind_of(rt)) {
+        return alone(plain(Kind::ERROR));
+    }
+    let method = operator_overload_return(table, sections, op, lt);
+    match method {
+        Method::Nothing => builtin_binary(op, lt, rt),
+        Method::Any => alone(plain(Kind::ANY)),
+        Method::At { start, len } => alone(clean(Source::Part { start, len })),
+    }
 }

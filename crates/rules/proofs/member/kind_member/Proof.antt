@@ -1,0 +1,25 @@
+use borrow.Author.Needs.{needs}
+use Rattle.rules.proofs.member.kind_member.Statement.{statement}
+use Rattle.rules.proofs.member.kind_member.Tie as tie
+use Rattle.rules.specs.Member.{kindMember}
+use Rattle.rules.specs.Ruled.{reportOf}
+use Rattle.ty.proofs.Choice.{chain}
+
+pub kind-member-spec : {M : Type 1} → statement M
+unfolding kindMember reportOf
+kind-member-spec =
+    tie.close
+    (tie.spec
+    (λ c κs. search needs)
+    (λ c κs. search needs)
+    (λ c y. rw (c .named-member .ensures (c .before .before .before .before .before .args .object .now) y, c .before .name-of .ensures) (search chain depth 16))
+    (λ c κs. search needs)
+    (λ c. let a = c .before .before .before .before .before .args in λ y. rw (c .string-member .ensures (a .table .now) (a .object .now) y) (search chain depth 16))
+    (λ c κs. search needs)
+    (λ c. let a = c .before .before .before .before .before .before .args in λ y. rw (c .element-member .ensures (a .table .now) (a .object .now) y) (search chain depth 16))
+    (λ c κs. search needs)
+    (λ c. let a = c .before .before .before .before .before .before .before .args in λ y. rw (c .map-member .ensures (a .table .now) (a .object .now) y) (search chain depth 16))
+    (λ c κs. search needs)
+    (λ c. let a = c .before .before .before .before .before .before .before .before .args in λ y. rw (c .plain .ensures (a .table .now) (a .object .now) y) (search chain depth 16))
+    (λ c κs. search needs)
+    (λ c. let a = c .before .before .before .before .before .before .before .before .args in λ y. rw (c .fails .ensures (a .table .now) (a .object .now) y) (search chain depth 16)))

@@ -1,0 +1,18 @@
+use borrow.Author.Needs.{needs}
+use mathlib.Core.Path.{sym}
+use Rattle.rules.proofs.Lookups.{none-found, first-found, first-function}
+use Rattle.rules.proofs.member.lookup_function.Statement.{statement}
+use Rattle.rules.proofs.member.lookup_function.Tie as tie
+use Rattle.rules.specs.Member.{firstFunction}
+
+pub lookup-function-spec : {M : Type 1} → statement M
+unfolding firstFunction
+lookup-function-spec =
+    tie.close
+    (tie.spec
+    (λ c κs. search needs)
+    (λ c. search needs)
+    (λ c. search needs)
+    (λ c κs. let x = (c .before .found .given) in first-found _ _ _ _ _ (x .0 .0) (c .before .before .before .first-function .ensures) (x .1) .here)
+    (λ c. rw (none-found (c .before .before .before .before .args .table .now) _ _ _ _ (c .before .before .first-function .ensures) ((c .enum-told .given) .1)))
+    (λ c. let x = (c .before .before .found .given) in sym (first-function (c .before .before .before .before .before .before .args .table .now) _ _ _ (x .0 .0) _ (first-found _ _ _ _ _ (x .0 .0) (c .before .before .before .before .first-function .ensures) (x .1)) (c .read-function .ensures))))

@@ -1,0 +1,19 @@
+use borrow.Author.Needs.{needs}
+use Rattle.area.specs.Source.{typeFrom}
+use Rattle.rules.proofs.member.pair_member.Statement.{statement}
+use Rattle.rules.proofs.member.pair_member.Tie as tie
+use Rattle.rules.specs.Member.{pairMember}
+use Rattle.rules.specs.Out.{unless}
+use Rattle.rules.specs.Ruled.{reportOf}
+use Rattle.ty.proofs.Choice.{chain}
+
+pub pair-member-spec : {M : Type 1} → statement M
+unfolding pairMember typeFrom reportOf unless
+pair-member-spec =
+    tie.close (tie.spec
+    (λ c κs. search needs)
+    (λ c table x y. rw (c .plain .ensures table x y) (search chain depth 16))
+    (λ c κs. search needs)
+    (λ c table x y. rw (c .plain2 .ensures table x y) (search chain depth 16))
+    (λ c κs. search needs)
+    (λ c table x y. rw (c .fails .ensures table x y) (search chain depth 16)))

@@ -1,0 +1,22 @@
+use borrow.Author.Needs.{needs}
+use Rattle.area.specs.Source.{typeFrom}
+use Rattle.rules.proofs.member.string_member.Statement.{statement}
+use Rattle.rules.proofs.member.string_member.Tie as tie
+use Rattle.rules.specs.Member.{stringMember}
+use Rattle.rules.specs.Out.{unless}
+use Rattle.rules.specs.Ruled.{reportOf}
+use Rattle.ty.proofs.Choice.{chain}
+
+pub string-member-spec : {M : Type 1} → statement M
+unfolding stringMember typeFrom reportOf unless
+string-member-spec =
+    tie.close
+    (tie.spec
+    (λ c κs. search needs)
+    (λ c table x y. rw (c .plain .ensures table x y) (search chain depth 16))
+    (λ c κs. search needs)
+    (λ c table x y. rw (c .plain2 .ensures table x y) (search chain depth 16))
+    (λ c κs. search needs)
+    (λ c table x y. rw (c .plain3 .ensures table x y) (search chain depth 16))
+    (λ c κs. search needs)
+    (λ c table x y. rw (c .fails .ensures table x y) (search chain depth 16)))

@@ -1,0 +1,17 @@
+use borrow.Author.Needs.{needs}
+use mathlib.Core.Path.{sym, _∙_}
+use Rattle.rules.proofs.Lookups.{no-visibility, has-visibility}
+use Rattle.rules.proofs.member.visibility_report.Statement.{statement}
+use Rattle.rules.proofs.member.visibility_report.Tie as tie
+
+pub visibility-report-spec : {M : Type 1} → statement M
+visibility-report-spec =
+    tie.close
+    (tie.spec
+    (λ c κs. search needs)
+    (λ c. search needs)
+    (λ c κs. search needs)
+    (λ c. search needs)
+    (λ c κs. search needs)
+    (λ c. c .no-report .ensures ∙ sym (no-visibility _ _ _ _ _ (c .before .before .before .visibility-of .ensures) ((c .before .enum-told .given) .1)))
+    (λ c. let x = (c .before .before .visibility .given) in (c .access-report .ensures) ∙ sym (has-visibility _ _ _ _ _ (x .0 .0) (c .before .before .before .before .visibility-of .ensures) (x .1))))

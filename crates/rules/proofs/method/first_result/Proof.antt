@@ -1,0 +1,17 @@
+use borrow.Author.Needs.{needs}
+use Rattle.rules.proofs.Lookups.{none-found, first-found, first-result}
+use Rattle.rules.proofs.method.first_result.Statement.{statement}
+use Rattle.rules.proofs.method.first_result.Tie as tie
+use Rattle.rules.specs.OperatorMethod.{firstResult}
+
+pub first-result-spec : {M : Type 1} → statement M
+unfolding firstResult
+first-result-spec =
+    tie.close
+    (tie.spec
+    (λ c κs. search needs)
+    (λ c. search needs)
+    (λ c. search needs)
+    (λ c κs. let x = (c .before .found .given) in first-found _ _ _ _ _ (x .0 .0) (c .before .before .before .first-function .ensures) (x .1) .here)
+    (λ c. rw (none-found (c .before .before .before .before .args .table .now) _ _ _ _ (c .before .before .first-function .ensures) ((c .enum-told .given) .1)))
+    (λ c. let x = (c .before .before .found .given) in rw (first-result (c .before .before .before .before .before .before .args .table .now) _ _ _ (x .0 .0) _ (first-found _ _ _ _ _ (x .0 .0) (c .before .before .before .before .first-function .ensures) (x .1)) (c .read-function .ensures))))

@@ -1,0 +1,316 @@
+// Member nodes.
+use crate::accept::is_variable_name;
+use crate::access::access_report;
+use crate::ruled::Diagnostic;
+use crate::ruled::Ruled;
+use crate::ruled::Single;
+use crate::ruled::alone;
+use crate::ruled::behind;
+use crate::ruled::clean;
+use crate::ruled::fails;
+use crate::ruled::no_report;
+use crate::ruled::plain;
+use area::Source;
+use question::Header;
+use symbol::checks::Sections;
+use symbol::functions::read_function;
+use symbol::lookups::Found;
+use symbol::lookups::Part;
+use symbol::lookups::Visibility;
+use symbol::lookups::field_of;
+use symbol::lookups::first_function;
+use symbol::lookups::in_types;
+use symbol::lookups::is_variant;
+use symbol::lookups::visibility_of;
+use ty::Kind;
+use ty::NameId;
+ghost use Prim.Native.Nat.{ℕ};
+ghost use mathlib.Core.Path.{_≡_};
+ghost use mathlib.Core.List.{List};
+ghost use Rattle.ty.specs.Bytes.{innerOf};
+ghost use Rattle.symbol.specs.Sections.{Accepted};
+ghost use Rattle.symbol.specs.Lookup.{symbolsOf};
+ghost use Rattle.rules.specs.Ruled.{reportOf, outOf, singleOut};
+ghost use Rattle.rules.specs.Answer.{variableOf};
+ghost use Rattle.rules.specs.Member.{variableMember, pairMember, collectionMember, stringMember, elementMember, mapMember, firstFunction, lookupVar, classMember, namedMember, kindMember, visibilityReport, memberReport, isNullableObject, memberOut};
+
+// What a name of a class stands for: nothing, a field or a function, by the part of the table where its type or its result type lies.
+pub enum Variable {
+    Nothing,
+    Field { start: usize, len: usize },
+    Function { start: usize, len: usize },
+}
+
+// A type variable's members.
+fn variable_member(id: u16) -> Single
+    ensures { λ r. ⌜ ((table x y : List ℕ) → singleOut table x y r ≡ variableMember id) ⌝ }
+{
+    if id == NameId::TO_STRING {
+        return plain(Kind::STRING);
+    }
+    if id == NameId::HASH_CODE {
+        return plain(Kind::INT);
+    }
+    if id == NameId::EQUALS {
+        return plain(Kind::BOOLEAN);
+    }
+    plain(Kind::ANY)
+}
+
+// Pair's.
+fn pair_member(id: u16) -> Single
+    ensures { λ r. ⌜ ((table x y : List ℕ) → singleOut table x y r ≡ pairMember id) ⌝ }
+{
+    if (id == NameId::FIRST) | (id == NameId::SECOND) {
+        return plain(Kind::ANY);
+    }
+    if id == NameId::TO_STRING {
+        return plain(Kind::STRING);
+    }
+    fails(Diagnostic::UNRESOLVED)
+}
+
+// Those of the classes List, ArrayList, MutableList, Array and Set, as names.
+fn collection_member(id: u16) -> Single
+    ensures { λ r. ⌜ ((table x y : List ℕ) → singleOut table x y r ≡ collectionMember id) ⌝ }
+{
+    if (id == NameId::SIZE) | (id == NameId::COUNT) {
+        return plain(Kind::INT);
+    }
+    if id == NameId::IS_EMPTY {
+        return plain(Kind::BOOLEAN);
+    }
+    if ((id == NameId::FIRST) | (id == NameId::LAST))
+        | ((id == NameId::GET) | (id == NameId::GET_AT))
+    {
+        return plain(Kind::ANY);
+    }
+    if ((id == NameId::SET) | (id == NameId::ADD))
+        | ((id == NameId::PUSH) | (id == NameId::APPEND))
+    {
+        return plain(Kind::UNIT);
+    }
+    if id == NameId::CONTAINS {
+        return plain(Kind::BOOLEAN);
+    }
+    if id == NameId::INDEX_OF {
+        return plain(Kind::INT);
+    }
+    fails(Diagnostic::UNRESOLVED)
+}
+
+// String's.
+fn string_member(id: u16) -> Single
+    ensures { λ r. ⌜ ((table x y : List ℕ) → singleOut table x y r ≡ stringMember id) ⌝ }
+{
+    if (id == NameId::LENGTH) | (id == NameId::SIZE) {
+        return plain(Kind::INT);
+    }
+    if (id == NameId::IS_EMPTY) | (id == NameId::IS_NOT_EMPTY) {
+        return plain(Kind::BOOLEAN);
+    }
+    if (id == NameId::TRIM) | ((id == NameId::LOWERCASE) | (id == NameId::UPPERCASE)) {
+        return plain(Kind::STRING);
+    }
+    fails(Diagnostic::UNRESOLVED)
+}
+
+// A List's or an Array's.
+fn element_member(id: u16) -> Single
+    ensures { λ r. ⌜ ((table x y : List ℕ) → singleOut table x y r ≡ elementMember (innerOf x) id) ⌝ }
+{
+    if (id == NameId::SIZE) | (id == NameId::COUNT) {
+        return plain(Kind::INT);
+    }
+    if id == NameId::IS_EMPTY {
+        return plain(Kind::BOOLEAN);
+    }
+    if ((id == NameId::FIRST) | (id == NameId::LAST))
+        | ((id == NameId::GET) | (id == NameId::GET_AT))
+    {
+        return clean(Source::Inner);
+    }
+    if id == NameId::SET {
+        return plain(Kind::UNIT);
+    }
+    fails(Diagnostic::UNRESOLVED)
+}
+
+// A Map's.
+fn map_member(id: u16) -> Single
+    ensures { λ r. ⌜ ((table x y : List ℕ) → singleOut table x y r ≡ mapMember id) ⌝ }
+{
+    if id == NameId::SIZE {
+        return plain(Kind::INT);
+    }
+    if id == NameId::KEYS {
+        return clean(Source::ListOf(Kind::ANY));
+    }
+    fails(Diagnostic::UNRESOLVED)
+}
+
+// A class's function of a name.
+fn lookup_function(table: &[u8], sections: Sections, owner: u16, id: u16) -> Variable
+    requires { ⌜ Accepted (now table) sections ⌝ }
+    ensures { λ r. ⌜ variableOf (now (table .entry)) r ≡ firstFunction (symbolsOf (now (table .entry)) .functionsOf owner id) ⌝ }
+{
+    let found = first_function(table, sections, owner, id);
+    match found {
+        Found::Nothing => Variable::Nothing,
+        Found::Here(place) => {
+            let f = read_function(table, place);
+            Variable::Function {
+                start: f.start,
+                len: f.len,
+            }
+        }
+    }
+}
+
+// A class's field of a name, or else its function.
+fn lookup_var_ty(table: &[u8], sections: Sections, owner: u16, id: u16) -> Variable
+    requires { ⌜ Accepted (now table) sections ⌝ }
+    ensures { λ r. ⌜ variableOf (now (table .entry)) r ≡ lookupVar (symbolsOf (now (table .entry))) owner id ⌝ }
+{
+    let field = field_of(table, sections, owner, id);
+    match field {
+        Part::At { start, len } => Variable::Field { start, len },
+        Part::Nothing => lookup_function(table, sections, owner, id),
+    }
+}
+
+// The members that the table gives a class: a field or function, a variant, none. Without a record in `types` none is silent.
+fn class_member(table: &[u8], sections: Sections, owner: u16, id: u16) -> Single
+    requires { ⌜ Accepted (now table) sections ⌝ }
+    ensures { λ r. ⌜ ((x y : List ℕ) → singleOut (now (table .entry)) x y r ≡ classMember (symbolsOf (now (table .entry))) owner id) ⌝ }
+{
+    let variable = lookup_var_ty(table, sections, owner, id);
+    match variable {
+        Variable::Field { start, len } => clean(Source::Part { start, len }),
+        Variable::Function { start, len } => clean(Source::Function { start, len }),
+        Variable::Nothing => {
+            if is_variant(table, sections, owner, id) {
+                return clean(Source::Name(owner));
+            }
+            if in_types(table, sections, owner) {
+                return fails(Diagnostic::UNRESOLVED);
+            }
+            plain(Kind::ERROR)
+        }
+    }
+}
+
+// A Named base's, by its name.
+fn named_member(table: &[u8], sections: Sections, owner: u16, id: u16) -> Single
+    requires { ⌜ Accepted (now table) sections ⌝ }
+    ensures { λ r. ⌜ ((x y : List ℕ) → singleOut (now (table .entry)) x y r ≡ namedMember (symbolsOf (now (table .entry))) owner id) ⌝ }
+{
+    if is_variable_name(table, sections, owner) {
+        return variable_member(id);
+    }
+    if owner == NameId::PAIR {
+        return pair_member(id);
+    }
+    if (NameId::LIST <= owner) & (owner <= NameId::SET_CLASS) {
+        return collection_member(id);
+    }
+    class_member(table, sections, owner, id)
+}
+
+// Those of a base of a kind; array: it is an Array. Its name and what it holds are read off the object.
+fn kind_member(
+    table: &[u8],
+    sections: Sections,
+    kind: u8,
+    array: bool,
+    object: &[u8],
+    id: u16,
+) -> Single
+    requires { ⌜ Accepted (now table) sections ⌝ }
+    ensures { λ r. ⌜ ((y : List ℕ) → singleOut (now (table .entry)) (now (object .entry)) y r ≡ kindMember (symbolsOf (now (table .entry))) kind array (now (object .entry)) id) ⌝ }
+{
+    if kind == Kind::NAMED {
+        return named_member(table, sections, ty::name_of(object), id);
+    }
+    if kind == Kind::STRING {
+        return string_member(id);
+    }
+    if (kind == Kind::LIST) | array {
+        return element_member(id);
+    }
+    if kind == Kind::MAP {
+        return map_member(id);
+    }
+    if kind == Kind::ANY {
+        return plain(Kind::ANY);
+    }
+    fails(Diagnostic::NO_MEMBERS)
+}
+
+// The access check of a member that has a visibility.
+fn visibility_report(
+    table: &[u8],
+    sections: Sections,
+    header: Header,
+    owner: u16,
+    id: u16,
+) -> Diagnostic
+    requires { ⌜ Accepted (now table) sections ⌝ }
+    ensures { λ r. ⌜ reportOf (r .kind) (r .number) ≡ visibilityReport (symbolsOf (now (table .entry))) header owner (symbolsOf (now (table .entry)) .visibilityOf owner id) ⌝ }
+{
+    let visibility = visibility_of(table, sections, owner, id);
+    match visibility {
+        Visibility::Nothing => no_report(),
+        Visibility::Is(vis) => access_report(table, sections, header, vis, owner),
+    }
+}
+
+fn member_report(
+    table: &[u8],
+    sections: Sections,
+    header: Header,
+    base: &[u8],
+    id: u16,
+) -> Diagnostic
+    requires { ⌜ Accepted (now table) sections ⌝ }
+    ensures { λ r. ⌜ reportOf (r .kind) (r .number) ≡ memberReport (symbolsOf (now (table .entry))) header (now (base .entry)) id ⌝ }
+{
+    if ty::kind_of(base) == Kind::NAMED {
+        return visibility_report(table, sections, header, ty::name_of(base), id);
+    }
+    no_report()
+}
+
+// Nullable, and not because it is unknown.
+fn is_nullable_object(t: &[u8]) -> bool
+    ensures { λ r. ⌜ r ≡ isNullableObject (now (t .entry)) ⌝ }
+{
+    let inside = ty::kind_of(ty::non_null(t));
+    ty::is_nullable(t) & (!((inside == Kind::ANY) | (inside == Kind::ERROR)))
+}
+
+// The type of a member of an object, and what is reported.
+pub fn check_member(
+    table: &[u8],
+    sections: Sections,
+    header: Header,
+    id: u16,
+    object: &[u8],
+) -> Ruled
+    requires { ⌜ Accepted (now table) sections ⌝ }
+    ensures { λ r. ⌜ ((y : List ℕ) → outOf (now (table .entry)) (now (object .entry)) y r ≡ memberOut (symbolsOf (now (table .entry))) header id (now (object .entry))) ⌝ }
+{
+    if is_nullable_object(object) {
+        return alone(fails(Diagnostic::NULLABLE_MEMBER));
+    }
+    let base = ty::non_null(object);
+    let kind = ty::kind_of(base);
+    if kind == Kind::MODULE {
+        return alone(plain(Kind::ANY));
+    }
+    let first = member_report(table, sections, header, base, id);
+    behind(
+        first,
+        kind_member(table, sections, kind, ty::is_array(base), object, id),
+    )
+}

@@ -1,0 +1,84 @@
+// Operator methods.
+use crate::binary::BinOp;
+use symbol::checks::Sections;
+use symbol::functions::read_function;
+use symbol::lookups::Found;
+use symbol::lookups::Mask;
+use symbol::lookups::first_function;
+use symbol::lookups::operators_of;
+use symbol::lookups::superclass_of;
+use ty::Kind;
+use ty::NameId;
+ghost use mathlib.Core.Path.{_≡_};
+ghost use mathlib.Core.Option.{some};
+ghost use Prim.Native.Nat.{_≤_, suc};
+ghost use Rattle.symbol.specs.Sections.{Accepted};
+ghost use Rattle.symbol.specs.Lookup.{symbolsOf};
+ghost use Rattle.rules.specs.OperatorMethod.{hasOperator, firstResult, climb as climbOf, operatorReturn};
+ghost use Rattle.rules.specs.Answer.{methodOf};
+
+// The type that an operator method gives: there is no such method, it is Any, or a part of the table.
+pub enum Method {
+    Nothing,
+    Any,
+    At { start: usize, len: usize },
+}
+
+// An operator set's mask has the operator's bit.
+fn has_operator(mask: u16, op: u8) -> bool
+    requires { ⌜ op ≤ 10 ⌝ }
+    ensures { λ r. ⌜ r ≡ hasOperator mask op ⌝ }
+{
+    (mask >> op) % 2 == 1
+}
+
+// The result of the first function of a class and a name, and Any where there is none.
+fn first_result(table: &[u8], sections: Sections, class: u16, name: u16) -> Method
+    requires { ⌜ Accepted (now table) sections ⌝ }
+    ensures { λ r. ⌜ methodOf (now (table .entry)) r ≡ some (firstResult (symbolsOf (now (table .entry)) .functionsOf class name)) ⌝ }
+{
+    let found = first_function(table, sections, class, name);
+    match found {
+        Found::Nothing => Method::Any,
+        Found::Here(place) => {
+            let f = read_function(table, place);
+            Method::At {
+                start: f.start,
+                len: f.len,
+            }
+        }
+    }
+}
+
+// The climb from a class, as long as there are operator sets.
+fn climb(table: &[u8], sections: Sections, op: u8, class: u16) -> Method
+    requires { ⌜ Accepted (now table) sections × (op ≤ 10) ⌝ }
+    ensures { λ r. ⌜ methodOf (now (table .entry)) r ≡ climbOf (symbolsOf (now (table .entry))) (suc (symbolsOf (now (table .entry)) .classes)) op class ⌝ }
+{
+    let mut at = class;
+    while at != NameId::NONE {
+        let set = operators_of(table, sections, at);
+        match set {
+            Mask::Nothing => {
+                return Method::Nothing;
+            }
+            Mask::Is(mask) => {
+                if has_operator(mask, op) {
+                    return first_result(table, sections, at, NameId::PLUS + op as u16);
+                }
+                at = superclass_of(table, sections, at);
+            }
+        }
+    }
+    Method::Nothing
+}
+
+pub fn operator_overload_return(table: &[u8], sections: Sections, op: u8, lt: &[u8]) -> Method
+    requires { ⌜ Accepted (now table) sections ⌝ }
+    ensures { λ r. ⌜ methodOf (now (table .entry)) r ≡ operatorReturn (symbolsOf (now (table .entry))) op (now (lt .entry)) ⌝ }
+{
+    if (op <= BinOp::GE) & (ty::kind_of(lt) == Kind::NAMED) {
+        return climb(table, sections, op, ty::name_of(lt));
+    }
+    Method::Nothing
+}
