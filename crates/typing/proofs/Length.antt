@@ -7,6 +7,7 @@ use mathlib.Core.Path.{_≡_, refl}
 use native.Mathlib.Omega.{arith}
 use Rattle.overload.specs.Arg.{Arg}
 use Rattle.overload.specs.Resolve.{resolve}
+use Rattle.question.proofs.Trees.{some-size}
 use Rattle.question.specs.Tree.{Node, leaf, binary, unary, named, member, call, method, after, size, LeavesFit}
 use Rattle.question.specs.declared.Header.{Header}
 use Rattle.symbol.specs.Symbols.{Symbols}
@@ -14,16 +15,6 @@ use Rattle.ty.specs.Read.{longestType}
 use Rattle.typing.proofs.Short.{SymbolsFit, binary-short, unary-short, member-short, call-short, method-short}
 use Rattle.typing.specs.Callee.{Callee, callOf, methodOf}
 use Rattle.typing.specs.Judge.{Judged, RowJudged, callStep, methodStep, judge, judges}
-
-size-pos : (x : Node) → 1 ≤ size x
-unfolding size
-size-pos (leaf t) = omega arith
-size-pos (binary op l r) = omega arith
-size-pos (unary op x) = omega arith
-size-pos (named id x) = omega arith
-size-pos (member id x) = omega arith
-size-pos (call id r) = omega arith
-size-pos (method id x r) = omega arith
 
 module _ (S : Symbols) where
   call-step : (n : ℕ) (found : Option Callee) (b : RowJudged)
@@ -50,7 +41,7 @@ module _ (S : Symbols) (fit : SymbolsFit S) (H : Header) where
       omega (arith, unary-short S fit (longestType + size x) (omega arith) op (judge S H x (suc n) .ty) (type-short x (suc n) f) .len)
   type-short (named id x) n f = omega (arith, type-short x (suc n) f)
   type-short (member id x) n f =
-      member-short S fit (longestType + suc (size x)) (omega arith) (omega (arith, size-pos x)) H id (judge S H x (suc n) .ty)
+      member-short S fit (longestType + suc (size x)) (omega arith) (omega (arith, some-size x)) H id (judge S H x (suc n) .ty)
       (omega (arith, type-short x (suc n) f)) .len
   type-short (call id r) n f = omega (arith, call-step S n (callOf S H id) (judges S H r (suc n)) (λ c xs e. call-short S fit H id c n xs e))
   type-short (method id x r) n f =

@@ -21,3 +21,4 @@ pub mod Samples
 pub mod Marked
 pub mod Drawn
 pub mod Wrong
+pub mod Count

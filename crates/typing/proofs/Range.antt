@@ -1,32 +1,14 @@
--- A judgement gives types only to the numbers of its tree; and `after` counts by size. Assumes nothing.
-use Prim.Native.Nat.{ℕ, suc, _+_, _≤_}
+-- A judgement gives types only to the numbers of its tree. Assumes nothing.
+use Prim.Native.Nat.{ℕ, suc, _≤_}
 use mathlib.Core.List.{[], _++_}
 use mathlib.Core.Option.{Option, none, some}
-use mathlib.Core.Path.{_≡_}
-use native.Mathlib.Omega.{arith}
-use Rattle.question.specs.Tree.{Node, Row, after, afters, binary, call, cons, leaf, member, method, named, nil, size, sizes, unary}
+use Rattle.question.specs.Tree.{Node, Row, after, afters, binary, call, cons, leaf, member, method, named, nil, unary}
 use Rattle.question.specs.declared.Header.{Header}
 use Rattle.rules.specs.Out.{anyTy, errorTy, found}
 use Rattle.symbol.specs.Symbols.{Symbols}
 use Rattle.typing.proofs.Base.{Within, within-nil, within-join, within-done, within-wide}
 use Rattle.typing.specs.Callee.{Callee, callOf, methodOf}
 use Rattle.typing.specs.Judge.{Judged, RowJudged, callStep, judge, judges, methodStep}
-
-mutual
-  unfolding after size
-
-  pub after-size : (x : Node) (n : ℕ) → after x n ≡ n + size x
-  after-size (leaf t) n = omega arith
-  after-size (binary op l r) n = omega (arith, after-size l (suc n), after-size r (after l (suc n)))
-  after-size (unary op x) n = omega (arith, after-size x (suc n))
-  after-size (named id x) n = omega (arith, after-size x (suc n))
-  after-size (member id x) n = omega (arith, after-size x (suc n))
-  after-size (call id r) n = omega (arith, afters-size r (suc n))
-  after-size (method id x r) n = omega (arith, after-size x (suc n), afters-size r (after x (suc n)))
-
-  pub afters-size : (r : Row) (n : ℕ) → afters r n ≡ n + sizes r
-  afters-size nil n = omega arith
-  afters-size (cons x r) n = omega (arith, after-size x n, afters-size r (after x n))
 
 pub within-empty : {a e : ℕ} → a ≤ e → Within [] a e
 within-empty {a} h = within-wide [] (within-nil a) h
