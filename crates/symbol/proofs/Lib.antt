@@ -15,8 +15,10 @@ pub mod Lists
 pub mod Wholes
 pub mod Arrays
 pub mod Calls
+pub mod Names
 pub mod Runs
 pub mod Climbs
+pub mod Goods
 pub mod Cases
 pub mod Ranks
 pub mod Subclasses

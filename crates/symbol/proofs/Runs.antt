@@ -9,18 +9,13 @@ use mathlib.Core.List.{List, [], _∷_}
 use mathlib.Core.Path.{_≡_, refl, sym, ap, _∙_, subst}
 use native.Mathlib.Nat.{not-suc-le-zero, le-of-suc-le-suc}
 use native.Mathlib.Omega.{arith, not-le}
-use Rattle.ty.proofs.Choice.{by-choice}
-use Rattle.ty.specs.Bytes.{idAt}
 use Rattle.ty.specs.Choose.{choose}
-use Rattle.ty.specs.Read.{readType, longestType}
-use Rattle.ty.specs.declared.read.TypeRead.the-variants.{Whole, Cut, Malformed, Endless}
-use Rattle.ty.specs.declared.read.TypeRead.{TypeRead}
 use Rattle.symbol.proofs.Accepts.{CleanFrom, accepted-clean}
 use Rattle.symbol.proofs.Bounds.{head-bounded}
 use Rattle.symbol.proofs.Own.{head-own}
 use Rattle.symbol.proofs.Records.{records-here, records-end}
-use Rattle.symbol.proofs.Sizes.{head-fits}
-use Rattle.symbol.specs.Front.{brokenHead, plainHead, nameHead, classHead, operatorsHead, paramsRead, functionWith, functionHead, fieldWith, fieldHead, visibilityHead, suspendHead, variantHead, headBy, headOf}
+use Rattle.symbol.proofs.Sizes.{head-fits, head-known}
+use Rattle.symbol.specs.Front.{headOf}
 use Rattle.symbol.specs.Lookup.{namesIn}
 use Rattle.symbol.specs.Refused.{lastKind, tableFault}
 use Rattle.symbol.specs.Sections.{countBelow, bytesBelow, sectionOf}
@@ -68,81 +63,6 @@ count-run k earlier (r ∷ rs) c = go (ltb (headOf r .kind) k) refl (eqb (headOf
 pub class-run : (t : List ℕ) → tableFault t ≡ 0 → sectionOf 2 (recordsOf t) .index + countOf 2 (recordsOf t) ≡ sectionOf 3 (recordsOf t) .index
 class-run t e = count-run 2 [] (recordsOf t) (accepted-clean t e)
 
--- ---- a record that is not malformed has a kind
-record Kinded (h : Head) : Type 0 where
-  is : h .malformed ≡ false → 1 ≤ h .kind
-
-module _ (s : List ℕ) where
-  known : (h : Head) → 1 ≤ h .kind → Kinded h
-  known h k = record { is = λ _. k }
-
-  broken : Kinded (brokenHead s)
-  broken = record { is = λ e. absurd (true≢false e) }
-
-  plain : (n : ℕ) (bad : Bool) (kind one two top : ℕ) → 1 ≤ kind → Kinded (plainHead s n bad kind one two top)
-  unfolding plainHead
-  plain n bad kind one two top h = by-choice Kinded (ltb (length s) n) (λ _. broken) λ _. by-choice Kinded bad (λ _. broken) (λ _. known _ h)
-
-  function : Kinded (functionHead s)
-  unfolding functionHead functionWith
-  function =
-      by-choice Kinded (ltb (length s) 8) (λ _. broken) λ _.
-      by-choice Kinded (ltb 3 (getD s 5 0)) (λ _. broken) λ _.
-      by-choice Kinded (ltb 1 (getD s 6 0)) (λ _. broken) λ _.
-      by-choice Kinded (ltb 16 (getD s 7 0)) (λ _. broken) λ _.
-      by-choice Kinded (eqb (paramsRead s .state) 0) (λ _. known _ (omega arith)) λ _.
-      by-choice Kinded (eqb (paramsRead s .state) 2) (λ _. known _ (omega arith)) (λ _. broken)
-
-  field-with : (one two : ℕ) (r : TypeRead) → Kinded (fieldWith s one two r)
-  field-with one two (Whole n top e) = known _ (omega arith)
-  field-with one two Cut = broken
-  field-with one two Malformed = broken
-  field-with one two (Endless top e) = known _ (omega arith)
-
-  field : Kinded (fieldHead s)
-  unfolding fieldHead
-  field = by-choice Kinded (ltb (length s) 5) (λ _. broken) λ _. field-with (idAt s 1) (idAt s 3) (readType (drop 5 s) longestType)
-
-  name : Kinded (nameHead s)
-  unfolding nameHead
-  name = plain 26 _ 1 0 0 0 (omega arith)
-
-  class : Kinded (classHead s)
-  unfolding classHead
-  class = plain 8 _ 2 _ _ _ (omega arith)
-
-  operators : Kinded (operatorsHead s)
-  unfolding operatorsHead
-  operators = plain 5 _ 3 _ _ _ (omega arith)
-
-  visibility : Kinded (visibilityHead s)
-  unfolding visibilityHead
-  visibility = plain 6 _ 6 _ _ _ (omega arith)
-
-  suspend : Kinded (suspendHead s)
-  unfolding suspendHead
-  suspend = plain 5 _ 7 _ _ _ (omega arith)
-
-  variant : Kinded (variantHead s)
-  unfolding variantHead
-  variant = plain 5 _ 8 _ _ _ (omega arith)
-
-  kind-known : (kind : ℕ) → Kinded (headBy kind s)
-  unfolding headBy
-  kind-known kind =
-      by-choice Kinded (eqb kind 1) (λ _. name) λ _.
-      by-choice Kinded (eqb kind 2) (λ _. class) λ _.
-      by-choice Kinded (eqb kind 3) (λ _. operators) λ _.
-      by-choice Kinded (eqb kind 4) (λ _. function) λ _.
-      by-choice Kinded (eqb kind 5) (λ _. field) λ _.
-      by-choice Kinded (eqb kind 6) (λ _. visibility) λ _.
-      by-choice Kinded (eqb kind 7) (λ _. suspend) λ _.
-      by-choice Kinded (eqb kind 8) (λ _. variant) (λ _. broken)
-
-  pub head-kinded : headOf s .malformed ≡ false → 1 ≤ headOf s .kind
-  unfolding headOf
-  head-kinded e = kind-known (getD s 0 0) .is e
-
 -- ---- names
 no-names : (earlier rs : List Record) → CleanFrom earlier rs → 1 < lastKind earlier → namesIn rs ≡ []
 unfolding namesIn choose
@@ -155,7 +75,7 @@ no-names earlier (r ∷ rs) c l =
 name-first : (earlier : List Record) (r : Record) (rs : List Record) → CleanFrom earlier (r ∷ rs) → headOf r .kind < 2 → namesIn (r ∷ rs) ≡ r ∷ namesIn rs
 unfolding namesIn choose
 name-first earlier r rs c l =
-    let k = head-kinded r (c .0 .whole) in
+    let k = head-known r (c .0 .whole) in
     let e : headOf r .kind ≡ 1 = omega arith in
     rw (eq-eqb (headOf r .kind) 1 e)
 
@@ -213,7 +133,7 @@ name-front (b ∷ bs) earlier c h = go (ltb (headOf r .kind) 2) refl
         let z : countBelow 2 (recordsOf (b ∷ bs)) ≡ 0 = ap (countBelow 2) here ∙ rw q in
         absurd (omega arith)
     go true q =
-        let k = head-kinded (frontRecord (b ∷ bs)) (clean .0 .whole) in
+        let k = head-known (frontRecord (b ∷ bs)) (clean .0 .whole) in
         let l = ltb-true (headOf (frontRecord (b ∷ bs)) .kind) 2 q in
         let o : headOf (frontRecord (b ∷ bs)) .kind ≡ headOf (b ∷ bs) .kind = ap (λ (x : Head). x .kind) (head-own (b ∷ bs) some) in
         let n : headOf (b ∷ bs) .len ≡ 26 = head-fits (b ∷ bs) .name (omega arith) in

@@ -1,10 +1,10 @@
 -- How long a record is, by its kind. Assumes nothing.
 use Prim.Native.Nat.{ℕ, _+_, _-_, _≤_, _<_}
-use borrow.Author.Tests.{ltb-false}
+use borrow.Author.Tests.{eqb-true, ltb-false}
 use lib.Dec.{eqb, ltb}
 use lib.ListN.{length, getD, take, drop, length-drop}
 use lib.Seq.{take-take}
-use mathlib.Core.Bool.{Bool}
+use mathlib.Core.Bool.{Bool, true, false, true≢false}
 use mathlib.Core.List.{List}
 use mathlib.Core.Path.{_≡_, refl, sym, ap, _∙_}
 use native.Mathlib.Omega.{arith}
@@ -33,135 +33,133 @@ pub record Fits (k n : ℕ) : Type 0 where
   pub field : k ≡ 5 → 5 ≤ n
   pub visibility : k ≡ 6 → n ≡ 6
 
-abbrev Fit : Head → Type 0
-Fit h = Fits (h .kind) (h .len)
+-- what a record's first byte says of what is read: a malformed record has no kind, any other that one, and a length that goes with it
+record Shape (kind : ℕ) (h : Head) : Type 0 where
+  fits : Fits (h .kind) (h .len)
+  same : 1 ≤ h .kind → kind ≡ h .kind
+  known : h .malformed ≡ false → 1 ≤ h .kind
+
+-- a length that goes with no kind in particular
+fits-any : (k n : ℕ) → (1 ≤ k → 6 < k) → Fits k n
+fits-any k n h =
+    record {
+      name = λ e. let l = h (omega arith) in omega arith;
+      class = λ e. let l = h (omega arith) in omega arith;
+      operators = λ e. let l = h (omega arith) in omega arith;
+      function = λ e. let l = h (omega arith) in omega arith;
+      field = λ e. let l = h (omega arith) in omega arith;
+      visibility = λ e. let l = h (omega arith) in omega arith
+    }
+
+fits-1 : Fits 1 26
+fits-1 = record { name = λ _. refl; class = λ e. omega arith; operators = λ e. omega arith; function = λ e. omega arith; field = λ e. omega arith; visibility = λ e. omega arith }
+
+fits-2 : Fits 2 8
+fits-2 = record { name = λ e. omega arith; class = λ _. refl; operators = λ e. omega arith; function = λ e. omega arith; field = λ e. omega arith; visibility = λ e. omega arith }
+
+fits-3 : Fits 3 5
+fits-3 = record { name = λ e. omega arith; class = λ e. omega arith; operators = λ _. refl; function = λ e. omega arith; field = λ e. omega arith; visibility = λ e. omega arith }
+
+fits-4 : (n : ℕ) → 8 ≤ n → Fits 4 n
+fits-4 n h = record { name = λ e. omega arith; class = λ e. omega arith; operators = λ e. omega arith; function = λ _. h; field = λ e. omega arith; visibility = λ e. omega arith }
+
+fits-5 : (n : ℕ) → 5 ≤ n → Fits 5 n
+fits-5 n h = record { name = λ e. omega arith; class = λ e. omega arith; operators = λ e. omega arith; function = λ e. omega arith; field = λ _. h; visibility = λ e. omega arith }
+
+fits-6 : Fits 6 6
+fits-6 = record { name = λ e. omega arith; class = λ e. omega arith; operators = λ e. omega arith; function = λ e. omega arith; field = λ e. omega arith; visibility = λ _. refl }
+
+module _ (kind : ℕ) (s : List ℕ) where
+  broken : Shape kind (brokenHead s)
+  broken = record { fits = fits-any 0 (length s) (λ l. absurd (omega arith)); same = λ l. absurd (omega arith); known = λ e. absurd (true≢false e) }
+
+  -- a head that has that kind
+  whole : (h : Head) → Fits (h .kind) (h .len) → eqb kind (h .kind) ≡ true → 1 ≤ h .kind → Shape kind h
+  whole h f e l = record { fits = f; same = λ _. eqb-true kind (h .kind) e; known = λ _. l }
+
+  plain : (n : ℕ) (bad : Bool) (k one two top : ℕ) → Fits k n → eqb kind k ≡ true → 1 ≤ k → Shape kind (plainHead s n bad k one two top)
+  unfolding plainHead
+  plain n bad k one two top f e l =
+      by-choice (Shape kind) (ltb (length s) n) (λ _. broken) λ _.
+      by-choice (Shape kind) bad (λ _. broken) (λ _. whole _ f e l)
+
+  function : eqb kind 4 ≡ true → Shape kind (functionHead s)
+  unfolding functionHead functionWith
+  function k =
+      by-choice (Shape kind) (ltb (length s) 8) (λ _. broken) λ e.
+      by-choice (Shape kind) (ltb 3 (getD s 5 0)) (λ _. broken) λ _.
+      by-choice (Shape kind) (ltb 1 (getD s 6 0)) (λ _. broken) λ _.
+      by-choice (Shape kind) (ltb 16 (getD s 7 0)) (λ _. broken) λ _.
+      let l = ltb-false (length s) 8 e in
+      by-choice (Shape kind) (eqb (paramsRead s .state) 0) (λ _. whole _ (fits-4 (paramsRead s .len) (read-inside s l .0)) k (omega arith)) λ _.
+      by-choice (Shape kind) (eqb (paramsRead s .state) 2) (λ _. whole _ (fits-4 (length s) l) k (omega arith)) (λ _. broken)
+
+  field-with : eqb kind 5 ≡ true → 5 ≤ length s → (one two : ℕ) (r : TypeRead) → Shape kind (fieldWith s one two r)
+  field-with k l one two (Whole n top e) = whole _ (fits-5 (5 + n) (omega arith)) k (omega arith)
+  field-with k l one two Cut = broken
+  field-with k l one two Malformed = broken
+  field-with k l one two (Endless top e) = whole _ (fits-5 (length s) l) k (omega arith)
+
+  field : eqb kind 5 ≡ true → Shape kind (fieldHead s)
+  unfolding fieldHead
+  field k =
+      by-choice (Shape kind) (ltb (length s) 5) (λ _. broken) λ e.
+      field-with k (ltb-false (length s) 5 e) (idAt s 1) (idAt s 3) (readType (drop 5 s) longestType)
+
+  name : eqb kind 1 ≡ true → Shape kind (nameHead s)
+  unfolding nameHead
+  name k = plain 26 _ 1 0 0 0 fits-1 k (omega arith)
+
+  class : eqb kind 2 ≡ true → Shape kind (classHead s)
+  unfolding classHead
+  class k = plain 8 _ 2 _ _ _ fits-2 k (omega arith)
+
+  operators : eqb kind 3 ≡ true → Shape kind (operatorsHead s)
+  unfolding operatorsHead
+  operators k = plain 5 _ 3 _ _ _ fits-3 k (omega arith)
+
+  visibility : eqb kind 6 ≡ true → Shape kind (visibilityHead s)
+  unfolding visibilityHead
+  visibility k = plain 6 _ 6 _ _ _ fits-6 k (omega arith)
+
+  suspend : eqb kind 7 ≡ true → Shape kind (suspendHead s)
+  unfolding suspendHead
+  suspend k = plain 5 _ 7 _ _ _ (fits-any 7 5 (λ _. omega arith)) k (omega arith)
+
+  variant : eqb kind 8 ≡ true → Shape kind (variantHead s)
+  unfolding variantHead
+  variant k = plain 5 _ 8 _ _ _ (fits-any 8 5 (λ _. omega arith)) k (omega arith)
+
+  shape : Shape kind (headBy kind s)
+  unfolding headBy
+  shape =
+      by-choice (Shape kind) (eqb kind 1) name λ _.
+      by-choice (Shape kind) (eqb kind 2) class λ _.
+      by-choice (Shape kind) (eqb kind 3) operators λ _.
+      by-choice (Shape kind) (eqb kind 4) function λ _.
+      by-choice (Shape kind) (eqb kind 5) field λ _.
+      by-choice (Shape kind) (eqb kind 6) visibility λ _.
+      by-choice (Shape kind) (eqb kind 7) suspend λ _.
+      by-choice (Shape kind) (eqb kind 8) variant (λ _. broken)
 
 module _ (s : List ℕ) where
-  broken : Fit (brokenHead s)
-  broken =
-      record {
-        name = λ e. omega arith;
-        class = λ e. omega arith;
-        operators = λ e. omega arith;
-        function = λ e. omega arith;
-        field = λ e. omega arith;
-        visibility = λ e. omega arith;
-      }
-
-  plain : (n : ℕ) (bad : Bool) (kind one two top : ℕ) → Fits kind n → Fit (plainHead s n bad kind one two top)
-  unfolding plainHead
-  plain n bad kind one two top f = by-choice Fit (ltb (length s) n) (λ _. broken) λ _. by-choice Fit bad (λ _. broken) (λ _. f)
-
-  -- a function or a field that is long enough
-  functional : (n : ℕ) → 8 ≤ n → Fits 4 n
-  functional n h =
-      record {
-        name = λ e. omega arith;
-        class = λ e. omega arith;
-        operators = λ e. omega arith;
-        function = λ e. h;
-        field = λ e. omega arith;
-        visibility = λ e. omega arith;
-      }
-
-  fieldlike : (n : ℕ) → 5 ≤ n → Fits 5 n
-  fieldlike n h =
-      record {
-        name = λ e. omega arith;
-        class = λ e. omega arith;
-        operators = λ e. omega arith;
-        function = λ e. omega arith;
-        field = λ e. h;
-        visibility = λ e. omega arith;
-      }
-
-  function-with : 8 ≤ length s → (c : Reading) → 8 ≤ c .len → Fit (functionWith s c)
-  unfolding functionWith
-  function-with l c h =
-      by-choice Fit (eqb (c .state) 0) (λ _. functional (c .len) h) λ _.
-      by-choice Fit (eqb (c .state) 2) (λ _. functional (length s) l) (λ _. broken)
-
-  function : Fit (functionHead s)
-  unfolding functionHead
-  function =
-      by-choice Fit (ltb (length s) 8) (λ _. broken) λ e.
-      by-choice Fit (ltb 3 (getD s 5 0)) (λ _. broken) λ _.
-      by-choice Fit (ltb 1 (getD s 6 0)) (λ _. broken) λ _.
-      by-choice Fit (ltb 16 (getD s 7 0)) (λ _. broken) λ _.
-      let l = ltb-false (length s) 8 e in
-      function-with l (paramsRead s) (read-inside s l .0)
-
-  field-with : 5 ≤ length s → (one two : ℕ) (r : TypeRead) → Fit (fieldWith s one two r)
-  field-with l one two (Whole n top e) = fieldlike (5 + n) (omega arith)
-  field-with l one two Cut = broken
-  field-with l one two Malformed = broken
-  field-with l one two (Endless top e) = fieldlike (length s) l
-
-  field : Fit (fieldHead s)
-  unfolding fieldHead
-  field =
-      by-choice Fit (ltb (length s) 5) (λ _. broken) λ e.
-      field-with (ltb-false (length s) 5 e) (idAt s 1) (idAt s 3) (readType (drop 5 s) longestType)
-
-  name : Fit (nameHead s)
-  unfolding nameHead
-  name =
-      plain 26 _ 1 0 0 0
-      (record { name = λ _. refl; class = λ e. omega arith; operators = λ e. omega arith; function = λ e. omega arith; field = λ e. omega arith; visibility = λ e. omega arith })
-
-  class : Fit (classHead s)
-  unfolding classHead
-  class =
-      plain 8 _ 2 _ _ _
-      (record { name = λ e. omega arith; class = λ _. refl; operators = λ e. omega arith; function = λ e. omega arith; field = λ e. omega arith; visibility = λ e. omega arith })
-
-  operators : Fit (operatorsHead s)
-  unfolding operatorsHead
-  operators =
-      plain 5 _ 3 _ _ _
-      (record { name = λ e. omega arith; class = λ e. omega arith; operators = λ _. refl; function = λ e. omega arith; field = λ e. omega arith; visibility = λ e. omega arith })
-
-  visibility : Fit (visibilityHead s)
-  unfolding visibilityHead
-  visibility =
-      plain 6 _ 6 _ _ _
-      (record { name = λ e. omega arith; class = λ e. omega arith; operators = λ e. omega arith; function = λ e. omega arith; field = λ e. omega arith; visibility = λ _. refl })
-
-  -- a kind above 6
-  later : (k n : ℕ) → 6 < k → Fits k n
-  later k n h =
-      record {
-        name = λ e. omega arith;
-        class = λ e. omega arith;
-        operators = λ e. omega arith;
-        function = λ e. omega arith;
-        field = λ e. omega arith;
-        visibility = λ e. omega arith;
-      }
-
-  suspend : Fit (suspendHead s)
-  unfolding suspendHead
-  suspend = plain 5 _ 7 _ _ _ (later 7 5 (omega arith))
-
-  variant : Fit (variantHead s)
-  unfolding variantHead
-  variant = plain 5 _ 8 _ _ _ (later 8 5 (omega arith))
-
-  kind-fits : (kind : ℕ) → Fit (headBy kind s)
-  unfolding headBy
-  kind-fits kind =
-      by-choice Fit (eqb kind 1) (λ _. name) λ _.
-      by-choice Fit (eqb kind 2) (λ _. class) λ _.
-      by-choice Fit (eqb kind 3) (λ _. operators) λ _.
-      by-choice Fit (eqb kind 4) (λ _. function) λ _.
-      by-choice Fit (eqb kind 5) (λ _. field) λ _.
-      by-choice Fit (eqb kind 6) (λ _. visibility) λ _.
-      by-choice Fit (eqb kind 7) (λ _. suspend) λ _.
-      by-choice Fit (eqb kind 8) (λ _. variant) (λ _. broken)
+  head-shape : Shape (getD s 0 0) (headOf s)
+  unfolding headOf
+  head-shape = shape (getD s 0 0) s
 
   pub head-fits : Fits (headOf s .kind) (headOf s .len)
+  head-fits = head-shape .fits
+
+  -- a record that is not malformed has a kind
+  pub head-known : headOf s .malformed ≡ false → 1 ≤ headOf s .kind
+  head-known e = head-shape .known e
+
+  -- and it was read as a record of its kind
+  pub head-by : (k : ℕ) → 1 ≤ k → headOf s .kind ≡ k → headOf s ≡ headBy k s
   unfolding headOf
-  head-fits = kind-fits (getD s 0 0)
+  head-by k l e =
+      let q : getD s 0 0 ≡ k = shape (getD s 0 0) s .same (omega arith) ∙ e in
+      ap (λ (x : ℕ). headBy x s) q
 
 -- of a record that stands at a cursor
 module _ (t : List ℕ) (c : Cursor) (h : Head) (st : Stands t c h) where

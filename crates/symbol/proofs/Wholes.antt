@@ -2,7 +2,7 @@
 use Prim.Native.Nat.{ℕ, zero, suc, _+_, _-_, _≤_, _<_, max}
 use borrow.Author.Tests.{eq-eqb, eqb-true, ltb-false}
 use lib.Dec.{eqb, ltb}
-use lib.ListN.{length, getD, drop, length-drop}
+use lib.ListN.{length, getD, drop, set, length-drop}
 use lib.Seq.{drop-drop}
 use mathlib.Core.Bool.{Bool, true, false, not, true≢false, false≢true, _||_}
 use mathlib.Core.List.{List}
@@ -17,8 +17,9 @@ use Rattle.ty.specs.declared.read.TypeRead.the-variants.{Whole, Cut, Malformed,
 use Rattle.ty.specs.declared.read.TypeRead.{TypeRead}
 use Rattle.symbol.proofs.Cleans.{or-false}
 use Rattle.symbol.proofs.Own.{whole-before}
+use Rattle.symbol.proofs.Sizes.{head-by}
 use Rattle.symbol.proofs.Turns.{param-onward, first-inside, run-inside}
-use Rattle.symbol.specs.Front.{brokenHead, plainHead, orNone, nameHead, classHead, operatorsHead, paramWith, paramStep, runParams, resultWith, firstReading, paramsRead, functionRead, functionWith, functionHead, fieldWith, fieldHead, visibilityHead, suspendHead, variantHead, headBy, headOf}
+use Rattle.symbol.specs.Front.{brokenHead, plainHead, orNone, nameHead, classHead, operatorsHead, among, paramWith, paramStep, runParams, resultWith, firstReading, paramsRead, functionRead, functionWith, functionHead, fieldWith, fieldHead, visibilityHead, suspendHead, variantHead, headBy, headOf}
 use Rattle.symbol.specs.Lookup.{wholeLength, typeLength}
 use Rattle.symbol.specs.Row.{TypeAt, RowAt}
 use Rattle.symbol.specs.declared.front.Head.{Head}
@@ -28,70 +29,14 @@ or-true : (v : Bool) → v || true ≡ true
 or-true true = refl
 or-true false = refl
 
--- ---- a record of kind 4 is a function
-record Only (s : List ℕ) (h : Head) : Type 0 where
-  is : h .kind ≡ 4 → h ≡ functionHead s
+-- ---- a record of kind 4 is a function, one of kind 5 a field
+head-function : (s : List ℕ) → headOf s .kind ≡ 4 → headOf s ≡ functionHead s
+unfolding headBy choose
+head-function s k = head-by s 4 (omega arith) k
 
-module _ (s : List ℕ) where
-  other : (h : Head) → (h .kind ≡ 4 → ⊥) → Only s h
-  other h n = record { is = λ e. absurd (n e) }
-
-  broken : Only s (brokenHead s)
-  broken = other (brokenHead s) (λ e. omega arith)
-
-  plain : (n : ℕ) (bad : Bool) (kind one two top : ℕ) → (kind ≡ 4 → ⊥) → Only s (plainHead s n bad kind one two top)
-  unfolding plainHead
-  plain n bad kind one two top h = by-choice (Only s) (ltb (length s) n) (λ _. broken) λ _. by-choice (Only s) bad (λ _. broken) (λ _. other _ h)
-
-  field-with : (one two : ℕ) (r : TypeRead) → Only s (fieldWith s one two r)
-  field-with one two (Whole n top e) = other _ (λ k. omega arith)
-  field-with one two Cut = broken
-  field-with one two Malformed = broken
-  field-with one two (Endless top e) = other _ (λ k. omega arith)
-
-  field : Only s (fieldHead s)
-  unfolding fieldHead
-  field = by-choice (Only s) (ltb (length s) 5) (λ _. broken) λ _. field-with (idAt s 1) (idAt s 3) (readType (drop 5 s) longestType)
-
-  name : Only s (nameHead s)
-  unfolding nameHead
-  name = plain 26 _ 1 0 0 0 (λ e. omega arith)
-
-  class : Only s (classHead s)
-  unfolding classHead
-  class = plain 8 _ 2 _ _ _ (λ e. omega arith)
-
-  operators : Only s (operatorsHead s)
-  unfolding operatorsHead
-  operators = plain 5 _ 3 _ _ _ (λ e. omega arith)
-
-  visibility : Only s (visibilityHead s)
-  unfolding visibilityHead
-  visibility = plain 6 _ 6 _ _ _ (λ e. omega arith)
-
-  suspend : Only s (suspendHead s)
-  unfolding suspendHead
-  suspend = plain 5 _ 7 _ _ _ (λ e. omega arith)
-
-  variant : Only s (variantHead s)
-  unfolding variantHead
-  variant = plain 5 _ 8 _ _ _ (λ e. omega arith)
-
-  kind-function : (kind : ℕ) → Only s (headBy kind s)
-  unfolding headBy
-  kind-function kind =
-      by-choice (Only s) (eqb kind 1) (λ _. name) λ _.
-      by-choice (Only s) (eqb kind 2) (λ _. class) λ _.
-      by-choice (Only s) (eqb kind 3) (λ _. operators) λ _.
-      by-choice (Only s) (eqb kind 4) (λ _. record { is = λ _. refl }) λ _.
-      by-choice (Only s) (eqb kind 5) (λ _. field) λ _.
-      by-choice (Only s) (eqb kind 6) (λ _. visibility) λ _.
-      by-choice (Only s) (eqb kind 7) (λ _. suspend) λ _.
-      by-choice (Only s) (eqb kind 8) (λ _. variant) (λ _. broken)
-
-  head-function : headOf s .kind ≡ 4 → headOf s ≡ functionHead s
-  unfolding headOf
-  head-function k = kind-function (getD s 0 0) .is k
+head-field : (s : List ℕ) → headOf s .kind ≡ 5 → headOf s ≡ fieldHead s
+unfolding headBy choose
+head-field s k = head-by s 5 (omega arith) k
 
 -- ---- its first bytes
 pub record Fields (s : List ℕ) (h : Head) : Type 0 where
@@ -193,46 +138,58 @@ first-whole s h = go (readType (drop 8 s) longestType) refl (max (orNone (idAt s
     go Malformed q high v e = absurd (omega arith)
     go (Endless top b) q high v e = absurd (omega arith)
 
--- one parameter
-param-whole : (s : List ℕ) (c : Reading) → c .len ≤ length s → c .state ≡ 0 → paramStep s c .state ≡ 0 → paramStep s c .error ≡ false
-    → TypeAt (drop (c .len) s) 3 × (paramStep s c .len ≡ c .len + (3 + typeLength (drop 3 (drop (c .len) s))))
+-- one parameter: from c to r
+pub record ParamTo (s : List ℕ) (c r : Reading) : Type 0 where
+  pub ty : TypeAt (drop (c .len) s) 3
+  pub len : r .len ≡ c .len + (3 + typeLength (drop 3 (drop (c .len) s)))
+  pub count : r .count ≡ c .count + 1
+  pub names : r .names ≡ set (c .names) (c .count) (idAt s (c .len))
+  pub repeated : r .repeated ≡ (c .repeated || among (c .count) (c .names) (idAt s (c .len)))
+
+-- where the reading is whole
+record Onto (s : List ℕ) (c r : Reading) : Type 0 where
+  is : r .state ≡ 0 → r .error ≡ false → ParamTo s c r
+
+param-whole : (s : List ℕ) (c : Reading) → c .len ≤ length s → c .state ≡ 0 → Onto s c (paramStep s c)
 unfolding paramStep
 param-whole s c h z =
-    by-choice (λ (r : Reading). r .state ≡ 0 → r .error ≡ false → Q r) (not (eqb (c .state) 0))
-    (λ e v _. absurd (true≢false (sym e ∙ ap not (eq-eqb (c .state) 0 v)))) λ _.
-    by-choice (λ (r : Reading). r .state ≡ 0 → r .error ≡ false → Q r) (ltb (length s - c .len) 3) (λ _ v _. absurd (omega arith)) λ a.
-    by-choice (λ (r : Reading). r .state ≡ 0 → r .error ≡ false → Q r) (ltb 3 (getD s (c .len + 2) 0)) (λ _ v _. absurd (omega arith)) λ _.
+    by-choice (Onto s c) (not (eqb (c .state) 0)) (λ e. record { is = λ v _. absurd (true≢false (sym e ∙ ap not (eq-eqb (c .state) 0 v))) }) λ _.
+    by-choice (Onto s c) (ltb (length s - c .len) 3) (λ _. record { is = λ v _. absurd (omega arith) }) λ a.
+    by-choice (Onto s c) (ltb 3 (getD s (c .len + 2) 0)) (λ _. record { is = λ v _. absurd (omega arith) }) λ _.
     go (ltb-false (length s - c .len) 3 a) (readType (drop (c .len + 3) s) longestType) refl
   where
-    Q : Reading → Type 0
-    Q r = TypeAt (drop (c .len) s) 3 × (r .len ≡ c .len + (3 + typeLength (drop 3 (drop (c .len) s))))
-
-    go : 3 ≤ length s - c .len → (r : TypeRead) → readType (drop (c .len + 3) s) longestType ≡ r → paramWith c (idAt s (c .len)) r .state ≡ 0
-        → paramWith c (idAt s (c .len)) r .error ≡ false → Q (paramWith c (idAt s (c .len)) r)
-    go l (Whole n top true) q v e = absurd (true≢false (sym (or-true (c .error)) ∙ e))
-    go l (Whole n top false) q v e =
+    go : 3 ≤ length s - c .len → (r : TypeRead) → readType (drop (c .len + 3) s) longestType ≡ r → Onto s c (paramWith c (idAt s (c .len)) r)
+    go l (Whole n top true) q = record { is = λ v e. absurd (true≢false (sym (or-true (c .error)) ∙ e)) }
+    go l (Whole n top false) q =
         let d : drop 3 (drop (c .len) s) ≡ drop (c .len + 3) s = drop-drop 3 (c .len) s in
         let w = type-at (drop (c .len) s) 3 (omega (arith, length-drop (c .len) s)) n top (ap (λ (x : List ℕ). readType x longestType) d ∙ q) in
-        (w .0, omega (arith, w .1))
-    go l Cut q v e = absurd (omega arith)
-    go l Malformed q v e = absurd (omega arith)
-    go l (Endless top b) q v e = absurd (omega arith)
+        record { is = λ v e. record { ty = w .0; len = omega (arith, w .1); count = refl; names = refl; repeated = refl } }
+    go l Cut q = record { is = λ v e. absurd (omega arith) }
+    go l Malformed q = record { is = λ v e. absurd (omega arith) }
+    go l (Endless top b) q = record { is = λ v e. absurd (omega arith) }
 
 -- ---- all of them
+-- one parameter of a whole reading of n more
+pub step-to : (n : ℕ) (s : List ℕ) (c : Reading) → c .len ≤ length s → runParams (suc n) s c .state ≡ 0 → runParams (suc n) s c .error ≡ false
+    → ParamTo s c (paramStep s c)
+unfolding runParams
+step-to n s c h v e =
+    let v₁ = whole-before n s (paramStep s c) v in
+    let e₁ = error-before n s (paramStep s c) e in
+    param-whole s c h (whole-before 1 s c v₁) .is v₁ e₁
+
+-- the bytes behind it
+pub step-behind : (s : List ℕ) (c : Reading) → ParamTo s c (paramStep s c)
+    → drop (paramStep s c .len) s ≡ drop (3 + typeLength (drop 3 (drop (c .len) s))) (drop (c .len) s)
+step-behind s c w = ap (λ (k : ℕ). drop k s) (w .len) ∙ sym (drop-drop (3 + typeLength (drop 3 (drop (c .len) s))) (c .len) s)
+
 row-whole : (n : ℕ) (s : List ℕ) (c : Reading) → c .len ≤ length s → runParams n s c .state ≡ 0 → runParams n s c .error ≡ false
     → RowAt n (drop (c .len) s)
 unfolding runParams
 row-whole zero s c h v e = tt
 row-whole (suc n) s c h v e =
-    let v₁ = whole-before n s (paramStep s c) v in
-    let e₁ = error-before n s (paramStep s c) e in
-    let w = param-whole s c h (whole-before 1 s c v₁) v₁ e₁ in
-    let r = row-whole n s (paramStep s c) (param-onward s c h .high) v e in (
-      w .0,
-      subst (λ (x : List ℕ). RowAt n x)
-          (ap (λ (k : ℕ). drop k s) (w .1) ∙ sym (drop-drop (3 + typeLength (drop 3 (drop (c .len) s))) (c .len) s))
-          r,
-    )
+    let w = step-to n s c h v e in
+    (w .ty, subst (λ (x : List ℕ). RowAt n x) (step-behind s c w) (row-whole n s (paramStep s c) (param-onward s c h .high) v e))
 
 -- A FUNCTION RECORD of an accepted table
 pub record FunctionWhole (s : List ℕ) : Type 0 where
@@ -285,3 +242,30 @@ function-whole s k e =
 
         read-error : (s : List ℕ) → paramsRead s .error ≡ false → runParams (getD s 7 0) s (firstReading s) .error ≡ false
         read-error s e = e
+
+-- A FIELD RECORD of an accepted table
+pub record FieldWhole (s : List ℕ) : Type 0 where
+  pub ty : TypeAt s 5
+  pub len : headOf s .len ≡ 5 + typeLength (drop 5 s)
+
+record FieldOf (s : List ℕ) (h : Head) : Type 0 where
+  is : h .kind ≡ 5 → h .error ≡ false → TypeAt s 5 × (h .len ≡ 5 + typeLength (drop 5 s))
+
+field-is : (s : List ℕ) → FieldOf s (fieldHead s)
+unfolding fieldHead
+field-is s =
+    by-choice (FieldOf s) (ltb (length s) 5) (λ _. record { is = λ k e. absurd (omega arith) }) λ a.
+    go (ltb-false (length s) 5 a) (readType (drop 5 s) longestType) refl
+  where
+    go : 5 ≤ length s → (r : TypeRead) → readType (drop 5 s) longestType ≡ r → FieldOf s (fieldWith s (idAt s 1) (idAt s 3) r)
+    go l (Whole n top true) q = record { is = λ k e. absurd (true≢false e) }
+    go l (Whole n top false) q = let w = type-at s 5 l n top q in record { is = λ k e. (w .0, omega (arith, w .1)) }
+    go l Cut q = record { is = λ k e. absurd (omega arith) }
+    go l Malformed q = record { is = λ k e. absurd (omega arith) }
+    go l (Endless top b) q = record { is = λ k e. absurd (true≢false e) }
+
+pub field-whole : (s : List ℕ) → headOf s .kind ≡ 5 → headOf s .error ≡ false → FieldWhole s
+field-whole s k e =
+    let h = head-field s k in
+    let w = field-is s .is (ap (λ (x : Head). x .kind) (sym h) ∙ k) (ap (λ (x : Head). x .error) (sym h) ∙ e) in
+    record { ty = w .0; len = ap (λ (x : Head). x .len) h ∙ w .1 }

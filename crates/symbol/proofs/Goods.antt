@@ -1,0 +1,242 @@
+-- THE LAWS of an accepted table, over `symbolsOf`: its functions, fields and ids. Assumes nothing.
+use Prim.Native.Nat.{ℕ, zero, suc, _+_, _-_, _≤_, _<_}
+use borrow.Author.Tests.{eqb-true, ltb-true, lt-ltb}
+use lib.Dec.{eqb, ltb}
+use lib.ListN.{length, getD, take, drop, length-drop, length-take, length-map}
+use lib.Seq.{length-take-le, take-all}
+use mathlib.Core.Bool.{Bool, true, false, true≢false}
+use mathlib.Core.List.{List, [], _∷_, _++_, map}
+use mathlib.Core.Option.{Option, none, some}
+use mathlib.Core.Path.{_≡_, refl, sym, ap, _∙_, subst}
+use native.Mathlib.Nat.{not-suc-le-zero}
+use native.Mathlib.Omega.{arith}
+use Rattle.ty.proofs.Choice.{and-left, by-choice}
+use Rattle.ty.proofs.Moved.{reads-alike, reads-taken}
+use Rattle.ty.proofs.Sized.{whole}
+use Rattle.ty.specs.Bytes.{Ty, plainTy, kindOf, idAt}
+use Rattle.ty.specs.Choose.{choose}
+use Rattle.ty.specs.Kind.{errorKind}
+use Rattle.ty.specs.Name.{idDefined, firstTableId, noId}
+use Rattle.ty.specs.Read.{bodyLength, children, idIn, itemOf, itemAt, stopped, readFrom, readType, longestType}
+use Rattle.ty.specs.declared.read.TypeRead.the-variants.{Whole, Cut, Malformed, Endless}
+use Rattle.ty.specs.declared.read.TypeRead.{TypeRead}
+use Rattle.symbol.proofs.Accepts.{CleanFrom, accepted-clean, accepted-short}
+use Rattle.symbol.proofs.Bounds.{head-bounded}
+use Rattle.symbol.proofs.Cleans.{Clean}
+use Rattle.symbol.proofs.Names.{Distinct, names-distinct}
+use Rattle.symbol.proofs.Own.{head-own}
+use Rattle.symbol.proofs.Records.{records-here, records-end}
+use Rattle.symbol.proofs.Wholes.{FunctionWhole, function-whole, FieldWhole, field-whole}
+use Rattle.symbol.specs.Front.{headOf}
+use Rattle.symbol.specs.Lookup.{isOf, recordsWith, typeLength, paramOf, paramsFrom, overloadOf, fieldIn, symbolsIn, symbolsOf}
+use Rattle.symbol.specs.Refused.{tableFault}
+use Rattle.symbol.specs.Row.{TypeAt, RowAt}
+use Rattle.symbol.specs.Symbols.{Param, Overload}
+use Rattle.symbol.specs.Table.{Record, frontRecord, recordsOf, countOf, nameCount}
+use Rattle.symbol.specs.declared.front.Head.{Head}
+
+module _ {A : Type 0} where
+  abbrev pub Every : (A → Type 0) → List A → Type 0
+  Every P [] = Unit
+  Every P (x ∷ xs) = P x × Every P xs
+
+-- ---- types
+
+-- a type of an accepted table: whole, of at most 192 bytes, and without Error
+pub record TypeGood (ty : Ty) : Type 0 where
+  pub top : ℕ
+  pub whole : readType ty longestType ≡ Whole (length ty) top false
+  pub some : 1 ≤ length ty
+  pub short : length ty ≤ longestType
+  pub kind : kindOf ty ≡ errorKind → ⊥
+  pub error : ty ≡ plainTy errorKind → ⊥
+
+no-error : (s : List ℕ) (n top : ℕ) → readType s longestType ≡ Whole n top false → kindOf s ≡ errorKind → ⊥
+no-error [] n top q e = omega (arith, whole [] longestType n top false q)
+no-error (b ∷ s) n top q e =
+    let r = reads-alike (errorKind ∷ []) (b ∷ s) longestType longestType 1 0 true (ap (λ (x : ℕ). x ∷ []) e) (omega arith) error-read in
+    let z : false ≡ true = cc in
+    true≢false (sym z)
+  where
+    error-read : readType (errorKind ∷ []) longestType ≡ Whole 1 0 true
+    error-read = unfold choose bodyLength children idIn itemOf itemAt stopped readFrom readType in refl
+
+pub type-good : (s : List ℕ) (k : ℕ) → TypeAt s k → TypeGood (take (typeLength (drop k s)) (drop k s))
+type-good s k t =
+    let n = typeLength (drop k s) in
+    let b = whole (drop k s) longestType (typeLength (drop k s)) (t .top) false (t .whole) in
+    let l : length (take (typeLength (drop k s)) (drop k s)) ≡ typeLength (drop k s) = length-take-le (typeLength (drop k s)) (drop k s) (b .2) in
+    let r = reads-taken (drop k s) longestType (typeLength (drop k s)) (typeLength (drop k s)) (t .top) false (omega arith) (t .whole) in
+    record {
+      top = t .top;
+      whole = rw l r;
+      some = omega arith;
+      short = omega arith;
+      kind = no-error (take (typeLength (drop k s)) (drop k s)) (typeLength (drop k s)) (t .top) r;
+      error = λ e. no-error (take (typeLength (drop k s)) (drop k s)) (typeLength (drop k s)) (t .top) r (ap kindOf e)
+    }
+
+-- ---- functions
+
+-- a function of an accepted table
+pub record FunctionGood (o : Overload) : Type 0 where
+  pub visibility : o .visibility ≤ 3
+  pub result : TypeGood (o .result)
+  pub few : length (o .params) ≤ 16
+  pub types : Every (λ p. TypeGood (p .ty)) (o .params)
+  pub distinct : Distinct (o .params)
+
+params-length : (n : ℕ) (s : List ℕ) → length (paramsFrom n s) ≡ n
+unfolding paramsFrom
+params-length zero s = refl
+params-length (suc n) s = ap suc (params-length n (drop (3 + typeLength (drop 3 s)) s))
+
+params-good : (n : ℕ) (s : List ℕ) → RowAt n s → Every (λ p. TypeGood (p .ty)) (paramsFrom n s)
+unfolding paramsFrom
+params-good zero s r = tt
+params-good (suc n) s r = (type-good s 3 (r .0), params-good n (drop (3 + typeLength (drop 3 s)) s) (r .1))
+
+-- each record of a table has the length that it says
+abbrev Own : Record → Type 0
+Own r = headOf r .len ≡ length r
+
+records-own : (n : ℕ) (s : List ℕ) → length s ≤ n → Every Own (recordsOf s)
+records-own zero [] h = rw (records-end [] 0 (omega arith)) tt
+records-own zero (b ∷ bs) h = absurd (not-suc-le-zero h)
+records-own (suc n) [] h = rw (records-end [] 0 (omega arith)) tt
+records-own (suc n) (b ∷ bs) h =
+    let o : 0 < length (b ∷ bs) = omega arith in
+    let w = head-bounded (b ∷ bs) o in
+    let m = length-drop (headOf (b ∷ bs) .len) (b ∷ bs) in
+    let l : length (frontRecord (b ∷ bs)) ≡ headOf (b ∷ bs) .len = length-take-le (headOf (b ∷ bs) .len) (b ∷ bs) (w .high) in
+    subst (λ (x : List Record). Every Own x) (sym (records-here (b ∷ bs) o))
+    (
+      ap (λ (x : Head). x .len) (head-own (b ∷ bs) o) ∙ sym l,
+      records-own n (drop (headOf (b ∷ bs) .len) (b ∷ bs)) (omega (arith, w .low)),
+    )
+
+overload-good : (r : Record) → headOf r .kind ≡ 4 → headOf r .error ≡ false → headOf r .repeated ≡ false → Own r
+    → FunctionGood (overloadOf r)
+unfolding overloadOf
+overload-good r k e d _ =
+    let f = function-whole r k e in
+    record {
+      visibility = f .fields .visibility;
+      result = type-good r 8 (f .result);
+      few = omega (arith, params-length (getD r 7 0) (drop (8 + typeLength (drop 8 r)) r), f .fields .count);
+      types = params-good (getD r 7 0) (drop (8 + typeLength (drop 8 r)) r) (f .row);
+      distinct = names-distinct r f d
+    }
+
+-- what holds of each clean record of a kind holds of those with a key
+module _ (P : Record → Type 0) (k a b : ℕ)
+    (each : (r : Record) → headOf r .kind ≡ k → headOf r .error ≡ false → headOf r .repeated ≡ false → Own r → P r) where
+  with-every : (earlier rs : List Record) → CleanFrom earlier rs → Every Own rs → Every P (recordsWith k a b rs)
+  unfolding recordsWith choose
+  with-every earlier [] c o = tt
+  with-every earlier (r ∷ rs) c o = go (isOf k a b (headOf r)) refl (with-every (r ∷ earlier) rs (c .1) (o .1))
+    where
+      go : (v : Bool) → isOf k a b (headOf r) ≡ v → Every P (recordsWith k a b rs) → Every P (choose (isOf k a b (headOf r)) (r ∷ recordsWith k a b rs) (recordsWith k a b rs))
+      go true q ih =
+          let e = eqb-true (headOf r .kind) k (and-left (eqb (headOf r .kind) k) _ q) in
+          rw q (each r e (c .0 .typed) (c .0 .distinct) (o .0), ih)
+      go false q ih = rw q ih
+
+every-map : (rs : List Record) → Every (λ r. FunctionGood (overloadOf r)) rs → Every FunctionGood (map overloadOf rs)
+every-map [] e = tt
+every-map (r ∷ rs) e = (e .0, every-map rs (e .1))
+
+-- EVERY FUNCTION of an accepted table: its types are whole, short and without Error, its parameters are at most 16 and have distinct names
+pub functions-good : (t : List ℕ) → tableFault t ≡ 0 → (owner name : ℕ) → Every FunctionGood (symbolsOf t .functionsOf owner name)
+unfolding symbolsIn
+functions-good t e owner name =
+    every-map (recordsWith 4 owner name (recordsOf t))
+    (with-every (λ r. FunctionGood (overloadOf r)) 4 owner name overload-good [] (recordsOf t) (accepted-clean t e)
+    (records-own (length t) t (omega arith)))
+
+-- ---- fields
+
+-- EVERY FIELD of an accepted table
+pub field-good : (t : List ℕ) → tableFault t ≡ 0 → (owner name : ℕ) (ty : Ty) → symbolsOf t .fieldOf owner name ≡ some ty → TypeGood ty
+unfolding symbolsIn
+field-good t e owner name ty q =
+    go (recordsWith 5 owner name (recordsOf t))
+    (with-every (λ r. TypeGood (drop 5 r)) 5 owner name field-of [] (recordsOf t) (accepted-clean t e) (records-own (length t) t (omega arith))) q
+  where
+    field-of : (r : Record) → headOf r .kind ≡ 5 → headOf r .error ≡ false → headOf r .repeated ≡ false → Own r → TypeGood (drop 5 r)
+    field-of r k e _ o =
+        let f = field-whole r k e in
+        let a : take (typeLength (drop 5 r)) (drop 5 r) ≡ drop 5 r = take-all (typeLength (drop 5 r)) (drop 5 r) (omega (arith, length-drop 5 r, f .len)) in
+        rw a at (type-good r 5 (f .ty))
+
+    go : (rs : List Record) → Every (λ r. TypeGood (drop 5 r)) rs → fieldIn rs ≡ some ty → TypeGood ty
+    go [] v q = absurd (no-some q)
+      where
+        no-some : none ≡ some ty → ⊥
+        no-some q = let z : _≡_ {A = ℕ} 0 1 = cc in omega arith
+    go (r ∷ rs) v q = let z : drop 5 r ≡ ty = cc in subst TypeGood z (v .0)
+
+-- ---- how many
+
+records-few : (n : ℕ) (s : List ℕ) → length s ≤ n → length (recordsOf s) ≤ length s
+records-few zero [] h = omega (arith, ap (λ (x : List Record). length x) (records-end [] 0 (omega arith)))
+records-few zero (b ∷ bs) h = absurd (not-suc-le-zero h)
+records-few (suc n) [] h = omega (arith, ap (λ (x : List Record). length x) (records-end [] 0 (omega arith)))
+records-few (suc n) (b ∷ bs) h =
+    let o : 0 < length (b ∷ bs) = omega arith in
+    let w = head-bounded (b ∷ bs) o in
+    let m = length-drop (headOf (b ∷ bs) .len) (b ∷ bs) in
+    let i = records-few n (drop (headOf (b ∷ bs) .len) (b ∷ bs)) (omega (arith, w .low)) in
+    omega (arith, ap (λ (x : List Record). length x) (records-here (b ∷ bs) o), w .low, w .high)
+
+with-few : (k a b : ℕ) (rs : List Record) → length (recordsWith k a b rs) ≤ length rs
+unfolding recordsWith
+with-few k a b [] = omega arith
+with-few k a b (r ∷ rs) =
+    let i = with-few k a b rs in
+    by-choice (λ (x : List Record). length x ≤ length (r ∷ rs)) (isOf k a b (headOf r)) (λ _. omega arith) (λ _. omega arith)
+
+-- A FUNCTION LIST of an accepted table has at most 60,000 entries
+pub functions-few : (t : List ℕ) → tableFault t ≡ 0 → (owner name : ℕ) → length (symbolsOf t .functionsOf owner name) ≤ 60000
+unfolding symbolsIn
+functions-few t e owner name =
+    let l : length (map overloadOf (recordsWith 4 owner name (recordsOf t))) ≡ length (recordsWith 4 owner name (recordsOf t)) = simp length-map in
+    let w = with-few 4 owner name (recordsOf t) in
+    let r = records-few (length t) t (omega arith) in
+    let s = accepted-short t e in
+    omega arith
+
+-- ---- ids
+
+-- AN ID of an accepted table is defined: the highest of each record is below 40 and the number of all names
+pub ids-defined : (t : List ℕ) → tableFault t ≡ 0 → Every (λ r. idDefined (headOf r .top) (nameCount (recordsOf t)) ≡ true) (recordsOf t)
+ids-defined t e = go [] (recordsOf t) (accepted-clean t e) (nameCount (recordsOf t)) (omega (arith, none))
+  where
+    none : nameCount [] ≡ 0
+    none = unfold countOf in refl
+
+    go : (earlier rs : List Record) → CleanFrom earlier rs → (n : ℕ) → nameCount earlier + nameCount rs ≤ n → Every (λ r. idDefined (headOf r .top) n ≡ true) rs
+    go earlier [] c n h = tt
+    go earlier (r ∷ rs) c n h =
+        let d = ltb-true (headOf r .top) (firstTableId + nameCount earlier) (c .0 .defined) in
+        let m = moved earlier r rs in
+        (lt-ltb (headOf r .top) (firstTableId + n) (omega arith), go (r ∷ earlier) rs (c .1) n (omega arith))
+      where
+        moved : (earlier : List Record) (r : Record) (rs : List Record) → nameCount (r ∷ earlier) + nameCount rs ≡ nameCount earlier + nameCount (r ∷ rs)
+        moved earlier r rs = unfold countOf in omega arith
+
+-- ---- order
+
+-- A FUNCTION LIST keeps table order
+pub functions-order : (xs ys : List Record) (owner name : ℕ)
+    → symbolsIn (xs ++ ys) .functionsOf owner name ≡ symbolsIn xs .functionsOf owner name ++ symbolsIn ys .functionsOf owner name
+unfolding symbolsIn recordsWith choose
+functions-order [] ys owner name = refl
+functions-order (r ∷ xs) ys owner name = go (isOf 4 owner name (headOf r)) refl (functions-order xs ys owner name)
+  where
+    go : (v : Bool) → isOf 4 owner name (headOf r) ≡ v
+        → map overloadOf (recordsWith 4 owner name (xs ++ ys)) ≡ map overloadOf (recordsWith 4 owner name xs) ++ map overloadOf (recordsWith 4 owner name ys)
+        → map overloadOf (choose (isOf 4 owner name (headOf r)) (r ∷ recordsWith 4 owner name (xs ++ ys)) (recordsWith 4 owner name (xs ++ ys)))
+        ≡ map overloadOf (choose (isOf 4 owner name (headOf r)) (r ∷ recordsWith 4 owner name xs) (recordsWith 4 owner name xs)) ++ map overloadOf (recordsWith 4 owner name ys)
+    go true q ih = rw q (ap (λ (x : List Overload). overloadOf r ∷ x) ih)
+    go false q ih = rw q ih
