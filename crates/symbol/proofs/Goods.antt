@@ -73,7 +73,7 @@ type-good s k t =
       some = omega arith;
       short = omega arith;
       kind = no-error (take (typeLength (drop k s)) (drop k s)) (typeLength (drop k s)) (t .top) r;
-      error = λ e. no-error (take (typeLength (drop k s)) (drop k s)) (typeLength (drop k s)) (t .top) r (ap kindOf e)
+      error = λ e. no-error (take (typeLength (drop k s)) (drop k s)) (typeLength (drop k s)) (t .top) r (ap kindOf e);
     }
 
 -- ---- functions
@@ -109,8 +109,7 @@ records-own (suc n) (b ∷ bs) h =
     let w = head-bounded (b ∷ bs) o in
     let m = length-drop (headOf (b ∷ bs) .len) (b ∷ bs) in
     let l : length (frontRecord (b ∷ bs)) ≡ headOf (b ∷ bs) .len = length-take-le (headOf (b ∷ bs) .len) (b ∷ bs) (w .high) in
-    subst (λ (x : List Record). Every Own x) (sym (records-here (b ∷ bs) o))
-    (
+    subst (λ (x : List Record). Every Own x) (sym (records-here (b ∷ bs) o)) (
       ap (λ (x : Head). x .len) (head-own (b ∷ bs) o) ∙ sym l,
       records-own n (drop (headOf (b ∷ bs) .len) (b ∷ bs)) (omega (arith, w .low)),
     )
@@ -125,7 +124,7 @@ overload-good r k e d _ =
       result = type-good r 8 (f .result);
       few = omega (arith, params-length (getD r 7 0) (drop (8 + typeLength (drop 8 r)) r), f .fields .count);
       types = params-good (getD r 7 0) (drop (8 + typeLength (drop 8 r)) r) (f .row);
-      distinct = names-distinct r f d
+      distinct = names-distinct r f d;
     }
 
 -- what holds of each clean record of a kind holds of those with a key

@@ -16,8 +16,7 @@ pub mod Wholes
 pub mod Arrays
 pub mod Calls
 pub mod Names
-pub mod Runs
-pub mod Climbs
+pub mod NamesFirst
 pub mod Goods
 pub mod Cases
 pub mod Ranks

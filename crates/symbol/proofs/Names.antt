@@ -79,10 +79,9 @@ names-run (suc n) s c h l k v e d =
     let ih = names-run n s (paramStep s c) (param-onward s c h .high) l₁ (omega (arith, w .count)) v e d in
     let b = step-behind s c w in
     let u : Unmet (suc (c .count)) (set (c .names) (c .count) (idAt s (c .len))) (paramsFrom n (drop (3 + typeLength (drop 3 (drop (c .len) s))) (drop (c .len) s)))
-        = rw (← b, ← add-one (c .count), ← w .count, ← w .names) (ih .0) in
+    = rw (← b, ← add-one (c .count), ← w .count, ← w .names) (ih .0) in
     let x = unmet-split (c .count) (c .names) (idAt s (c .len)) (omega arith) (paramsFrom n (drop (3 + typeLength (drop 3 (drop (c .len) s))) (drop (c .len) s))) u in
-    let i : idAt (drop (c .len) s) 0 ≡ idAt s (c .len) = id-drop (c .len) s in
-    (
+    let i : idAt (drop (c .len) s) 0 ≡ idAt s (c .len) = id-drop (c .len) s in (
       (rw i (o .1), x .1),
       (rw i (x .0), rw (← b) (ih .1)),
     )

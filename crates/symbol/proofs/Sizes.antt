@@ -48,7 +48,7 @@ fits-any k n h =
       operators = λ e. let l = h (omega arith) in omega arith;
       function = λ e. let l = h (omega arith) in omega arith;
       field = λ e. let l = h (omega arith) in omega arith;
-      visibility = λ e. let l = h (omega arith) in omega arith
+      visibility = λ e. let l = h (omega arith) in omega arith;
     }
 
 fits-1 : Fits 1 26

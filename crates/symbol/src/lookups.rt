@@ -7,14 +7,12 @@ use ty::NameId;
 use ty::byte_at;
 ghost use mathlib.Core.Path.{_≡_};
 ghost use mathlib.Core.Bool.{_&&_, _||_};
-ghost use Prim.Native.Nat.{_-_, _≤_};
 ghost use lib.Dec.{ltb, eqb};
 ghost use lib.ListN.{drop};
 ghost use Rattle.symbol.specs.Answer.{partOf, PartIn, maskOf, visibilityOf, FoundIs, functionsFrom, FunctionFound};
 ghost use Rattle.symbol.specs.Lookup.{recordsWith, symbolsOf};
 ghost use Rattle.symbol.specs.Refused.{tableFault};
 ghost use Rattle.symbol.specs.Sections.{Accepted, sectionOf};
-ghost use Rattle.symbol.specs.Subclass.{isSubclass};
 ghost use Rattle.symbol.specs.Table.{recordsOf};
 ghost use Rattle.symbol.specs.Walk.{At};
 
@@ -229,35 +227,4 @@ pub fn is_capital(t: &[u8], s: Sections, id: u16) -> bool
     }
     let letter = byte_at(t, 26 * i + 2);
     (byte_at(t, 26 * i + 1) == 1) & ((65 <= letter) & (letter <= 90))
-}
-
-// How many classes the table has.
-fn class_count(s: Sections) -> usize
-    requires { ⌜ s .classes .index ≤ s .operators .index ⌝ }
-    ensures { λ r. ⌜ r ≡ s .operators .index - s .classes .index ⌝ }
-{
-    let from = s.classes;
-    let to = s.operators;
-    to.index - from.index
-}
-
-// `is_subclass` of checker.rs: whether `above` is met climbing from `class`.
-pub fn is_subclass(t: &[u8], s: Sections, class: u16, above: u16) -> bool
-    requires { ⌜ Accepted (now t) s ⌝ }
-    ensures { λ r. ⌜ r ≡ isSubclass (symbolsOf (now (t .entry))) class above ⌝ }
-{
-    let mut left = class_count(s);
-    let mut cur = class;
-    while 0 < left {
-        let over = superclass_of(t, s, cur);
-        if over == NameId::NONE {
-            return false;
-        }
-        if over == above {
-            return true;
-        }
-        cur = over;
-        left -= 1;
-    }
-    false
 }

@@ -5,7 +5,7 @@ use mathlib.Core.List.{[]}
 use mathlib.Core.Path.{ap}
 use native.Mathlib.Omega.{arith}
 use Rattle.symbol.proofs.Accepts.{accepted-clean}
-use Rattle.symbol.proofs.Runs.{name-at, names-past}
+use Rattle.symbol.proofs.NamesFirst.{name-at, names-past}
 use Rattle.symbol.proofs.lookups.is_capital.Statement.{statement}
 use Rattle.symbol.proofs.lookups.is_capital.Tie as tie
 use Rattle.symbol.specs.Lookup.{capitalIn, symbolsIn}

@@ -1,69 +1,26 @@
--- The runs of an accepted table: names come first, and classes lie between their section's begin and the next. Assumes nothing.
-use Prim.Native.Nat.{ℕ, zero, suc, _+_, _-_, _*_, _≤_, _<_}
-use borrow.Author.Tests.{eq-eqb, ne-eqb, eqb-true, ltb-true, ltb-false, lt-ltb, le-ltb}
-use lib.Dec.{eqb, ltb}
-use lib.ListN.{length, getD, drop, take, length-drop}
+-- The names of an accepted table come first, 26 bytes each. Assumes nothing.
+use Prim.Native.Nat.{ℕ, zero, suc, _+_, _*_, _≤_, _<_}
+use borrow.Author.Tests.{eq-eqb, ne-eqb, ltb-true, ltb-false}
+use lib.Dec.{ltb}
+use lib.ListN.{length, getD, drop}
 use lib.Seq.{getD-drop, getD-take}
-use mathlib.Core.Bool.{Bool, true, false, true≢false}
+use mathlib.Core.Bool.{Bool, true, false}
 use mathlib.Core.List.{List, [], _∷_}
-use mathlib.Core.Path.{_≡_, refl, sym, ap, _∙_, subst}
+use mathlib.Core.Path.{_≡_, refl, ap, _∙_, subst}
 use native.Mathlib.Nat.{not-suc-le-zero, le-of-suc-le-suc}
-use native.Mathlib.Omega.{arith, not-le}
-use Rattle.ty.specs.Choose.{choose}
-use Rattle.symbol.proofs.Accepts.{CleanFrom, accepted-clean}
-use Rattle.symbol.proofs.Bounds.{head-bounded}
+use native.Mathlib.Omega.{arith}
+use Rattle.symbol.proofs.Accepts.{CleanFrom}
 use Rattle.symbol.proofs.Own.{head-own}
 use Rattle.symbol.proofs.Records.{records-here, records-end}
 use Rattle.symbol.proofs.Sizes.{head-fits, head-known}
 use Rattle.symbol.specs.Front.{headOf}
 use Rattle.symbol.specs.Lookup.{namesIn}
-use Rattle.symbol.specs.Refused.{lastKind, tableFault}
-use Rattle.symbol.specs.Sections.{countBelow, bytesBelow, sectionOf}
-use Rattle.symbol.specs.Table.{Record, frontRecord, recordsOf, countOf}
+use Rattle.symbol.specs.Refused.{lastKind}
+use Rattle.symbol.specs.Sections.{countBelow}
+use Rattle.symbol.specs.Table.{Record, frontRecord, recordsOf}
 use Rattle.symbol.specs.declared.front.Head.{Head}
+use Rattle.ty.specs.Choose.{choose}
 
--- from kind k on there is none of a lower kind
-no-lower : (k : ℕ) (earlier rs : List Record) → CleanFrom earlier rs → k < lastKind earlier → countOf k rs ≡ 0
-unfolding countOf choose
-no-lower k earlier [] c l = refl
-no-lower k earlier (r ∷ rs) c l =
-    let h = c .0 .rises in
-    let n = no-lower k (r ∷ earlier) rs (c .1) (omega arith) in
-    let e : eqb (headOf r .kind) k ≡ false = ne-eqb (headOf r .kind) k (λ z. omega arith) in
-    rw (e, n)
-
--- how many records have kind k: those below k + 1, without those below k
-pub count-run : (k : ℕ) (earlier rs : List Record) → CleanFrom earlier rs → countBelow k rs + countOf k rs ≡ countBelow (suc k) rs
-unfolding countBelow countOf choose
-count-run k earlier [] c = refl
-count-run k earlier (r ∷ rs) c = go (ltb (headOf r .kind) k) refl (eqb (headOf r .kind) k) refl (count-run k (r ∷ earlier) rs (c .1))
-  where
-    go : (u : Bool) → ltb (headOf r .kind) k ≡ u → (v : Bool) → eqb (headOf r .kind) k ≡ v → countBelow k rs + countOf k rs ≡ countBelow (suc k) rs
-        → choose (ltb (headOf r .kind) k) (suc (countBelow k rs)) 0 + (choose (eqb (headOf r .kind) k) 1 0 + countOf k rs)
-        ≡ choose (ltb (headOf r .kind) (suc k)) (suc (countBelow (suc k) rs)) 0
-    go true p v q ih =
-        let l = ltb-true (headOf r .kind) k p in
-        let n : eqb (headOf r .kind) k ≡ false = ne-eqb (headOf r .kind) k (λ z. omega arith) in
-        rw (p, n, lt-ltb (headOf r .kind) (suc k) (omega arith)) (omega arith)
-    go false p true q ih =
-        let e = eqb-true (headOf r .kind) k q in
-        let z : countBelow k rs ≡ 0 = none-below k rs (r ∷ earlier) (c .1) (omega arith) in
-        rw (p, q, lt-ltb (headOf r .kind) (suc k) (omega arith)) (omega arith)
-      where
-        none-below : (k : ℕ) (rs earlier : List Record) → CleanFrom earlier rs → k ≤ lastKind earlier → countBelow k rs ≡ 0
-        none-below k [] earlier c l = refl
-        none-below k (x ∷ xs) earlier c l = let h = c .0 .rises in rw (le-ltb (headOf x .kind) k (omega arith))
-    go false p false q ih =
-        let l = ltb-false (headOf r .kind) k p in
-        let ne : headOf r .kind ≡ k → ⊥ = λ z. true≢false (sym (eq-eqb (headOf r .kind) k z) ∙ q) in
-        let m : k < headOf r .kind = not-le (headOf r .kind) k (λ h. ne (omega arith)) in
-        let n : countOf k rs ≡ 0 = no-lower k (r ∷ earlier) rs (c .1) m in
-        rw (p, q, n, le-ltb (headOf r .kind) (suc k) m)
-
-pub class-run : (t : List ℕ) → tableFault t ≡ 0 → sectionOf 2 (recordsOf t) .index + countOf 2 (recordsOf t) ≡ sectionOf 3 (recordsOf t) .index
-class-run t e = count-run 2 [] (recordsOf t) (accepted-clean t e)
-
--- ---- names
 no-names : (earlier rs : List Record) → CleanFrom earlier rs → 1 < lastKind earlier → namesIn rs ≡ []
 unfolding namesIn choose
 no-names earlier [] c l = refl
