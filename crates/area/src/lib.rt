@@ -100,7 +100,7 @@ pub fn copy_out(t: &[u8]) -> [u8; 256]
 }
 
 // The bytes of s go to a place of the area.
-fn copy_in(area: &mut [u8], to: usize, s: &[u8])
+pub fn copy_in(area: &mut [u8], to: usize, s: &[u8])
     requires { ⌜ to + length (now s) ≤ length (now area) ⌝ }
     ensures { λ _. ⌜ now (area .exit) ≡ sets (now (area .entry)) to (now (s .entry)) ⌝ }
 {

@@ -12,6 +12,7 @@ pub mod Flat
 pub mod Short
 pub mod Length
 pub mod Answers
+pub mod Sized
 pub mod Numbers
 pub mod Demand1
 pub mod Promise
