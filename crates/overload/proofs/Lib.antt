@@ -2,3 +2,14 @@ pub mod Lists
 pub mod Plus
 pub mod Free
 pub mod Walked
+pub mod Rows
+pub mod Places
+pub mod Arities
+pub mod Reporting
+pub mod Scores
+pub mod Singles
+pub mod Chosen
+pub mod Tallies
+pub mod Settled
+pub mod Walks
+pub mod Few

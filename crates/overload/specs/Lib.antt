@@ -7,3 +7,7 @@ pub mod Best
 pub mod ByIndex
 pub mod Resolve
 pub mod Walk
+pub mod Args
+pub mod Params
+pub mod Reported
+pub mod Tally

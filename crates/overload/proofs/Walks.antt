@@ -1,0 +1,173 @@
+-- The walk over a function list in the table. Assumes nothing.
+use Prim.Native.Nat.{ℕ, zero, suc, _+_, _-_, _*_, _≤_, _<_}
+use borrow.Author.Tests.{ltb-false}
+use lib.Dec.{ltb}
+use lib.ListN.{length, length-append, length-map, drop}
+use mathlib.Core.Bool.{Bool, true, false}
+use mathlib.Core.List.{List, [], _∷_, _++_, append-assoc, append-nil}
+use mathlib.Core.Path.{_≡_, refl, sym, ap, _∙_, subst}
+use native.Mathlib.Omega.{arith}
+use Rattle.area.specs.Diagnostic.{countLimit}
+use Rattle.symbol.specs.Answer.{FunctionAt, FunctionIs, FunctionFound, FunctionRead, functionsFrom, overloadAt, overloadIn}
+use Rattle.symbol.specs.Front.{headOf}
+use Rattle.symbol.specs.Lookup.{recordsWith, overloadOf, symbolsIn, symbolsOf}
+use Rattle.symbol.specs.Refused.{faultFrom, tableFault}
+use Rattle.symbol.specs.Sections.{Accepted}
+use Rattle.symbol.specs.Symbols.{Overload, Symbols}
+use Rattle.symbol.specs.Table.{Record, recordsFrom, recordsOf, frontRecord}
+use Rattle.symbol.specs.declared.checks.Sections.{Sections}
+use Rattle.symbol.specs.declared.functions.Function.{Function}
+use Rattle.symbol.specs.declared.lookups.Found.{Found}
+use Rattle.symbol.specs.declared.lookups.Found.the-variants.{Nothing, Here}
+use Rattle.symbol.specs.declared.lookups.Place.{Place}
+use Rattle.ty.proofs.Choice.{by-choice}
+use Rattle.ty.specs.Choose.{choose}
+use Rattle.overload.proofs.Chosen.{picked-snoc, picked-few, picked-usable, own-here, own-later}
+use Rattle.overload.proofs.Tallies.{tally-start, tally-as, tally-room}
+use Rattle.overload.specs.Arg.{Arg, Verdict}
+use Rattle.overload.specs.Arity.{anyOwn, usable, fitting}
+use Rattle.overload.specs.Resolve.{resolveIn, resolve}
+use Rattle.overload.specs.Tally.{taken, picked, mostDiagnostics, Room, TallyIs, CalledIs}
+use Rattle.overload.specs.declared.calls.Called.{Called}
+use Rattle.overload.specs.declared.calls.Tally.{Tally}
+
+-- ---- how long a list is
+records-few : (s : List ℕ) (n : ℕ) → length (recordsFrom s n) ≤ length s
+unfolding recordsFrom
+records-few [] n = omega arith
+records-few (b ∷ bs) (suc n) = omega (arith, records-few bs n)
+records-few (b ∷ bs) zero = omega (arith, records-few bs (headOf (b ∷ bs) .len - 1))
+
+with-few : (k a b : ℕ) (rs : List Record) → length (recordsWith k a b rs) ≤ length rs
+unfolding recordsWith
+with-few k a b [] = omega arith
+with-few k a b (r ∷ rs) =
+    let h = with-few k a b rs in
+    by-choice (λ (us : List Record). length us ≤ suc (length rs)) _ (λ _. omega arith) (λ _. omega arith)
+
+table-short : (t : List ℕ) → tableFault t ≡ 0 → length t ≤ 60000
+unfolding tableFault choose
+table-short t e = go (ltb 60000 (length t)) refl e
+  where
+    go : (b : Bool) → ltb 60000 (length t) ≡ b → choose b 1 (faultFrom [] (recordsOf t)) ≡ 0 → length t ≤ 60000
+    go true f e′ = absurd (omega arith)
+    go false f e′ = ltb-false 60000 (length t) f
+
+-- in an accepted table
+pub functions-few : (t : List ℕ) (s : Sections) (owner id : ℕ) → Accepted t s → length (symbolsOf t .functionsOf owner id) ≤ 60000
+unfolding symbolsIn
+functions-few t s owner id h =
+    omega
+    (arith, length-map (recordsWith 4 owner id (recordsOf t)) overloadOf, with-few 4 owner id (recordsOf t), records-few t 0, table-short t (h .clean))
+
+-- ---- how many functions are left
+unfoldable pub leftOf : List ℕ → ℕ → ℕ → Found → ℕ
+leftOf t owner id Nothing = 0
+leftOf t owner id (Here p) = suc (length (functionsFrom t (p .next) owner id))
+
+module _ (t : List ℕ) (owner id : ℕ) where
+  left-falls : (p : Place) (g : Found) → FunctionFound t (functionsFrom t (p .next) owner id) owner id g → leftOf t owner id g < leftOf t owner id (Here p)
+  unfolding leftOf
+  left-falls p Nothing w = omega arith
+  left-falls p (Here q) w =
+      let e : length (functionsFrom t (p .next) owner id) ≡ suc (length (functionsFrom t (q .next) owner id)) = ap (λ (os : List Overload). length os) (w .first) in
+      omega arith
+
+  pub left-less : (f g : Found) (p : Place) → f ≡ Here p → FunctionFound t (functionsFrom t (p .next) owner id) owner id g → leftOf t owner id g < leftOf t owner id f
+  left-less f g p e w = subst (λ (z : Found). leftOf t owner id g < leftOf t owner id z) (sym e) (left-falls p g w)
+
+-- ---- is one not a builtin?
+pub record OwnFrom (t : List ℕ) (owner id : ℕ) (all : List Overload) (f : Found) : Type 0 where
+  pub left : List Overload
+  pub rest : FunctionFound t left owner id f
+  pub same : anyOwn left ≡ anyOwn all
+
+module _ (t : List ℕ) (owner id : ℕ) (all : List Overload) where
+  pub own-start : (f : Found) → FunctionFound t all owner id f → OwnFrom t owner id all f
+  own-start f w = record { left = all; rest = w; same = refl }
+
+  pub own-none : (f : Found) → f ≡ Nothing → OwnFrom t owner id all f → false ≡ anyOwn all
+  unfolding anyOwn
+  own-none f e w =
+      let h : w .left ≡ [] = subst (λ (z : Found). FunctionFound t (w .left) owner id z) e (w .rest) in
+      sym (ap (λ (os : List Overload). anyOwn os) h) ∙ w .same
+
+  module _ (f : Found) (p : Place) (e : f ≡ Here p) (w : OwnFrom t owner id all f) where
+    own-is : FunctionIs t (w .left) owner id p
+    own-is = subst (λ (z : Found). FunctionFound t (w .left) owner id z) e (w .rest)
+
+    pub own-place : FunctionAt t p
+    own-place = own-is .here
+
+    module _ (fn : Function) (read : FunctionRead t (overloadAt t p) fn) where
+      pub own-found : fn .builtin ≡ false → true ≡ anyOwn all
+      own-found h =
+          own-here (overloadAt t p) (functionsFrom t (p .next) owner id) (sym (ap (λ (o : Overload). o .builtin) (read .same)) ∙ h)
+          ∙ sym (ap (λ (os : List Overload). anyOwn os) (own-is .first)) ∙ w .same
+
+      pub own-on : fn .builtin ≡ true → (g : Found) → FunctionFound t (functionsFrom t (p .next) owner id) owner id g → OwnFrom t owner id all g
+      own-on h g v =
+          record {
+            left = functionsFrom t (p .next) owner id;
+            rest = v;
+            same = own-later (overloadAt t p) (functionsFrom t (p .next) owner id) (sym (ap (λ (o : Overload). o .builtin) (read .same)) ∙ h)
+                ∙ sym (ap (λ (os : List Overload). anyOwn os) (own-is .first)) ∙ w .same;
+          }
+
+-- ---- the walk
+-- of the list, some are done and the others are left; n arguments
+pub record Walking (t : List ℕ) (S : Symbols) (owner id : ℕ) (k : Bool) (n : ℕ) (xs : List Arg) (b₀ : List ℕ) (n₀ : ℕ) (b : List ℕ) (f : Found) (w : Tally) : Type 0 where
+  pub done : List Overload
+  pub left : List Overload
+  pub all : done ++ left ≡ S .functionsOf owner id
+  pub rest : FunctionFound t left owner id f
+  pub tally : TallyIs t S xs b₀ n₀ b (picked k n done) w
+
+module _ (t : List ℕ) (S : Symbols) (owner id : ℕ) (k : Bool) (n : ℕ) (xs : List Arg) (b₀ : List ℕ) (n₀ : ℕ) where
+  pub walk-start : (f : Found) → FunctionFound t (S .functionsOf owner id) owner id f
+      → Walking t S owner id k n xs b₀ n₀ b₀ f (record { first = Nothing; fitting = 0; highest = record { matched = false; score = 0; many = 0; start = 0; len = 0 }; count = n₀ })
+  unfolding picked
+  walk-start f v = record { done = []; left = S .functionsOf owner id; all = refl; rest = v; tally = tally-start t S xs b₀ n₀ }
+
+  module _ (b : List ℕ) (f : Found) (w : Tally) (is : Walking t S owner id k n xs b₀ n₀ b f w) where
+    pub walk-room : length (S .functionsOf owner id) ≤ 60000 → length xs ≤ 16 → n₀ + mostDiagnostics ≤ countLimit → Room w
+    walk-room few short room =
+        let e : length (is .done ++ is .left) ≡ length (S .functionsOf owner id) = ap (λ (os : List Overload). length os) (is .all) in
+        let l = length-append (is .done) (is .left) in
+        let h = picked-few k n (is .done) in
+        tally-room t S xs b₀ n₀ b (picked k n (is .done)) w (is .tally) (omega arith) short room
+
+    pub walk-done : f ≡ Nothing → TallyIs t S xs b₀ n₀ b (picked k n (S .functionsOf owner id)) w
+    walk-done e =
+        let h : is .left ≡ [] = subst (λ (z : Found). FunctionFound t (is .left) owner id z) e (is .rest) in
+        let d : is .done ≡ S .functionsOf owner id = sym (append-nil (is .done)) ∙ ap (λ (os : List Overload). is .done ++ os) (sym h) ∙ is .all in
+        tally-as t S xs b₀ n₀ b (picked k n (is .done)) w (is .tally) _ (ap (λ (os : List Overload). picked k n os) d)
+
+    module _ (p : Place) (e : f ≡ Here p) where
+      walk-is : FunctionIs t (is .left) owner id p
+      walk-is = subst (λ (z : Found). FunctionFound t (is .left) owner id z) e (is .rest)
+
+      pub walk-place : FunctionAt t p
+      walk-place = walk-is .here
+
+      pub walk-on : (b′ : List ℕ) (g : Found) (w′ : Tally) → TallyIs t S xs b₀ n₀ b′ (picked k n (is .done) ++ taken k n (overloadAt t p)) w′
+          → FunctionFound t (functionsFrom t (p .next) owner id) owner id g → Walking t S owner id k n xs b₀ n₀ b′ g w′
+      walk-on b′ g w′ tally v =
+          record {
+            done = is .done ++ (overloadAt t p ∷ []);
+            left = functionsFrom t (p .next) owner id;
+            all = append-assoc (is .done) (overloadAt t p ∷ []) (functionsFrom t (p .next) owner id)
+                ∙ ap (λ (os : List Overload). is .done ++ os) (sym (walk-is .first)) ∙ is .all;
+            rest = v;
+            tally = tally-as t S xs b₀ n₀ b′ _ w′ tally _ (sym (picked-snoc k n (is .done) (overloadAt t p)));
+          }
+
+-- the list of the definition is the one that was walked
+pub resolved : (t : List ℕ) (S : Symbols) (os : List Overload) (node n : ℕ) (xs : List Arg) (b : List ℕ) (c : ℕ) (b′ : List ℕ) (r : Called) (k : Bool) → k ≡ anyOwn os
+    → n ≡ length xs → CalledIs t b c b′ (resolveIn S k node xs (picked k n os)) r → CalledIs t b c b′ (resolve S os node xs) r
+unfolding resolve
+resolved t S os node n xs b c b′ r k e f w =
+    let g : resolveIn S k node xs (picked k n os) ≡ resolveIn S (anyOwn os) node xs (fitting (length xs) (usable os)) =
+    ap (λ (z : Bool). resolveIn S z node xs (picked z n os)) e ∙ ap (λ (vs : List Overload). resolveIn S (anyOwn os) node xs vs) (picked-usable n os)
+    ∙ ap (λ (m : ℕ). resolveIn S (anyOwn os) node xs (fitting m (usable os))) f in
+    subst (λ (v : Verdict). CalledIs t b c b′ v r) g w
