@@ -1,19 +1,19 @@
 -- The number of arguments that an overload takes. Assumes nothing.
 use Prim.Native.Nat.{ℕ, zero, suc, _+_, _-_, _≤_, _<_}
 use lib.Dec.{leb}
-use lib.ListN.{getD, length}
+use lib.ListN.{getD}
 use mathlib.Core.Bool.{Bool, true, false, _&&_, _||_}
-use mathlib.Core.List.{List, [], _∷_}
+use mathlib.Core.List.{List}
 use mathlib.Core.Path.{_≡_, sym, ap, _∙_}
 use native.Mathlib.Omega.{arith}
+use Rattle.overload.proofs.Rows.{paramsLeft, params-all, params-next, params-none, params-length}
+use Rattle.overload.specs.Arity.{required, endsVararg, lastVararg, fits}
+use Rattle.overload.specs.Params.{paramsIn}
 use Rattle.symbol.specs.Answer.{paramsRow, overloadIn}
 use Rattle.symbol.specs.Symbols.{Param}
 use Rattle.symbol.specs.declared.functions.Function.{Function}
 use Rattle.symbol.specs.declared.functions.Params.{Params}
 use Rattle.ty.proofs.Choice.{choose-yes, choose-no}
-use Rattle.overload.proofs.Rows.{paramsLeft, params-all, params-next, params-none, params-length}
-use Rattle.overload.specs.Arity.{required, endsVararg, lastVararg, fits}
-use Rattle.overload.specs.Params.{paramsIn}
 
 module _ (t : List ℕ) (p : Params) where
   -- ---- how many are required

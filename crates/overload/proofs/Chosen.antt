@@ -1,5 +1,5 @@
 -- The fold over a function list, one overload at a time. Assumes nothing.
-use Prim.Native.Nat.{ℕ, zero, suc, _+_, _*_, _≤_, _<_}
+use Prim.Native.Nat.{ℕ, suc, _+_, _≤_, _<_}
 use borrow.Author.Tests.{eq-eqb, ne-eqb, lt-ltb, le-ltb}
 use lib.Dec.{eqb, ltb}
 use lib.ListN.{length, length-append, take, drop}
@@ -9,9 +9,6 @@ use mathlib.Core.Option.{Option, none, some}
 use mathlib.Core.Path.{_≡_, refl, sym, ap, _∙_, subst}
 use native.Mathlib.Omega.{arith}
 use Rattle.area.specs.Diagnostic.{Diag}
-use Rattle.symbol.specs.Symbols.{Overload, Symbols}
-use Rattle.ty.proofs.Choice.{by-choice, choose-yes, choose-no}
-use Rattle.ty.specs.Choose.{choose}
 use Rattle.overload.specs.Arg.{Arg}
 use Rattle.overload.specs.Arity.{anyOwn, own, usable, fits, fitting}
 use Rattle.overload.specs.Best.{Best, nobody, best, better, chosen}
@@ -19,6 +16,9 @@ use Rattle.overload.specs.ByIndex.{unknowns, allUnknown}
 use Rattle.overload.specs.Score.{score}
 use Rattle.overload.specs.Tally.{taken, picked, HighestIs}
 use Rattle.overload.specs.declared.calls.Highest.{Highest}
+use Rattle.symbol.specs.Symbols.{Overload, Symbols}
+use Rattle.ty.proofs.Choice.{by-choice, choose-yes, choose-no}
+use Rattle.ty.specs.Choose.{choose}
 
 -- ---- the highest score
 pub never : {P : Type 0} {b : Bool} → b ≡ true → b ≡ false → P

@@ -1,20 +1,10 @@
 -- How much a call reports: a bound, so that no count wraps. Assumes nothing.
 use Prim.Native.Nat.{ℕ, suc, _+_, _*_, _≤_}
 use lib.ListN.{length, length-append}
-use mathlib.Core.List.{List, [], _∷_, _++_}
-use mathlib.Core.Path.{_≡_, sym, subst}
+use mathlib.Core.List.{List, [], _∷_}
+use mathlib.Core.Path.{sym, subst}
 use native.Mathlib.Omega.{arith}
 use Rattle.area.specs.Diagnostic.{Diag}
-use Rattle.question.specs.declared.Header.{Header}
-use Rattle.rules.specs.Access.{accessReport}
-use Rattle.rules.specs.Diag.{diag, at}
-use Rattle.rules.specs.Diagnostic.{noMatchDiag}
-use Rattle.rules.specs.Out.{Report, unless}
-use Rattle.symbol.specs.Lookup.{symbolsOf}
-use Rattle.symbol.specs.Sections.{Accepted}
-use Rattle.symbol.specs.Symbols.{Overload, Symbols}
-use Rattle.symbol.specs.declared.checks.Sections.{Sections}
-use Rattle.ty.proofs.Choice.{by-choice}
 use Rattle.overload.proofs.Chosen.{picked-few, picked-usable}
 use Rattle.overload.proofs.Reporting.{all-unknown-few, mismatches-few}
 use Rattle.overload.proofs.Singles.{access-few, at-append}
@@ -26,6 +16,16 @@ use Rattle.overload.specs.Best.{Best, nobody, best, chosen}
 use Rattle.overload.specs.ByIndex.{allUnknown, mismatches}
 use Rattle.overload.specs.Resolve.{noneFits, tieReport, settle, resolveIn, resolve}
 use Rattle.overload.specs.Tally.{mostDiagnostics}
+use Rattle.question.specs.declared.Header.{Header}
+use Rattle.rules.specs.Access.{accessReport}
+use Rattle.rules.specs.Diag.{diag, at}
+use Rattle.rules.specs.Diagnostic.{noMatchDiag}
+use Rattle.rules.specs.Out.{Report, unless}
+use Rattle.symbol.specs.Lookup.{symbolsOf}
+use Rattle.symbol.specs.Sections.{Accepted}
+use Rattle.symbol.specs.Symbols.{Overload, Symbols}
+use Rattle.symbol.specs.declared.checks.Sections.{Sections}
+use Rattle.ty.proofs.Choice.{by-choice}
 
 tie-few : (n many : ℕ) → length (tieReport n many) ≤ 1
 unfolding tieReport

@@ -4,15 +4,15 @@ use borrow.Author.Tests.{eq-eqb, ne-eqb, lt-ltb, le-ltb}
 use lib.Dec.{eqb}
 use lib.ListN.{getD}
 use mathlib.Core.Bool.{Bool, true, false}
-use mathlib.Core.List.{List, [], _∷_}
+use mathlib.Core.List.{List}
 use mathlib.Core.Path.{_≡_, sym, ap, _∙_}
 use native.Mathlib.Omega.{arith}
-use Rattle.symbol.specs.Symbols.{Param}
-use Rattle.symbol.specs.declared.functions.Params.{Params}
-use Rattle.ty.proofs.Choice.{choose-yes, choose-no}
 use Rattle.overload.proofs.Rows.{paramsLeft, params-all, params-next, params-none}
 use Rattle.overload.specs.Params.{paramsIn, paramIn, placeIn, PlaceIs}
 use Rattle.overload.specs.Score.{paramOf, placeOf, unmarkedFrom}
+use Rattle.symbol.specs.Symbols.{Param}
+use Rattle.symbol.specs.declared.functions.Params.{Params}
+use Rattle.ty.proofs.Choice.{choose-yes, choose-no}
 
 -- ---- by name: from place j on the answer is that of all
 pub record PlaceFrom (t : List ℕ) (p : Params) (id j : ℕ) : Type 0 where

@@ -1,8 +1,6 @@
 -- Diagnostics of single arguments, reported one after the other. Assumes nothing.
-use Prim.Native.Nat.{ℕ, zero, suc, _+_, _*_, _≤_, _<_}
-use lib.Dec.{eqb}
+use Prim.Native.Nat.{ℕ, suc, _+_, _*_, _≤_, _<_}
 use lib.ListN.{getD, length, length-append}
-use mathlib.Core.Bool.{Bool, _||_}
 use mathlib.Core.List.{List, [], _∷_, _++_}
 use mathlib.Core.Option.{Option, none, some}
 use mathlib.Core.Path.{_≡_, refl, sym, ap, _∙_, subst}
@@ -10,16 +8,6 @@ use native.Mathlib.Nat.{add-zero}
 use native.Mathlib.Omega.{arith}
 use Rattle.area.proofs.Diagnostics.{putAll-none, putAll-one, putAll-append}
 use Rattle.area.specs.Diagnostic.{Diag, putOne, putAll}
-use Rattle.rules.specs.Accept.{paramAccepts}
-use Rattle.rules.specs.Diag.{diag}
-use Rattle.rules.specs.Diagnostic.{unknownNameDiag, mismatchDiag}
-use Rattle.symbol.specs.Answer.{paramAt}
-use Rattle.symbol.specs.Symbols.{Param, Overload, Symbols}
-use Rattle.symbol.specs.declared.functions.Params.{Params}
-use Rattle.ty.proofs.Choice.{by-choice, choose-yes, choose-no}
-use Rattle.ty.specs.Bytes.{kindOf}
-use Rattle.ty.specs.Choose.{choose}
-use Rattle.ty.specs.Kind.{anyKind, errorKind}
 use Rattle.overload.proofs.Rows.{paramsLeft, params-all, params-next, params-none, argsLeft, args-all, args-next, args-none}
 use Rattle.overload.specs.Arg.{Arg}
 use Rattle.overload.specs.Args.{nameIn, argAt, argsIn}
@@ -28,6 +16,10 @@ use Rattle.overload.specs.Params.{paramsIn}
 use Rattle.overload.specs.Reported.{Reported}
 use Rattle.overload.specs.Score.{paramOf}
 use Rattle.overload.specs.declared.args.Args.{Args}
+use Rattle.symbol.specs.Answer.{paramAt}
+use Rattle.symbol.specs.Symbols.{Param, Overload, Symbols}
+use Rattle.symbol.specs.declared.functions.Params.{Params}
+use Rattle.ty.proofs.Choice.{by-choice}
 
 pub reported-none : (b : List ℕ) (n : ℕ) → Reported b n b n []
 reported-none b n = record { count = sym (add-zero n); buffer = sym (putAll-none b n) }

@@ -5,12 +5,12 @@ use mathlib.Core.List.{List, [], _∷_}
 use mathlib.Core.Path.{_≡_, refl, ap, _∙_}
 use native.Mathlib.Nat.{sub-zero}
 use native.Mathlib.Omega.{arith}
+use Rattle.overload.specs.Arg.{Arg}
+use Rattle.overload.specs.Args.{argAt, argsRow, argsIn}
+use Rattle.overload.specs.declared.args.Args.{Args}
 use Rattle.symbol.specs.Answer.{paramAt, paramsRow}
 use Rattle.symbol.specs.Symbols.{Param}
 use Rattle.symbol.specs.declared.functions.Params.{Params}
-use Rattle.overload.specs.Arg.{Arg}
-use Rattle.overload.specs.Args.{argAt, argsRow}
-use Rattle.overload.specs.declared.args.Args.{Args}
 
 -- ---- of n parameters, those from number i on
 unfoldable pub paramsLeft : List ℕ → Params → ℕ → ℕ → List Param
@@ -61,3 +61,6 @@ module _ (a l : List ℕ) (x : Args) where
   unfolding argsRow
   args-length i zero = refl
   args-length i (suc n) = ap suc (args-length (suc i) n)
+
+  pub args-short : x .count ≤ 16 → length (argsIn a l x) ≤ 16
+  args-short h = omega (arith, args-length 0 (x .count))

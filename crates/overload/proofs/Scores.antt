@@ -1,22 +1,13 @@
 -- Scores in numbers: sums of them, and the two passes one argument at a time. Assumes nothing.
 use Prim.Native.Nat.{ℕ, _+_, _≤_, _<_}
 use borrow.Author.Tests.{eq-eqb, ne-eqb, lt-ltb, le-ltb, not-true, not-false}
-use lib.Dec.{eqb}
 use lib.ListN.{getD, set}
 use mathlib.Core.Bool.{Bool, true, false, not, _&&_}
-use mathlib.Core.List.{List, [], _∷_}
+use mathlib.Core.List.{List}
 use mathlib.Core.Option.{Option, none, some}
 use mathlib.Core.Path.{_≡_, refl, sym, ap, _∙_}
 use native.Mathlib.Omega.{arith}
 use Rattle.area.specs.Slot.{slotOf}
-use Rattle.rules.specs.Accept.{paramAccepts}
-use Rattle.symbol.specs.Answer.{paramAt}
-use Rattle.symbol.specs.Symbols.{Param, Overload, Symbols}
-use Rattle.symbol.specs.declared.functions.Params.{Params}
-use Rattle.ty.proofs.Choice.{choose-yes, choose-no}
-use Rattle.ty.specs.Bytes.{Ty, sameBytes}
-use Rattle.ty.specs.Choose.{choose}
-use Rattle.ty.specs.Name.{noId}
 use Rattle.overload.proofs.Plus.{plus-zero, plus-assoc}
 use Rattle.overload.proofs.Rows.{argsLeft, args-all, args-next, args-none}
 use Rattle.overload.specs.Arg.{Arg}
@@ -26,6 +17,14 @@ use Rattle.overload.specs.Params.{paramsIn, paramIn, placeIn, PlaceIs, s
 use Rattle.overload.specs.Score.{plus, compared, comparedWith, markAt, markOne, marksFrom, marksOf, noMarks, namedOne, namedScore, unnamedOne, unnamedScore, unmarkedFrom, score}
 use Rattle.overload.specs.declared.args.Args.{Args}
 use Rattle.overload.specs.declared.score.Score.{Score}
+use Rattle.rules.specs.Accept.{paramAccepts}
+use Rattle.symbol.specs.Answer.{paramAt}
+use Rattle.symbol.specs.Symbols.{Param, Overload, Symbols}
+use Rattle.symbol.specs.declared.functions.Params.{Params}
+use Rattle.ty.proofs.Choice.{choose-yes, choose-no}
+use Rattle.ty.specs.Bytes.{Ty, sameBytes}
+use Rattle.ty.specs.Choose.{choose}
+use Rattle.ty.specs.Name.{noId}
 
 abbrev pub scored : ℕ → Score
 scored n = record { matched = true; points = n }

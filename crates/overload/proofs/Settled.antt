@@ -1,26 +1,15 @@
 -- What is answered once the list is walked through. Assumes nothing.
-use Prim.Native.Nat.{ℕ, zero, suc, _+_, _*_, _≤_, _<_}
-use lib.Dec.{ltb}
+use Prim.Native.Nat.{ℕ}
 use lib.ListN.{length, take, drop}
 use mathlib.Core.Bool.{Bool, true, false}
-use mathlib.Core.List.{List, [], _∷_, _++_}
-use mathlib.Core.Path.{_≡_, refl, sym, ap, _∙_, subst}
+use mathlib.Core.List.{List, [], _∷_}
+use mathlib.Core.Path.{_≡_, refl, ap, _∙_, subst}
 use native.Mathlib.Omega.{arith}
-use Rattle.area.specs.Diagnostic.{Diag, putOne}
+use Rattle.area.specs.Diagnostic.{Diag}
 use Rattle.area.specs.Source.{typeFrom, Reads}
 use Rattle.area.specs.declared.Source.the-variants.{Kind, Part}
-use Rattle.rules.specs.Diag.{diag}
-use Rattle.rules.specs.Diagnostic.{noMatchDiag}
-use Rattle.rules.specs.Out.{errorTy}
-use Rattle.symbol.specs.Answer.{FunctionRead, overloadAt, overloadIn}
-use Rattle.symbol.specs.Symbols.{Overload, Symbols}
-use Rattle.symbol.specs.declared.functions.Function.{Function}
-use Rattle.symbol.specs.declared.lookups.Found.{Found}
-use Rattle.symbol.specs.declared.lookups.Found.the-variants.{Nothing, Here}
-use Rattle.symbol.specs.declared.lookups.Place.{Place}
-use Rattle.ty.specs.Kind.{errorKind}
 use Rattle.overload.proofs.Chosen.{never}
-use Rattle.overload.proofs.Reporting.{reported-as, reported-append, reported-one}
+use Rattle.overload.proofs.Reporting.{reported-as, reported-append}
 use Rattle.overload.specs.Arg.{Arg, Verdict}
 use Rattle.overload.specs.Best.{Best, nobody, best, chosen}
 use Rattle.overload.specs.ByIndex.{allUnknown, mismatches}
@@ -29,8 +18,17 @@ use Rattle.overload.specs.Reported.{Reported}
 use Rattle.overload.specs.Resolve.{noneFits, tieReport, settle, resolveIn}
 use Rattle.overload.specs.Tally.{HighestIs, FirstIs, TallyIs, CalledIs}
 use Rattle.overload.specs.declared.calls.Called.{Called}
-use Rattle.overload.specs.declared.calls.Highest.{Highest}
 use Rattle.overload.specs.declared.calls.Tally.{Tally}
+use Rattle.rules.specs.Diag.{diag}
+use Rattle.rules.specs.Diagnostic.{noMatchDiag}
+use Rattle.rules.specs.Out.{errorTy}
+use Rattle.symbol.specs.Answer.{FunctionRead, overloadAt, overloadIn}
+use Rattle.symbol.specs.Symbols.{Overload, Symbols}
+use Rattle.symbol.specs.declared.functions.Function.{Function}
+use Rattle.symbol.specs.declared.lookups.Found.the-variants.{Nothing, Here}
+use Rattle.symbol.specs.declared.lookups.Found.{Found}
+use Rattle.symbol.specs.declared.lookups.Place.{Place}
+use Rattle.ty.specs.Kind.{errorKind}
 
 -- Error
 pub called-error : (t b : List ℕ) (n : ℕ) (b′ : List ℕ) (n′ : ℕ) (ds : List Diag) → Reported b n b′ n′ ds

@@ -9,18 +9,6 @@ use mathlib.Core.Option.{Option}
 use mathlib.Core.Path.{_≡_, refl, sym, ap, _∙_}
 use native.Mathlib.Omega.{arith}
 use Rattle.area.specs.Diagnostic.{Diag}
-use Rattle.question.specs.declared.Header.{Header}
-use Rattle.rules.specs.Accept.{paramAccepts}
-use Rattle.rules.specs.Access.{blocked, accessReport}
-use Rattle.rules.specs.Diag.{diag, at}
-use Rattle.rules.specs.Diagnostic.{suspendDiag, unknownNameDiag, mismatchDiag, tieDiag, accessDiag, argumentCountDiag}
-use Rattle.rules.specs.Out.{Report, unless}
-use Rattle.symbol.specs.Symbols.{Param, Symbols}
-use Rattle.symbol.specs.declared.functions.Params.{Params}
-use Rattle.ty.proofs.Choice.{by-choice, choose-yes, choose-no}
-use Rattle.ty.specs.Bytes.{kindOf}
-use Rattle.ty.specs.Kind.{anyKind, errorKind}
-use Rattle.ty.specs.Name.{noId}
 use Rattle.overload.proofs.Scores.{name-none, name-some, param-there, param-missing}
 use Rattle.overload.specs.Arg.{Arg}
 use Rattle.overload.specs.Args.{nameIn}
@@ -28,6 +16,18 @@ use Rattle.overload.specs.Before.{suspendAllowed, suspendReport}
 use Rattle.overload.specs.ByIndex.{absent, unknownOne, mismatchOne}
 use Rattle.overload.specs.Params.{paramsIn, paramIn, PlaceIs}
 use Rattle.overload.specs.Resolve.{tieReport}
+use Rattle.question.specs.declared.Header.{Header}
+use Rattle.rules.specs.Accept.{paramAccepts}
+use Rattle.rules.specs.Access.{blocked, accessReport}
+use Rattle.rules.specs.Diag.{diag, at}
+use Rattle.rules.specs.Diagnostic.{suspendDiag, unknownNameDiag, mismatchDiag, tieDiag, accessDiag}
+use Rattle.rules.specs.Out.{Report, unless}
+use Rattle.symbol.specs.Symbols.{Param, Symbols}
+use Rattle.symbol.specs.declared.functions.Params.{Params}
+use Rattle.ty.proofs.Choice.{by-choice, choose-yes, choose-no}
+use Rattle.ty.specs.Bytes.{kindOf}
+use Rattle.ty.specs.Kind.{anyKind, errorKind}
+use Rattle.ty.specs.Name.{noId}
 
 -- ---- an argument's name
 module _ (t : List ℕ) (p : Params) (id i n : ℕ) where

@@ -1,27 +1,27 @@
 -- What the walk over a function list keeps, one function at a time. Assumes nothing.
-use Prim.Native.Nat.{ℕ, zero, suc, _+_, _*_, _≤_, _<_}
+use Prim.Native.Nat.{ℕ, _+_, _≤_}
 use lib.ListN.{length, length-append}
-use mathlib.Core.Bool.{Bool, true, false, _&&_}
-use mathlib.Core.List.{List, [], _∷_, _++_, append-assoc, append-nil}
-use mathlib.Core.Option.{Option, none, some}
+use mathlib.Core.Bool.{false}
+use mathlib.Core.List.{List, [], _∷_, _++_, append-nil}
+use mathlib.Core.Option.{Option}
 use mathlib.Core.Path.{_≡_, refl, sym, ap, _∙_, subst}
 use native.Mathlib.Omega.{arith}
 use Rattle.area.specs.Diagnostic.{countLimit}
-use Rattle.symbol.specs.Answer.{FunctionAt, overloadAt}
-use Rattle.symbol.specs.Symbols.{Overload, Symbols}
-use Rattle.symbol.specs.declared.lookups.Found.{Found}
-use Rattle.symbol.specs.declared.lookups.Found.the-variants.{Nothing, Here}
-use Rattle.symbol.specs.declared.lookups.Place.{Place}
 use Rattle.overload.proofs.Chosen.{chosen-snoc, unknown-snoc}
 use Rattle.overload.proofs.Reporting.{reported-none, reported-as, reported-append, all-unknown-few}
 use Rattle.overload.specs.Arg.{Arg}
-use Rattle.overload.specs.Best.{Best, nobody, best, better, chosen}
+use Rattle.overload.specs.Best.{Best, nobody, better, chosen}
 use Rattle.overload.specs.ByIndex.{unknowns, allUnknown}
 use Rattle.overload.specs.Reported.{Reported}
 use Rattle.overload.specs.Score.{score}
 use Rattle.overload.specs.Tally.{firstOf, mostDiagnostics, Room, HighestIs, FirstIs, FirstAt, TallyIs}
 use Rattle.overload.specs.declared.calls.Highest.{Highest}
 use Rattle.overload.specs.declared.calls.Tally.{Tally}
+use Rattle.symbol.specs.Answer.{FunctionAt, overloadAt}
+use Rattle.symbol.specs.Symbols.{Overload, Symbols}
+use Rattle.symbol.specs.declared.lookups.Found.the-variants.{Nothing, Here}
+use Rattle.symbol.specs.declared.lookups.Found.{Found}
+use Rattle.symbol.specs.declared.lookups.Place.{Place}
 
 module _ (t : List ℕ) (p : Place) where
   first-more : (vs : List Overload) (f : Found) → FirstIs t vs f → FirstIs t (vs ++ (overloadAt t p ∷ [])) (firstOf f p)

@@ -1,27 +1,13 @@
 -- The walk over a function list in the table. Assumes nothing.
-use Prim.Native.Nat.{ℕ, zero, suc, _+_, _-_, _*_, _≤_, _<_}
+use Prim.Native.Nat.{ℕ, zero, suc, _+_, _-_, _≤_, _<_}
 use borrow.Author.Tests.{ltb-false}
 use lib.Dec.{ltb}
-use lib.ListN.{length, length-append, length-map, drop}
+use lib.ListN.{length, length-append, length-map}
 use mathlib.Core.Bool.{Bool, true, false}
 use mathlib.Core.List.{List, [], _∷_, _++_, append-assoc, append-nil}
 use mathlib.Core.Path.{_≡_, refl, sym, ap, _∙_, subst}
 use native.Mathlib.Omega.{arith}
 use Rattle.area.specs.Diagnostic.{countLimit}
-use Rattle.symbol.specs.Answer.{FunctionAt, FunctionIs, FunctionFound, FunctionRead, functionsFrom, overloadAt, overloadIn}
-use Rattle.symbol.specs.Front.{headOf}
-use Rattle.symbol.specs.Lookup.{recordsWith, overloadOf, symbolsIn, symbolsOf}
-use Rattle.symbol.specs.Refused.{faultFrom, tableFault}
-use Rattle.symbol.specs.Sections.{Accepted}
-use Rattle.symbol.specs.Symbols.{Overload, Symbols}
-use Rattle.symbol.specs.Table.{Record, recordsFrom, recordsOf, frontRecord}
-use Rattle.symbol.specs.declared.checks.Sections.{Sections}
-use Rattle.symbol.specs.declared.functions.Function.{Function}
-use Rattle.symbol.specs.declared.lookups.Found.{Found}
-use Rattle.symbol.specs.declared.lookups.Found.the-variants.{Nothing, Here}
-use Rattle.symbol.specs.declared.lookups.Place.{Place}
-use Rattle.ty.proofs.Choice.{by-choice}
-use Rattle.ty.specs.Choose.{choose}
 use Rattle.overload.proofs.Chosen.{picked-snoc, picked-few, picked-usable, own-here, own-later}
 use Rattle.overload.proofs.Tallies.{tally-start, tally-as, tally-room}
 use Rattle.overload.specs.Arg.{Arg, Verdict}
@@ -30,6 +16,20 @@ use Rattle.overload.specs.Resolve.{resolveIn, resolve}
 use Rattle.overload.specs.Tally.{taken, picked, mostDiagnostics, Room, TallyIs, CalledIs}
 use Rattle.overload.specs.declared.calls.Called.{Called}
 use Rattle.overload.specs.declared.calls.Tally.{Tally}
+use Rattle.symbol.specs.Answer.{FunctionAt, FunctionIs, FunctionFound, FunctionRead, functionsFrom, overloadAt}
+use Rattle.symbol.specs.Front.{headOf}
+use Rattle.symbol.specs.Lookup.{recordsWith, overloadOf, symbolsIn, symbolsOf}
+use Rattle.symbol.specs.Refused.{faultFrom, tableFault}
+use Rattle.symbol.specs.Sections.{Accepted}
+use Rattle.symbol.specs.Symbols.{Overload, Symbols}
+use Rattle.symbol.specs.Table.{Record, recordsFrom, recordsOf}
+use Rattle.symbol.specs.declared.checks.Sections.{Sections}
+use Rattle.symbol.specs.declared.functions.Function.{Function}
+use Rattle.symbol.specs.declared.lookups.Found.the-variants.{Nothing, Here}
+use Rattle.symbol.specs.declared.lookups.Found.{Found}
+use Rattle.symbol.specs.declared.lookups.Place.{Place}
+use Rattle.ty.proofs.Choice.{by-choice}
+use Rattle.ty.specs.Choose.{choose}
 
 -- ---- how long a list is
 records-few : (s : List ℕ) (n : ℕ) → length (recordsFrom s n) ≤ length s
@@ -161,6 +161,13 @@ module _ (t : List ℕ) (S : Symbols) (owner id : ℕ) (k : Bool) (n : ℕ) (xs 
             rest = v;
             tally = tally-as t S xs b₀ n₀ b′ _ w′ tally _ (sym (picked-snoc k n (is .done) (overloadAt t p)));
           }
+
+-- no count wraps
+pub walked-room : (t : List ℕ) (s : Sections) (owner id : ℕ) (k : Bool) (n : ℕ) (xs : List Arg) (b₀ : List ℕ) (n₀ : ℕ) (b : List ℕ) (w : Tally) → Accepted t s
+    → TallyIs t (symbolsOf t) xs b₀ n₀ b (picked k n (symbolsOf t .functionsOf owner id)) w → length xs ≤ 16 → n₀ + mostDiagnostics ≤ countLimit → Room w
+walked-room t s owner id k n xs b₀ n₀ b w h is short room =
+    tally-room t (symbolsOf t) xs b₀ n₀ b (picked k n (symbolsOf t .functionsOf owner id)) w is
+    (omega (arith, picked-few k n (symbolsOf t .functionsOf owner id), functions-few t s owner id h)) short room
 
 -- the list of the definition is the one that was walked
 pub resolved : (t : List ℕ) (S : Symbols) (os : List Overload) (node n : ℕ) (xs : List Arg) (b : List ℕ) (c : ℕ) (b′ : List ℕ) (r : Called) (k : Bool) → k ≡ anyOwn os

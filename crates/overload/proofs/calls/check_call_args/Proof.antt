@@ -1,12 +1,10 @@
-use Rattle.overload.proofs.Chosen.{picked-few}
-use Rattle.overload.proofs.Rows.{args-length}
-use Rattle.overload.proofs.Settled.{settled-nothing}
-use Rattle.overload.proofs.Tallies.{tally-room, tally-place}
-use Rattle.overload.proofs.Walks.{functions-few, resolved}
-use Rattle.symbol.specs.Lookup.{symbolsOf}
+use borrow.Author.Needs.{needs}
 use mathlib.Core.Path.{sym}
 use native.Mathlib.Omega.{arith}
-use borrow.Author.Needs.{needs}
+use Rattle.overload.proofs.Rows.{args-length, args-short}
+use Rattle.overload.proofs.Settled.{settled-nothing}
+use Rattle.overload.proofs.Tallies.{tally-place}
+use Rattle.overload.proofs.Walks.{walked-room, resolved}
 use Rattle.overload.proofs.calls.check_call_args.Statement.{statement}
 use Rattle.overload.proofs.calls.check_call_args.Tie as tie
 
@@ -20,46 +18,27 @@ enum-told : tie.Need-enum-told
 enum-told c = search needs
 
 none-fits-requires : tie.Need-none-fits-requires
-none-fits-requires c κs = let room = (tally-room _ _ _ _ _ _ _ _ ((c .before .before .before .before .before .walk .ensures))
-    (omega (arith, picked-few ((c .before .before .before .before .before .before .before .any-own .result)) ((c .before .before .before .before .before .before .before .before .before .before .before .before .args .args .count)) (symbolsOf ((c .before .before .before .before .before .before .before .before .before .before .before .before .args .table .now)) .functionsOf ((c .before .before .before .before .before .before .before .before .before .before .before .before .args .owner)) ((c .before .before .before .before .before .before .before .before .before .before .before .before .args .id))), functions-few ((c .before .before .before .before .before .before .before .before .before .before .before .before .args .table .now)) ((c .before .before .before .before .before .before .before .before .before .before .before .before .args .sections)) ((c .before .before .before .before .before .before .before .before .before .before .before .before .args .owner)) ((c .before .before .before .before .before .before .before .before .before .before .before .before .args .id)) ((c .before .before .before .before .before .before .before .before .before .before .before .before .pre .0))))
-    (omega (arith, args-length ((c .before .before .before .before .before .before .before .before .before .before .before .before .args .area .now)) ((c .before .before .before .before .before .before .before .before .before .before .before .before .args .lens .now)) ((c .before .before .before .before .before .before .before .before .before .before .before .before .args .args)) 0 ((c .before .before .before .before .before .before .before .before .before .before .before .before .args .args .count)), (c .before .before .before .before .before .before .before .before .before .before .before .before .pre .1))) ((c .before .before .before .before .before .before .before .before .before .before .before .before .pre .2))) in omega (arith, room .count)
+none-fits-requires c κs = let room = (walked-room _ _ _ _ _ _ _ _ _ _ _ ((c .before .before .before .before .before .before .before .before .before .before .before .before .pre .0)) ((c .before .before .before .before .before .walk .ensures)) (args-short _ _ _ ((c .before .before .before .before .before .before .before .before .before .before .before .before .pre .1))) ((c .before .before .before .before .before .before .before .before .before .before .before .before .pre .2))) in omega (arith, room .count)
 
 enum-known-first : tie.Need-enum-known-first
 enum-known-first c = search needs
 
 settle-requires : tie.Need-settle-requires
-settle-requires c κs = (
-  (c .before .before .before .before .before .before .before .before .before .before .before .before .before .pre .0),
-  tally-place _ _ _ _ _ _ _ _ ((c .before .before .before .before .before .before .walk .ensures)) _ ((c .before .before .first .given .1)),
-  (c .before .before .before .before .before .before .before .before .before .before .before .before .before .pre .1),
-  (tally-room _ _ _ _ _ _ _ _ ((c .before .before .before .before .before .before .walk .ensures))
-      (omega (arith, picked-few ((c .before .before .before .before .before .before .before .before .any-own .result)) ((c .before .before .before .before .before .before .before .before .before .before .before .before .before .args .args .count)) (symbolsOf ((c .before .before .before .before .before .before .before .before .before .before .before .before .before .args .table .now)) .functionsOf ((c .before .before .before .before .before .before .before .before .before .before .before .before .before .args .owner)) ((c .before .before .before .before .before .before .before .before .before .before .before .before .before .args .id))), functions-few ((c .before .before .before .before .before .before .before .before .before .before .before .before .before .args .table .now)) ((c .before .before .before .before .before .before .before .before .before .before .before .before .before .args .sections)) ((c .before .before .before .before .before .before .before .before .before .before .before .before .before .args .owner)) ((c .before .before .before .before .before .before .before .before .before .before .before .before .before .args .id)) ((c .before .before .before .before .before .before .before .before .before .before .before .before .before .pre .0))))
-      (omega (arith, args-length ((c .before .before .before .before .before .before .before .before .before .before .before .before .before .args .area .now)) ((c .before .before .before .before .before .before .before .before .before .before .before .before .before .args .lens .now)) ((c .before .before .before .before .before .before .before .before .before .before .before .before .before .args .args)) 0 ((c .before .before .before .before .before .before .before .before .before .before .before .before .before .args .args .count)), (c .before .before .before .before .before .before .before .before .before .before .before .before .before .pre .1))) ((c .before .before .before .before .before .before .before .before .before .before .before .before .before .pre .2))),
-)
+settle-requires c κs = ((c .before .before .before .before .before .before .before .before .before .before .before .before .before .pre .0), tally-place _ _ _ _ _ _ _ _ ((c .before .before .before .before .before .before .walk .ensures)) _ ((c .before .before .first .given .1)), (c .before .before .before .before .before .before .before .before .before .before .before .before .before .pre .1), (walked-room _ _ _ _ _ _ _ _ _ _ _ ((c .before .before .before .before .before .before .before .before .before .before .before .before .before .pre .0)) ((c .before .before .before .before .before .before .walk .ensures)) (args-short _ _ _ ((c .before .before .before .before .before .before .before .before .before .before .before .before .before .pre .1))) ((c .before .before .before .before .before .before .before .before .before .before .before .before .before .pre .2))))
 
 same-length : tie.Need-same-length
 same-length c = search needs
 
 returns : tie.Need-returns
-returns c = resolved _ _ _ _ _ _ _ _ _ _ _ ((c .before .before .before .before .before .before .before .before .before .before .any-own .ensures)) (sym (args-length ((c .before .before .before .before .before .before .before .before .before .before .before .before .before .before .before .args .area .now)) ((c .before .before .before .before .before .before .before .before .before .before .before .before .before .before .before .args .lens .now)) ((c .before .before .before .before .before .before .before .before .before .before .before .before .before .before .before .args .args)) 0 ((c .before .before .before .before .before .before .before .before .before .before .before .before .before .before .before .args .args .count)))) (settled-nothing _ _ _ _ _ _ _ _ _ _ ((c .before .before .before .before .before .before .before .before .walk .ensures)) ((c .before .before .before .before .enum-told .given .1)) _ (sym (args-length ((c .before .before .before .before .before .before .before .before .before .before .before .before .before .before .before .args .area .now)) ((c .before .before .before .before .before .before .before .before .before .before .before .before .before .before .before .args .lens .now)) ((c .before .before .before .before .before .before .before .before .before .before .before .before .before .before .before .args .args)) 0 ((c .before .before .before .before .before .before .before .before .before .before .before .before .before .before .before .args .args .count)))) _ _ ((c .before .before .none-fits .ensures) ((c .before .before .before .before .before .before .before .before .before .before .before .before .before .before .before .args .table .now))))
+returns c = resolved _ _ _ _ _ _ _ _ _ _ _ ((c .before .before .before .before .before .before .before .before .before .before .any-own .ensures)) (sym (args-length _ _ _ 0 _)) (settled-nothing _ _ _ _ _ _ _ _ _ _ ((c .before .before .before .before .before .before .before .before .walk .ensures)) ((c .before .before .before .before .enum-told .given .1)) _ (sym (args-length _ _ _ 0 _)) _ _ ((c .before .before .none-fits .ensures) ((c .before .before .before .before .before .before .before .before .before .before .before .before .before .before .before .args .table .now))))
 
 same-length-2 : tie.Need-same-length-2
 same-length-2 c = search needs
 
 returns-2 : tie.Need-returns-2
-returns-2 c = resolved _ _ _ _ _ _ _ _ _ _ _ ((c .before .before .before .before .before .before .before .before .before .before .before .any-own .ensures)) (sym (args-length ((c .before .before .before .before .before .before .before .before .before .before .before .before .before .before .before .before .args .area .now)) ((c .before .before .before .before .before .before .before .before .before .before .before .before .before .before .before .before .args .lens .now)) ((c .before .before .before .before .before .before .before .before .before .before .before .before .before .before .before .before .args .args)) 0 ((c .before .before .before .before .before .before .before .before .before .before .before .before .before .before .before .before .args .args .count)))) ((c .before .before .settle .ensures) ((c .before .before .before .before .before .before .before .before .before .before .before .any-own .result)) _ _ _ ((c .before .before .before .before .before .first .given .1)) ((c .before .before .before .before .before .before .before .before .before .walk .ensures)))
+returns-2 c = resolved _ _ _ _ _ _ _ _ _ _ _ ((c .before .before .before .before .before .before .before .before .before .before .before .any-own .ensures)) (sym (args-length _ _ _ 0 _)) ((c .before .before .settle .ensures) ((c .before .before .before .before .before .before .before .before .before .before .before .any-own .result)) _ _ _ ((c .before .before .before .before .before .first .given .1)) ((c .before .before .before .before .before .before .before .before .before .walk .ensures)))
 
 pub check-call-args-spec : {M : Type 1} → statement M
 check-call-args-spec =
     tie.close
-    (tie.spec
-    any-own-requires
-    walk-requires
-    enum-told
-    none-fits-requires
-    enum-known-first
-    settle-requires
-    same-length
-    returns
-    same-length-2
-    returns-2)
+    (tie.spec any-own-requires walk-requires enum-told none-fits-requires enum-known-first settle-requires same-length returns same-length-2 returns-2)

@@ -6,19 +6,10 @@ use Rattle.overload.proofs.calls.none_fits.Tie as tie
 use Rattle.overload.specs.Resolve.{noneFits}
 use Rattle.ty.specs.Choose.{choose}
 
-report-requires : tie.Need-report-requires
-report-requires c κs = search needs
-
-same-length : tie.Need-same-length
-same-length c = search needs
-
-returns : tie.Need-returns
-unfolding noneFits choose
-returns c = λ t. rw ((c .before .before .before .before .if1 .taken)) (called-error t _ _ _ _ _ (reported-one _ _ _ _ _ ((c .before .before .report .ensures .0)) ((c .before .before .report .ensures .1))))
-
-returns-2 : tie.Need-returns-2
-unfolding noneFits choose
-returns-2 c = λ t. rw ((c .if1 .left)) (called-error t _ _ _ _ _ (reported-none _ _))
-
 pub none-fits-spec : {M : Type 1} → statement M
-none-fits-spec = tie.close (tie.spec report-requires same-length returns returns-2)
+unfolding noneFits choose
+none-fits-spec = tie.close (tie.spec
+    (λ c κs. search needs)
+    (λ c. search needs)
+    (λ c. λ t. rw ((c .before .before .before .before .if1 .taken)) (called-error t _ _ _ _ _ (reported-one _ _ _ _ _ ((c .before .before .report .ensures .0)) ((c .before .before .report .ensures .1)))))
+    (λ c. λ t. rw ((c .if1 .left)) (called-error t _ _ _ _ _ (reported-none _ _))))

@@ -12,42 +12,14 @@ use Rattle.overload.specs.Score.{score}
 use Rattle.symbol.specs.Lookup.{symbolsOf}
 use Rattle.symbol.specs.Symbols.{Overload}
 
-unknown-names-requires : tie.Need-unknown-names-requires
-unknown-names-requires c κs = search needs
-
-score-function-requires : tie.Need-score-function-requires
-score-function-requires c κs = search needs
-
-first-of-requires : tie.Need-first-of-requires
-first-of-requires c κs = search needs
-
-higher-requires : tie.Need-higher-requires
-higher-requires c κs = search needs
-
-add-t19 : tie.Need-add-t19
-add-t19 c = omega (arith, (c .before .before .before .before .before .before .before .before .before .before .before .before .before .before .pre .4 .fitting))
-
-same-length : tie.Need-same-length
-same-length c = search needs
-
-returns : tie.Need-returns
-returns c = λ b n vs is.
-    let xs = argsIn ((c .before .before .before .before .before .before .before .before .before .before .before .before .before .before .args .area .now)) ((c .before .before .before .before .before .before .before .before .before .before .before .before .before .before .args .lens .now)) ((c .before .before .before .before .before .before .before .before .before .before .before .before .before .before .args .args)) in
-    let same = (c .before .before .before .before .before .before .before .before .before .before .before .before .before .before .pre .2 .same) in
-    tally-more _ _ _ b n _ vs _ is _ _ _ _ _ _ ((c .before .before .before .before .before .before .before .before .before .before .before .before .before .before .pre .1)) ((c .before .before .first-of .ensures))
-    ((c .before .before .before .score-function .ensures) ∙ ap (λ (o : Overload). score (symbolsOf ((c .before .before .before .before .before .before .before .before .before .before .before .before .before .before .args .table .now))) o xs) same)
-    ((c .before .higher .ensures .1) ((c .before .before .before .before .before .before .before .before .before .before .before .before .before .before .args .table .now)) (chosen (symbolsOf ((c .before .before .before .before .before .before .before .before .before .before .before .before .before .before .args .table .now))) nobody vs xs) _ (is .highest) (ap (λ (o : Overload). o .result) same))
-    ((c .before .higher .ensures .0))
-    (reported-as (ap (λ (o : Overload). unknowns (o .params) 1 xs) same) ((c .before .before .before .before .before .before .unknown-names .ensures) ((c .before .before .before .before .before .before .before .before .before .before .before .before .before .before .args .table .now)) ((c .before .before .before .before .before .before .before .before .before .before .before .before .before .before .args .area .now)) ((c .before .before .before .before .before .before .before .before .before .before .before .before .before .before .args .lens .now))))
-
 pub take-one-spec : {M : Type 1} → statement M
 take-one-spec =
     tie.close
     (tie.spec
-    unknown-names-requires
-    score-function-requires
-    first-of-requires
-    higher-requires
-    add-t19
-    same-length
-    returns)
+    (λ c κs. search needs)
+    (λ c κs. search needs)
+    (λ c κs. search needs)
+    (λ c κs. search needs)
+    (λ c. omega (arith, (c .before .before .before .before .before .before .before .before .before .before .before .before .before .before .pre .4 .fitting)))
+    (λ c. search needs)
+    (λ c. λ b n vs is. let xs = argsIn ((c .before .before .before .before .before .before .before .before .before .before .before .before .before .before .args .area .now)) ((c .before .before .before .before .before .before .before .before .before .before .before .before .before .before .args .lens .now)) ((c .before .before .before .before .before .before .before .before .before .before .before .before .before .before .args .args)) in let same = (c .before .before .before .before .before .before .before .before .before .before .before .before .before .before .pre .2 .same) in tally-more _ _ _ b n _ vs _ is _ _ _ _ _ _ ((c .before .before .before .before .before .before .before .before .before .before .before .before .before .before .pre .1)) ((c .before .before .first-of .ensures)) ((c .before .before .before .score-function .ensures) ∙ ap (λ (o : Overload). score (symbolsOf ((c .before .before .before .before .before .before .before .before .before .before .before .before .before .before .args .table .now))) o xs) same) ((c .before .higher .ensures .1) ((c .before .before .before .before .before .before .before .before .before .before .before .before .before .before .args .table .now)) (chosen (symbolsOf ((c .before .before .before .before .before .before .before .before .before .before .before .before .before .before .args .table .now))) nobody vs xs) _ (is .highest) (ap (λ (o : Overload). o .result) same)) ((c .before .higher .ensures .0)) (reported-as (ap (λ (o : Overload). unknowns (o .params) 1 xs) same) ((c .before .before .before .before .before .before .unknown-names .ensures) ((c .before .before .before .before .before .before .before .before .before .before .before .before .before .before .args .table .now)) ((c .before .before .before .before .before .before .before .before .before .before .before .before .before .before .args .area .now)) ((c .before .before .before .before .before .before .before .before .before .before .before .before .before .before .args .lens .now))))))

@@ -9,35 +9,14 @@ use Rattle.overload.proofs.calls.turn.Tie as tie
 use Rattle.overload.specs.Arity.{fits}
 use Rattle.symbol.specs.Symbols.{Overload}
 
-read-function-requires : tie.Need-read-function-requires
-read-function-requires c κs = search needs
-
-returns : tie.Need-returns
-returns c = λ b n vs is. tally-same _ _ _ b n _ vs _ is _ (taken-not _ _ _ (ap (λ (z : Bool). (c .before .before .before .before .before .before .before .args .own) && z) (sym (ap (λ (o : Overload). o .builtin) ((c .before .before .read-function .ensures .same)))) ∙ (c .if1 .taken)))
-
-viable-requires : tie.Need-viable-requires
-viable-requires c κs = search needs
-
-take-one-requires : tie.Need-take-one-requires
-take-one-requires c κs = search needs
-
-same-length : tie.Need-same-length
-same-length c = search needs
-
-returns-2 : tie.Need-returns-2
-returns-2 c = λ b n vs is. tally-as _ _ _ b n _ _ _ ((c .before .before .take-one .ensures) b n vs is) _ (ap (λ (us : List Overload). vs ++ us) (sym (taken-fits _ _ _ (ap (λ (z : Bool). (c .before .before .before .before .before .before .before .before .before .before .before .before .before .args .own) && z) (sym (ap (λ (o : Overload). o .builtin) ((c .before .before .before .before .before .before .before .before .read-function .ensures .same)))) ∙ (c .before .before .before .before .before .before .if1 .left)) (sym ((c .before .before .before .before .before .viable .ensures) ((c .before .before .before .before .before .before .before .before .before .before .before .before .before .args .table .now)) ∙ ap (λ (o : Overload). fits ((c .before .before .before .before .before .before .before .before .before .before .before .before .before .args .args .count)) o) ((c .before .before .before .before .before .before .before .before .read-function .ensures .same))) ∙ (c .before .before .before .before .if2 .taken)))))
-
-returns-3 : tie.Need-returns-3
-returns-3 c = λ b n vs is. tally-same _ _ _ b n _ vs _ is _ (taken-other _ _ _ (ap (λ (z : Bool). (c .before .before .before .before .before .before .before .before .before .args .own) && z) (sym (ap (λ (o : Overload). o .builtin) ((c .before .before .before .before .read-function .ensures .same)))) ∙ (c .before .before .if1 .left)) (sym ((c .before .viable .ensures) ((c .before .before .before .before .before .before .before .before .before .args .table .now)) ∙ ap (λ (o : Overload). fits ((c .before .before .before .before .before .before .before .before .before .args .args .count)) o) ((c .before .before .before .before .read-function .ensures .same))) ∙ (c .if2 .left)))
-
 pub turn-spec : {M : Type 1} → statement M
 turn-spec =
     tie.close
     (tie.spec
-    read-function-requires
-    returns
-    viable-requires
-    take-one-requires
-    same-length
-    returns-2
-    returns-3)
+    (λ c κs. search needs)
+    (λ c. λ b n vs is. tally-same _ _ _ b n _ vs _ is _ (taken-not _ _ _ (ap (λ (z : Bool). (c .before .before .before .before .before .before .before .args .own) && z) (sym (ap (λ (o : Overload). o .builtin) ((c .before .before .read-function .ensures .same)))) ∙ (c .if1 .taken))))
+    (λ c κs. search needs)
+    (λ c κs. search needs)
+    (λ c. search needs)
+    (λ c. λ b n vs is. tally-as _ _ _ b n _ _ _ ((c .before .before .take-one .ensures) b n vs is) _ (ap (λ (us : List Overload). vs ++ us) (sym (taken-fits _ _ _ (ap (λ (z : Bool). (c .before .before .before .before .before .before .before .before .before .before .before .before .before .args .own) && z) (sym (ap (λ (o : Overload). o .builtin) ((c .before .before .before .before .before .before .before .before .read-function .ensures .same)))) ∙ (c .before .before .before .before .before .before .if1 .left)) (sym ((c .before .before .before .before .before .viable .ensures) ((c .before .before .before .before .before .before .before .before .before .before .before .before .before .args .table .now)) ∙ ap (λ (o : Overload). fits ((c .before .before .before .before .before .before .before .before .before .before .before .before .before .args .args .count)) o) ((c .before .before .before .before .before .before .before .before .read-function .ensures .same))) ∙ (c .before .before .before .before .if2 .taken))))))
+    (λ c. λ b n vs is. tally-same _ _ _ b n _ vs _ is _ (taken-other _ _ _ (ap (λ (z : Bool). (c .before .before .before .before .before .before .before .before .before .args .own) && z) (sym (ap (λ (o : Overload). o .builtin) ((c .before .before .before .before .read-function .ensures .same)))) ∙ (c .before .before .if1 .left)) (sym ((c .before .viable .ensures) ((c .before .before .before .before .before .before .before .before .before .args .table .now)) ∙ ap (λ (o : Overload). fits ((c .before .before .before .before .before .before .before .before .before .args .args .count)) o) ((c .before .before .before .before .read-function .ensures .same))) ∙ (c .if2 .left)))))

@@ -9,16 +9,9 @@ use Rattle.overload.specs.Score.{comparedWith}
 use Rattle.symbol.specs.Lookup.{symbolsOf}
 use Rattle.symbol.specs.Symbols.{Param}
 
-compare-requires : tie.Need-compare-requires
-compare-requires c κs = search needs
-
-returns : tie.Need-returns
-unfolding comparedWith
-returns c = ((c .compare .ensures .0) ∙ sym (ap (λ (o : Option Param). comparedWith (symbolsOf ((c .before .before .before .before .before .args .table .now))) o ((c .before .before .before .before .before .args .x .now))) (param-there _ _ _ ((c .before .if1 .taken)))), (c .compare .ensures .1))
-
-returns-2 : tie.Need-returns-2
-unfolding comparedWith
-returns-2 c = (score-none ∙ sym (ap (λ (o : Option Param). comparedWith (symbolsOf ((c .before .before .before .before .args .table .now))) o ((c .before .before .before .before .args .x .now))) (param-missing _ _ _ ((c .if1 .left)))), omega arith)
-
 pub compare-with-spec : {M : Type 1} → statement M
-compare-with-spec = tie.close (tie.spec compare-requires returns returns-2)
+unfolding comparedWith
+compare-with-spec = tie.close (tie.spec
+    (λ c κs. search needs)
+    (λ c. ((c .compare .ensures .0) ∙ sym (ap (λ (o : Option Param). comparedWith (symbolsOf ((c .before .before .before .before .before .args .table .now))) o ((c .before .before .before .before .before .args .x .now))) (param-there _ _ _ ((c .before .if1 .taken)))), (c .compare .ensures .1)))
+    (λ c. (score-none ∙ sym (ap (λ (o : Option Param). comparedWith (symbolsOf ((c .before .before .before .before .args .table .now))) o ((c .before .before .before .before .args .x .now))) (param-missing _ _ _ ((c .if1 .left)))), omega arith)))

@@ -5,17 +5,9 @@ use Rattle.overload.proofs.Scores.{score-some, named-none, named-some}
 use Rattle.overload.proofs.score.named_one.Statement.{statement}
 use Rattle.overload.proofs.score.named_one.Tie as tie
 
-returns : tie.Need-returns
-returns c = (score-some 0 ∙ named-none _ _ _ _ ((c .if1 .taken)), omega arith)
-
-place-of-requires : tie.Need-place-of-requires
-place-of-requires c κs = search needs
-
-compare-with-requires : tie.Need-compare-with-requires
-compare-with-requires c κs = search needs
-
-returns-2 : tie.Need-returns-2
-returns-2 c = ((c .compare-with .ensures .0) ∙ named-some _ ((c .before .before .before .before .before .args .table .now)) _ _ _ _ ((c .before .place-of .ensures) ((c .before .before .before .before .before .args .table .now))) ((c .before .before .if1 .left)), (c .compare-with .ensures .1))
-
 pub named-one-spec : {M : Type 1} → statement M
-named-one-spec = tie.close (tie.spec returns place-of-requires compare-with-requires returns-2)
+named-one-spec = tie.close (tie.spec
+    (λ c. (score-some 0 ∙ named-none _ _ _ _ ((c .if1 .taken)), omega arith))
+    (λ c κs. search needs)
+    (λ c κs. search needs)
+    (λ c. ((c .compare-with .ensures .0) ∙ named-some _ ((c .before .before .before .before .before .args .table .now)) _ _ _ _ ((c .before .place-of .ensures) ((c .before .before .before .before .before .args .table .now))) ((c .before .before .if1 .left)), (c .compare-with .ensures .1))))

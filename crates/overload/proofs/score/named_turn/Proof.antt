@@ -8,17 +8,9 @@ use Rattle.overload.proofs.score.named_turn.Tie as tie
 use Rattle.overload.specs.Params.{scoreOf}
 use Rattle.overload.specs.Score.{plus}
 
-named-one-requires : tie.Need-named-one-requires
-named-one-requires c κs = search needs
-
-add-requires : tie.Need-add-requires
-add-requires c κs = search needs
-
-mark-one-requires : tie.Need-mark-one-requires
-mark-one-requires c κs = search needs
-
-returns : tie.Need-returns
-returns c = ((c .before .add .ensures .0) ∙ ap (λ (z : Option ℕ). plus (scoreOf ((c .before .before .before .before .before .before .before .args .m .score))) z) ((c .before .before .named-one .ensures .0)), (c .mark-one .ensures) ((c .before .before .before .before .before .before .before .args .table .now)), omega (arith, (c .before .add .ensures .1), (c .before .before .named-one .ensures .1)))
-
 pub named-turn-spec : {M : Type 1} → statement M
-named-turn-spec = tie.close (tie.spec named-one-requires add-requires mark-one-requires returns)
+named-turn-spec = tie.close (tie.spec
+    (λ c κs. search needs)
+    (λ c κs. search needs)
+    (λ c κs. search needs)
+    (λ c. ((c .before .add .ensures .0) ∙ ap (λ (z : Option ℕ). plus (scoreOf ((c .before .before .before .before .before .before .before .args .m .score))) z) ((c .before .before .named-one .ensures .0)), (c .mark-one .ensures) ((c .before .before .before .before .before .before .before .args .table .now)), omega (arith, (c .before .add .ensures .1), (c .before .before .named-one .ensures .1)))))
