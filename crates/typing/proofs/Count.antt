@@ -1,11 +1,9 @@
 -- How many diagnostics a judgement has: at most 3,840,067 for each node of its tree. (A call reports at most 2 before its arguments, an unknown name for each of
 -- its at most 64 arguments and 60,000 overloads, and 65 more.) Assumes nothing.
-use Prim.Native.Nat.{ℕ, zero, suc, _+_, _-_, _*_, _≤_, _<_}
-use borrow.Author.Tests.{ltb-false}
-use lib.Dec.{ltb}
+use Prim.Native.Nat.{ℕ, suc, _+_, _*_, _≤_, _<_}
 use lib.ListN.{length, length-append}
 use mathlib.Core.Bool.{Bool, true, false}
-use mathlib.Core.List.{List, [], _∷_, _++_, map}
+use mathlib.Core.List.{List, [], _∷_, _++_}
 use mathlib.Core.Option.{Option, none, some}
 use mathlib.Core.Path.{_≡_, refl, ap, sym}
 use native.Mathlib.Omega.{arith}
@@ -32,11 +30,10 @@ use Rattle.rules.specs.Diagnostic.{logicalDiag}
 use Rattle.rules.specs.Member.{variableMember, pairMember, collectionMember, stringMember, elementMember, mapMember, classMember, namedMember, kindMember, visibilityReport, memberReport, baseMember, memberOut}
 use Rattle.rules.specs.Out.{Report, Out, report, unless, found}
 use Rattle.rules.specs.Unary.{unaryOf, unaryOut}
-use Rattle.symbol.specs.Front.{headOf}
-use Rattle.symbol.specs.Lookup.{recordsWith, overloadOf, symbolsIn, symbolsOf}
-use Rattle.symbol.specs.Refused.{faultFrom, tableFault}
+use Rattle.symbol.proofs.Goods.{functions-few}
+use Rattle.symbol.specs.Lookup.{symbolsOf}
+use Rattle.symbol.specs.Refused.{tableFault}
 use Rattle.symbol.specs.Symbols.{Param, Overload, Symbols}
-use Rattle.symbol.specs.Table.{Record, recordsFrom, recordsOf}
 use Rattle.ty.proofs.Choice.{by-choice}
 use Rattle.ty.specs.Bytes.{Ty}
 use Rattle.ty.specs.Choose.{choose}
@@ -345,36 +342,8 @@ module _ (S : Symbols) (H : Header) (fit : ListsFit S) where
           diags = omega (arith, w .diags, length-append (judge S H x n .diags) (judges S H r (after x n) .diags));
         }
 
--- ---- an accepted table's lists
-with-fewer : (k x y : ℕ) (rs : List Record) → length (recordsWith k x y rs) ≤ length rs
-unfolding recordsWith
-with-fewer k x y [] = omega arith
-with-fewer k x y (r ∷ rs) =
-    by-choice (λ (vs : List Record). length vs ≤ length (r ∷ rs)) _ (λ _. omega (arith, with-fewer k x y rs)) (λ _. omega (arith, with-fewer k x y rs))
-
-records-fewer : (bs : List ℕ) (n : ℕ) → length (recordsFrom bs n) ≤ length bs
-unfolding recordsFrom
-records-fewer [] n = omega arith
-records-fewer (b ∷ bs) (suc n) = omega (arith, records-fewer bs n)
-records-fewer (b ∷ bs) zero = omega (arith, records-fewer bs (headOf (b ∷ bs) .len - 1))
-
-map-length : (rs : List Record) → length (map overloadOf rs) ≡ length rs
-map-length [] = refl
-map-length (r ∷ rs) = ap suc (map-length rs)
-
-pub lists-fit : (t : List ℕ) → tableFault t ≡ 0 → ListsFit (symbolsOf t)
-unfolding symbolsIn tableFault choose
-lists-fit t e = record { lists = λ owner id. omega (arith, map-length (recordsWith 4 owner id (recordsOf t)), with-fewer 4 owner id (recordsOf t), records-fewer t 0, short) }
-  where
-    short : length t ≤ 60000
-    short = go (ltb 60000 (length t)) refl e
-      where
-        go : (b : Bool) → ltb 60000 (length t) ≡ b → choose b 1 (faultFrom [] (recordsOf t)) ≡ 0 → length t ≤ 60000
-        go true q z = absurd (omega arith)
-        go false q z = ltb-false 60000 (length t) q
-
 -- an accepted question under an accepted table has far fewer diagnostics than `report` can count
 pub few-diags : (t q : List ℕ) → tableFault t ≡ 0 → questionFault (namesOf t) q ≡ 0 → length (judgementOf t q .diags) < countLimit
 few-diags t q e f =
     let s : size (treeOf q) ≤ 64 = accepted (namesOf t) q f .tree .few in
-    omega (arith, diags-few (symbolsOf t) (headerOf q) (lists-fit t e) (treeOf q) 0 s)
+    omega (arith, diags-few (symbolsOf t) (headerOf q) (record { lists = functions-few t e }) (treeOf q) 0 s)

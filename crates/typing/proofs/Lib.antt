@@ -23,3 +23,4 @@ pub mod Marked
 pub mod Drawn
 pub mod Wrong
 pub mod Count
+pub mod Distinct
