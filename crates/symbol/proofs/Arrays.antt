@@ -60,6 +60,11 @@ module _ (t : List ℕ) where
   unfolding paramsRow
   row-rest p i n = refl
 
+  pub row-length : (p : Params) (i n : ℕ) → length (paramsRow t p i n) ≡ n
+  unfolding paramsRow
+  row-length p i zero = refl
+  row-length p i (suc n) = ap suc (row-length p (suc i) n)
+
 -- the arrays have 16 places
 pub record Sized (p : Params) : Type 0 where
   pub names : length (p .names) ≡ 16

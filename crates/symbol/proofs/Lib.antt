@@ -9,6 +9,7 @@ pub mod Keys
 pub mod Marks
 pub mod Cleans
 pub mod Passes
+pub mod Verdicts
 pub mod Accepts
 pub mod Finds
 pub mod Lists

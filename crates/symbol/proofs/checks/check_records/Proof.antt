@@ -20,7 +20,7 @@ new-requires-2 : tie.Need-new-requires-2 Inv-loop μ-loop
 new-requires-2 c κs = search needs
 
 loop-holds : tie.Need-loop-holds Inv-loop μ-loop
-loop-holds c = going-start _ _ _ _ ((c .before .before .before .pre)) ((c .before .new .ensures)) (length-replicate {A = ℕ} 65536 0) (λ id. zeros 65536 id)
+loop-holds c = going-start _ _ _ _ (c .before .before .before .pre) (c .before .new .ensures) (length-replicate {A = ℕ} 65536 0) (λ id. zeros 65536 id)
 
 step-requires : tie.Need-step-requires Inv-loop μ-loop
 step-requires c κs = ((c .if1 .taken), (c .before .before .loop .inv .at .behind))
@@ -44,13 +44,13 @@ is-marked-requires : tie.Need-is-marked-requires Inv-loop μ-loop
 is-marked-requires c κs = search needs
 
 record-fault-requires : tie.Need-record-fault-requires Inv-loop μ-loop
-record-fault-requires c κs = going-asked ((c .before .before .before .before .before .before .before .before .before .before .before .before .args .t .now)) ((c .before .before .before .before .before .before .before .before .loop .marks)) ((c .before .before .before .before .before .before .before .before .loop .c)) ((c .before .before .before .before .before .before .before .before .loop .kind)) ((c .before .before .before .before .before .before .before .before .loop .names)) ((c .before .before .before .before .before .before .before .before .loop .sections)) ((c .before .before .before .before .before .before .before .before .loop .inv)) ((c .before .before .before .before .before .step .result)) ((c .before .before .before .before .before .step .ensures)) ((c .before .before .before .before .before .before .if1 .taken)) ((c .before .before .before .bucket .result)) ((c .before .before .before .bucket .ensures .0)) ((c .before .before .index .result)) ((c .before .before .index .ensures .0)) ((c .before .is-fresh .result)) ((c .is-marked .result)) ((c .before .is-fresh .ensures)) ((c .is-marked .ensures))
+record-fault-requires c κs = going-asked (c .before .before .before .before .before .before .before .before .before .before .before .before .args .t .now) (c .before .before .before .before .before .before .before .before .loop .marks) (c .before .before .before .before .before .before .before .before .loop .c) (c .before .before .before .before .before .before .before .before .loop .kind) (c .before .before .before .before .before .before .before .before .loop .names) (c .before .before .before .before .before .before .before .before .loop .sections) (c .before .before .before .before .before .before .before .before .loop .inv) (c .before .before .before .before .before .step .result) (c .before .before .before .before .before .step .ensures) (c .before .before .before .before .before .before .if1 .taken) (c .before .before .before .bucket .result) (c .before .before .before .bucket .ensures .0) (c .before .before .index .result) (c .before .before .index .ensures .0) (c .before .is-fresh .result) (c .is-marked .result) (c .before .is-fresh .ensures) (c .is-marked .ensures)
 
 refuse-requires : tie.Need-refuse-requires Inv-loop μ-loop
 refuse-requires c κs = search needs
 
 returns : tie.Need-returns Inv-loop μ-loop
-returns c = (c .refuse .ensures) ∙ going-refused ((c .before .before .before .before .before .before .before .before .before .before .before .before .before .before .before .args .t .now)) ((c .before .before .before .before .before .before .before .before .before .before .before .loop .marks)) ((c .before .before .before .before .before .before .before .before .before .before .before .loop .c)) ((c .before .before .before .before .before .before .before .before .before .before .before .loop .kind)) ((c .before .before .before .before .before .before .before .before .before .before .before .loop .names)) ((c .before .before .before .before .before .before .before .before .before .before .before .loop .sections)) ((c .before .before .before .before .before .before .before .before .before .before .before .loop .inv)) ((c .before .before .before .before .before .before .before .before .step .result)) ((c .before .before .before .before .before .before .before .before .step .ensures)) ((c .before .before .record-fault .result)) ((c .before .before .record-fault .ensures)) ((c .before .if2 .taken))
+returns c = (c .refuse .ensures) ∙ going-refused (c .before .before .before .before .before .before .before .before .before .before .before .before .before .before .before .args .t .now) (c .before .before .before .before .before .before .before .before .before .before .before .loop .marks) (c .before .before .before .before .before .before .before .before .before .before .before .loop .c) (c .before .before .before .before .before .before .before .before .before .before .before .loop .kind) (c .before .before .before .before .before .before .before .before .before .before .before .loop .names) (c .before .before .before .before .before .before .before .before .before .before .before .loop .sections) (c .before .before .before .before .before .before .before .before .before .before .before .loop .inv) (c .before .before .before .before .before .before .before .before .step .result) (c .before .before .before .before .before .before .before .before .step .ensures) (c .before .before .record-fault .result) (c .before .before .record-fault .ensures) (c .before .if2 .taken)
 
 array-write-marks : tie.Need-array-write-marks Inv-loop μ-loop
 array-write-marks c = search needs
@@ -68,13 +68,13 @@ loop-less : tie.Need-loop-less Inv-loop μ-loop
 loop-less c = omega (arith, (c .before .before .before .before .before .before .before .before .before .before .step .ensures .low), (c .before .before .before .before .before .before .before .before .before .before .step .ensures .high))
 
 loop-again : tie.Need-loop-again Inv-loop μ-loop
-loop-again c = going-next ((c .before .before .before .before .before .before .before .before .before .before .before .before .before .before .before .before .before .args .t .now)) ((c .before .before .before .before .before .before .before .before .before .before .before .before .before .loop .marks)) ((c .before .before .before .before .before .before .before .before .before .before .before .before .before .loop .c)) ((c .before .before .before .before .before .before .before .before .before .before .before .before .before .loop .kind)) ((c .before .before .before .before .before .before .before .before .before .before .before .before .before .loop .names)) ((c .before .before .before .before .before .before .before .before .before .before .before .before .before .loop .sections)) ((c .before .before .before .before .before .before .before .before .before .before .before .before .before .loop .inv)) ((c .before .before .before .before .before .before .before .before .before .before .step .result)) ((c .before .before .before .before .before .before .before .before .before .before .step .ensures)) ((c .before .before .before .before .record-fault .result)) ((c .before .before .before .before .record-fault .ensures)) ((c .before .before .before .if2 .left)) ((c .before .before .before .before .before .before .before .before .bucket .result)) ((c .before .before .before .before .before .before .before .before .bucket .ensures .0)) ((c .before .before .before .before .before .before .before .before .bucket .ensures .1)) ((c .before .name-count .result)) ((c .before .name-count .ensures .0)) ((c .before .name-count .ensures .1)) ((c .before .before .enter .result)) ((c .before .before .enter .ensures))
+loop-again c = going-next (c .before .before .before .before .before .before .before .before .before .before .before .before .before .before .before .before .before .args .t .now) (c .before .before .before .before .before .before .before .before .before .before .before .before .before .loop .marks) (c .before .before .before .before .before .before .before .before .before .before .before .before .before .loop .c) (c .before .before .before .before .before .before .before .before .before .before .before .before .before .loop .kind) (c .before .before .before .before .before .before .before .before .before .before .before .before .before .loop .names) (c .before .before .before .before .before .before .before .before .before .before .before .before .before .loop .sections) (c .before .before .before .before .before .before .before .before .before .before .before .before .before .loop .inv) (c .before .before .before .before .before .before .before .before .before .before .step .result) (c .before .before .before .before .before .before .before .before .before .before .step .ensures) (c .before .before .before .before .record-fault .result) (c .before .before .before .before .record-fault .ensures) (c .before .before .before .if2 .left) (c .before .before .before .before .before .before .before .before .bucket .result) (c .before .before .before .before .before .before .before .before .bucket .ensures .0) (c .before .before .before .before .before .before .before .before .bucket .ensures .1) (c .before .name-count .result) (c .before .name-count .ensures .0) (c .before .name-count .ensures .1) (c .before .before .enter .result) (c .before .before .enter .ensures)
 
 enter-requires-2 : tie.Need-enter-requires-2 Inv-loop μ-loop
 enter-requires-2 c κs = search needs
 
 returns-2 : tie.Need-returns-2 Inv-loop μ-loop
-returns-2 c = going-done ((c .before .before .before .before .before .before .before .args .t .now)) ((c .before .before .before .loop .marks)) ((c .before .before .before .loop .c)) ((c .before .before .before .loop .kind)) ((c .before .before .before .loop .names)) ((c .before .before .before .loop .sections)) ((c .before .before .before .loop .inv)) ((c .before .if1 .left)) ((c .enter2 .result)) ((c .enter2 .ensures))
+returns-2 c = going-done (c .before .before .before .before .before .before .before .args .t .now) (c .before .before .before .loop .marks) (c .before .before .before .loop .c) (c .before .before .before .loop .kind) (c .before .before .before .loop .names) (c .before .before .before .loop .sections) (c .before .before .before .loop .inv) (c .before .if1 .left) (c .enter2 .result) (c .enter2 .ensures)
 
 pub check-records-spec : {M : Type 1} → statement M
 check-records-spec =

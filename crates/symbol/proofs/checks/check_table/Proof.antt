@@ -9,7 +9,7 @@ refuse-requires : tie.Need-refuse-requires
 refuse-requires c κs = search needs
 
 returns : tie.Need-returns
-returns c = (c .refuse .ensures) ∙ refused ((c .before .before .before .args .table .now)) 1 (long-fault ((c .before .before .before .args .table .now)) ((c .before .if1 .taken))) (λ z. omega arith)
+returns c = (c .refuse .ensures) ∙ refused (c .before .before .before .args .table .now) 1 (long-fault (c .before .before .before .args .table .now) (c .before .if1 .taken)) (λ z. omega arith)
 
 check-records-requires : tie.Need-check-records-requires
 check-records-requires c κs = search needs

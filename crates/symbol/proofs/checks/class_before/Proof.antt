@@ -21,10 +21,10 @@ new-requires c κs = search needs
 
 loop-holds : tie.Need-loop-holds Inv-loop μ-loop
 unfolding hasClass before
-loop-holds c = (at-new _ _ ((c .new .ensures)), omega (arith, ap (λ (z : Cursor). z .index) ((c .new .ensures))), ap (λ (z : Cursor). hasClass ((c .before .before .args .id)) (before (z .index) (recordsOf ((c .before .before .args .t .now))))) (sym ((c .new .ensures))))
+loop-holds c = (at-new _ _ (c .new .ensures), omega (arith, ap (λ (z : Cursor). z .index) (c .new .ensures)), ap (λ (z : Cursor). hasClass (c .before .before .args .id) (before (z .index) (recordsOf (c .before .before .args .t .now)))) (sym (c .new .ensures)))
 
 step-requires : tie.Need-step-requires Inv-loop μ-loop
-step-requires c κs = (at-more _ _ ((c .before .before .before .loop .inv .0)) (omega (arith, (c .before .before .before .before .before .before .pre .count))), (c .before .before .before .loop .inv .0 .behind))
+step-requires c κs = (at-more _ _ (c .before .before .before .loop .inv .0) (omega (arith, (c .before .before .before .before .before .before .pre .count))), (c .before .before .before .loop .inv .0 .behind))
 
 is-class-requires : tie.Need-is-class-requires Inv-loop μ-loop
 is-class-requires c κs = search needs
@@ -34,10 +34,10 @@ loop-less c = omega (arith, (c .before .before .before .step .ensures .index))
 
 loop-again : tie.Need-loop-again Inv-loop μ-loop
 unfolding hasClass
-loop-again c = (at-next _ ((c .before .before .before .before .before .before .before .loop .c)) ((c .before .before .before .before .before .before .before .loop .inv .0)) ((c .before .before .before .step .result)) ((c .before .before .before .step .ensures)), omega (arith, (c .before .before .before .step .ensures .index)), rw (before-next ((c .before .before .before .before .before .before .before .before .before .before .args .t .now)) ((c .before .before .before .before .before .before .before .loop .c)) ((c .before .before .before .before .before .before .before .loop .inv .0)) ((c .before .before .before .step .result)) ((c .before .before .before .step .ensures)), (c .before .is-class .ensures), (c .before .before .before .before .before .before .before .loop .inv .2), ← (c .before .before .before .step .ensures .own)))
+loop-again c = (at-next _ (c .before .before .before .before .before .before .before .loop .c) (c .before .before .before .before .before .before .before .loop .inv .0) (c .before .before .before .step .result) (c .before .before .before .step .ensures), omega (arith, (c .before .before .before .step .ensures .index)), rw (before-next (c .before .before .before .before .before .before .before .before .before .before .args .t .now) (c .before .before .before .before .before .before .before .loop .c) (c .before .before .before .before .before .before .before .loop .inv .0) (c .before .before .before .step .result) (c .before .before .before .step .ensures), (c .before .is-class .ensures), (c .before .before .before .before .before .before .before .loop .inv .2), ← (c .before .before .before .step .ensures .own)))
 
 returns : tie.Need-returns Inv-loop μ-loop
-returns c = let e : (c .before .before .before .loop .c .index) ≡ (c .before .before .before .before .before .before .args .me .index) = omega arith in (c .before .before .before .loop .inv .2) ∙ ap (λ (k : ℕ). hasClass ((c .before .before .before .before .before .before .args .id)) (before k (recordsOf ((c .before .before .before .before .before .before .args .t .now))))) e
+returns c = let e : (c .before .before .before .loop .c .index) ≡ (c .before .before .before .before .before .before .args .me .index) = omega arith in (c .before .before .before .loop .inv .2) ∙ ap (λ (k : ℕ). hasClass (c .before .before .before .before .before .before .args .id) (before k (recordsOf (c .before .before .before .before .before .before .args .t .now)))) e
 
 pub class-before-spec : {M : Type 1} → statement M
 class-before-spec =

@@ -27,17 +27,17 @@ is-class-requires : tie.Need-is-class-requires Inv-loop μ-loop
 is-class-requires c κs = search needs
 
 returns : tie.Need-returns Inv-loop μ-loop
-returns c = sym (sym ((c .before .before .before .before .before .before .loop .inv .1)) ∙ class-here ((c .before .before .before .before .before .before .before .before .args .t .now)) ((c .before .before .before .before .before .before .loop .c)) ((c .before .before .before .before .before .before .loop .inv .0)) ((c .before .before .before .step .result)) ((c .before .before .before .step .ensures)) ((c .before .before .before .before .before .before .before .before .args .id)) ((c .before .is-class .result)) ((c .before .is-class .ensures)) ((c .if2 .taken)))
+returns c = sym (sym (c .before .before .before .before .before .before .loop .inv .1) ∙ class-here (c .before .before .before .before .before .before .before .before .args .t .now) (c .before .before .before .before .before .before .loop .c) (c .before .before .before .before .before .before .loop .inv .0) (c .before .before .before .step .result) (c .before .before .before .step .ensures) (c .before .before .before .before .before .before .before .before .args .id) (c .before .is-class .result) (c .before .is-class .ensures) (c .if2 .taken))
 
 loop-less : tie.Need-loop-less Inv-loop μ-loop
 loop-less c = omega (arith, (c .before .before .before .before .step .ensures .low), (c .before .before .before .before .step .ensures .high))
 
 loop-again : tie.Need-loop-again Inv-loop μ-loop
-loop-again c = (at-next _ ((c .before .before .before .before .before .before .before .loop .c)) ((c .before .before .before .before .before .before .before .loop .inv .0)) ((c .before .before .before .before .step .result)) ((c .before .before .before .before .step .ensures)), sym (class-later ((c .before .before .before .before .before .before .before .before .before .args .t .now)) ((c .before .before .before .before .before .before .before .loop .c)) ((c .before .before .before .before .before .before .before .loop .inv .0)) ((c .before .before .before .before .step .result)) ((c .before .before .before .before .step .ensures)) ((c .before .before .before .before .before .before .before .before .before .args .id)) ((c .before .before .is-class .result)) ((c .before .before .is-class .ensures)) ((c .before .if2 .left))) ∙ (c .before .before .before .before .before .before .before .loop .inv .1))
+loop-again c = (at-next _ (c .before .before .before .before .before .before .before .loop .c) (c .before .before .before .before .before .before .before .loop .inv .0) (c .before .before .before .before .step .result) (c .before .before .before .before .step .ensures), sym (class-later (c .before .before .before .before .before .before .before .before .before .args .t .now) (c .before .before .before .before .before .before .before .loop .c) (c .before .before .before .before .before .before .before .loop .inv .0) (c .before .before .before .before .step .result) (c .before .before .before .before .step .ensures) (c .before .before .before .before .before .before .before .before .before .args .id) (c .before .before .is-class .result) (c .before .before .is-class .ensures) (c .before .if2 .left)) ∙ (c .before .before .before .before .before .before .before .loop .inv .1))
 
 returns-2 : tie.Need-returns-2 Inv-loop μ-loop
 unfolding hasClass
-returns-2 c = sym (sym ((c .before .before .loop .inv .1)) ∙ ap (hasClass ((c .before .before .before .before .args .id))) (records-end ((c .before .before .before .before .args .t .now)) ((c .before .before .loop .c .at)) ((c .if1 .left))))
+returns-2 c = sym (sym (c .before .before .loop .inv .1) ∙ ap (hasClass (c .before .before .before .before .args .id)) (records-end (c .before .before .before .before .args .t .now) (c .before .before .loop .c .at) (c .if1 .left)))
 
 pub class-from-spec : {M : Type 1} → statement M
 class-from-spec =

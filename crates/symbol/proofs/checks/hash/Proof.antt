@@ -40,7 +40,7 @@ unfolding hashOf
 loop-again c = (omega arith, rw (add-one, (c .wide .ensures .0), (c .before .byte-at .ensures), (c .before .before .before .loop .inv .1)), omega arith)
 
 returns : tie.Need-returns Inv-loop μ-loop
-returns c = let e : (c .before .loop .i) ≡ 24 = omega arith in ((c .before .loop .inv .1) ∙ ap (λ (k : ℕ). hashOf k ((c .before .before .before .args .name .now))) e, (c .before .loop .inv .2))
+returns c = let e : (c .before .loop .i) ≡ 24 = omega arith in ((c .before .loop .inv .1) ∙ ap (λ (k : ℕ). hashOf k (c .before .before .before .args .name .now)) e, (c .before .loop .inv .2))
 
 pub hash-spec : {M : Type 1} → statement M
 hash-spec =

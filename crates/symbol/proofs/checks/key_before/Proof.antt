@@ -21,23 +21,23 @@ new-requires c κs = search needs
 
 loop-holds : tie.Need-loop-holds Inv-loop μ-loop
 unfolding hasKey before
-loop-holds c = (at-new _ _ ((c .new .ensures)), omega (arith, ap (λ (z : Cursor). z .index) ((c .new .ensures))), ap (λ (z : Cursor). hasKey (recordAt ((c .before .before .args .t .now)) ((c .before .before .args .me))) (before (z .index) (recordsOf ((c .before .before .args .t .now))))) (sym ((c .new .ensures))))
+loop-holds c = (at-new _ _ (c .new .ensures), omega (arith, ap (λ (z : Cursor). z .index) (c .new .ensures)), ap (λ (z : Cursor). hasKey (recordAt (c .before .before .args .t .now) (c .before .before .args .me)) (before (z .index) (recordsOf (c .before .before .args .t .now)))) (sym (c .new .ensures)))
 
 step-requires : tie.Need-step-requires Inv-loop μ-loop
-step-requires c κs = (at-more _ _ ((c .before .before .before .loop .inv .0)) (omega (arith, (c .before .before .before .before .before .before .pre .at .count))), (c .before .before .before .loop .inv .0 .behind))
+step-requires c κs = (at-more _ _ (c .before .before .before .loop .inv .0) (omega (arith, (c .before .before .before .before .before .before .pre .at .count))), (c .before .before .before .loop .inv .0 .behind))
 
 same-key-requires : tie.Need-same-key-requires Inv-loop μ-loop
-same-key-requires c κs = (record { at = (c .before .before .before .before .before .loop .inv .0); some = at-more _ _ ((c .before .before .before .before .before .loop .inv .0)) (omega (arith, (c .before .before .before .before .before .before .before .before .pre .at .count))); head = (c .before .step .ensures .head) }, (c .before .before .before .before .before .before .before .before .pre))
+same-key-requires c κs = (record { at = (c .before .before .before .before .before .loop .inv .0); some = at-more _ _ (c .before .before .before .before .before .loop .inv .0) (omega (arith, (c .before .before .before .before .before .before .before .before .pre .at .count))); head = (c .before .step .ensures .head) }, (c .before .before .before .before .before .before .before .before .pre))
 
 loop-less : tie.Need-loop-less Inv-loop μ-loop
 loop-less c = omega (arith, (c .before .before .before .step .ensures .index))
 
 loop-again : tie.Need-loop-again Inv-loop μ-loop
 unfolding hasKey
-loop-again c = (at-next _ ((c .before .before .before .before .before .before .before .loop .c)) ((c .before .before .before .before .before .before .before .loop .inv .0)) ((c .before .before .before .step .result)) ((c .before .before .before .step .ensures)), omega (arith, (c .before .before .before .step .ensures .index)), rw (before-next ((c .before .before .before .before .before .before .before .before .before .before .args .t .now)) ((c .before .before .before .before .before .before .before .loop .c)) ((c .before .before .before .before .before .before .before .loop .inv .0)) ((c .before .before .before .step .result)) ((c .before .before .before .step .ensures)), (c .before .same-key .ensures), (c .before .before .before .before .before .before .before .loop .inv .2)))
+loop-again c = (at-next _ (c .before .before .before .before .before .before .before .loop .c) (c .before .before .before .before .before .before .before .loop .inv .0) (c .before .before .before .step .result) (c .before .before .before .step .ensures), omega (arith, (c .before .before .before .step .ensures .index)), rw (before-next (c .before .before .before .before .before .before .before .before .before .before .args .t .now) (c .before .before .before .before .before .before .before .loop .c) (c .before .before .before .before .before .before .before .loop .inv .0) (c .before .before .before .step .result) (c .before .before .before .step .ensures), (c .before .same-key .ensures), (c .before .before .before .before .before .before .before .loop .inv .2)))
 
 returns : tie.Need-returns Inv-loop μ-loop
-returns c = let e : (c .before .before .before .loop .c .index) ≡ (c .before .before .before .before .before .before .args .me .index) = omega arith in (c .before .before .before .loop .inv .2) ∙ ap (λ (k : ℕ). hasKey (recordAt ((c .before .before .before .before .before .before .args .t .now)) ((c .before .before .before .before .before .before .args .me))) (before k (recordsOf ((c .before .before .before .before .before .before .args .t .now))))) e
+returns c = let e : (c .before .before .before .loop .c .index) ≡ (c .before .before .before .before .before .before .args .me .index) = omega arith in (c .before .before .before .loop .inv .2) ∙ ap (λ (k : ℕ). hasKey (recordAt (c .before .before .before .before .before .before .args .t .now) (c .before .before .before .before .before .before .args .me)) (before k (recordsOf (c .before .before .before .before .before .before .args .t .now)))) e
 
 pub key-before-spec : {M : Type 1} → statement M
 key-before-spec =

@@ -4,7 +4,7 @@ use Rattle.symbol.proofs.checks.key_repeated.Statement.{statement}
 use Rattle.symbol.proofs.checks.key_repeated.Tie as tie
 
 returns : tie.Need-returns
-returns c = sym ((c .before .before .pre .1) ((c .if1 .taken)))
+returns c = sym ((c .before .before .pre .1) (c .if1 .taken))
 
 key-before-requires : tie.Need-key-before-requires
 key-before-requires c κs = search needs

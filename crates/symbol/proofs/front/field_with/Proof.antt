@@ -10,7 +10,7 @@ enum-known-read : tie.Need-enum-known-read
 enum-known-read c = search needs
 
 add-t11 : tie.Need-add-t11
-add-t11 c = let h = rw ((c .before .read .given .1)) at ((c .before .before .before .before .before .pre)) in omega arith
+add-t11 c = let h = rw (c .before .read .given .1) at (c .before .before .before .before .before .pre) in omega arith
 
 highest-requires-2 : tie.Need-highest-requires-2
 highest-requires-2 c κs = search needs
@@ -37,10 +37,10 @@ returns : tie.Need-returns
 returns c = rw ((c .before .before .read .given .1), (c .highest2 .ensures), (c .before .before .before .before .highest .ensures))
 
 returns-2 : tie.Need-returns-2
-returns-2 c = rw ((c .before .enum-told .given .1)) ((c .broken .ensures))
+returns-2 c = rw (c .before .enum-told .given .1) (c .broken .ensures)
 
 returns-3 : tie.Need-returns-3
-returns-3 c = rw ((c .before .enum-told2 .given .1)) ((c .broken2 .ensures))
+returns-3 c = rw (c .before .enum-told2 .given .1) (c .broken2 .ensures)
 
 returns-4 : tie.Need-returns-4
 returns-4 c = rw ((c .before .before .read2 .given .1), (c .highest3 .ensures), (c .before .before .before .before .highest .ensures))

@@ -37,7 +37,7 @@ unfolding goodBytes
 loop-again c = (omega arith, rw (add-one, (c .good-byte .ensures), (c .before .byte-at .ensures), (c .before .before .before .loop .inv .1)))
 
 returns : tie.Need-returns Inv-loop μ-loop
-returns c = let e : (c .before .loop .i) ≡ 24 = omega arith in (c .before .loop .inv .1) ∙ ap (λ (k : ℕ). goodBytes k ((c .before .before .before .args .s .now)) ((c .before .before .before .args .n))) e
+returns c = let e : (c .before .loop .i) ≡ 24 = omega arith in (c .before .loop .inv .1) ∙ ap (λ (k : ℕ). goodBytes k (c .before .before .before .args .s .now) (c .before .before .before .args .n)) e
 
 pub good-bytes-spec : {M : Type 1} → statement M
 good-bytes-spec =

@@ -9,14 +9,14 @@ broken-requires c κs = search needs
 
 returns : tie.Need-returns
 unfolding plainHead
-returns c = rw ((c .broken .ensures)) (search chain depth 14)
+returns c = rw (c .broken .ensures) (search chain depth 14)
 
 broken-requires-2 : tie.Need-broken-requires-2
 broken-requires-2 c κs = search needs
 
 returns-2 : tie.Need-returns-2
 unfolding plainHead
-returns-2 c = rw ((c .broken2 .ensures)) (search chain depth 14)
+returns-2 c = rw (c .broken2 .ensures) (search chain depth 14)
 
 returns-3 : tie.Need-returns-3
 unfolding plainHead

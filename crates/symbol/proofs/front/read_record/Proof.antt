@@ -12,7 +12,7 @@ read-kind-requires c κs = search needs
 
 returns : tie.Need-returns
 unfolding headOf
-returns c = let b = head-bounded ((c .before .before .before .args .s .now)) ((c .before .before .before .pre)) in record { same = (c .read-kind .ensures); low = rw ((c .read-kind .ensures)) (b .low); high = rw ((c .read-kind .ensures)) (b .high) }
+returns c = let b = head-bounded (c .before .before .before .args .s .now) (c .before .before .before .pre) in record { same = (c .read-kind .ensures); low = rw (c .read-kind .ensures) (b .low); high = rw (c .read-kind .ensures) (b .high) }
 
 pub read-record-spec : {M : Type 1} → statement M
 read-record-spec = tie.close (tie.spec shared-slice-read-read-kind read-kind-requires returns)

@@ -8,16 +8,16 @@ add-end : tie.Need-add-end
 add-end c = omega (arith, (c .before .before .before .pre .inside))
 
 add-start : tie.Need-add-start
-add-start c = omega (arith, function-long ((c .before .before .before .args .t .now)) ((c .before .before .before .args .p)) ((c .before .before .before .pre)), (c .before .before .before .pre .inside))
+add-start c = omega (arith, function-long (c .before .before .before .args .t .now) (c .before .before .before .args .p) (c .before .before .before .pre), (c .before .before .before .pre .inside))
 
 type-length-requires : tie.Need-type-length-requires
-type-length-requires c κs = (omega (arith, function-long ((c .before .before .before .args .t .now)) ((c .before .before .before .args .p)) ((c .before .before .before .pre))), (c .before .before .before .pre .inside))
+type-length-requires c κs = (omega (arith, function-long (c .before .before .before .args .t .now) (c .before .before .before .args .p) (c .before .before .before .pre)), (c .before .before .before .pre .inside))
 
 add-read-params : tie.Need-add-read-params
-add-read-params c = omega (arith, function-room ((c .before .before .before .before .args .t .now)) ((c .before .before .before .before .args .p)) ((c .before .before .before .before .pre)) ((c .type-length .result)) ((c .type-length .ensures)), (c .before .before .before .before .pre .inside))
+add-read-params c = omega (arith, function-room (c .before .before .before .before .args .t .now) (c .before .before .before .before .args .p) (c .before .before .before .before .pre) (c .type-length .result) (c .type-length .ensures), (c .before .before .before .before .pre .inside))
 
 add-byte-at : tie.Need-add-byte-at
-add-byte-at c = omega (arith, function-long ((c .before .before .before .before .args .t .now)) ((c .before .before .before .before .args .p)) ((c .before .before .before .before .pre)), (c .before .before .before .before .pre .inside))
+add-byte-at c = omega (arith, function-long (c .before .before .before .before .args .t .now) (c .before .before .before .before .args .p) (c .before .before .before .before .pre), (c .before .before .before .before .pre .inside))
 
 byte-at-requires : tie.Need-byte-at-requires
 byte-at-requires c κs = search needs
@@ -26,22 +26,22 @@ cast-read-params : tie.Need-cast-read-params
 cast-read-params c = search needs
 
 read-params-requires : tie.Need-read-params-requires
-read-params-requires c κs = (function-room ((c .before .before .before .before .before .args .t .now)) ((c .before .before .before .before .before .args .p)) ((c .before .before .before .before .before .pre)) ((c .before .type-length .result)) ((c .before .type-length .ensures)), (c .before .before .before .before .before .pre .inside), function-count ((c .before .before .before .before .before .args .t .now)) ((c .before .before .before .before .before .args .p)) ((c .before .before .before .before .before .pre)) ((c .before .type-length .result)) ((c .before .type-length .ensures)) ((c .byte-at .result)) ((c .byte-at .ensures)), function-row ((c .before .before .before .before .before .args .t .now)) ((c .before .before .before .before .before .args .p)) ((c .before .before .before .before .before .pre)) ((c .before .type-length .result)) ((c .before .type-length .ensures)) ((c .byte-at .result)) ((c .byte-at .ensures)))
+read-params-requires c κs = (function-room (c .before .before .before .before .before .args .t .now) (c .before .before .before .before .before .args .p) (c .before .before .before .before .before .pre) (c .before .type-length .result) (c .before .type-length .ensures), (c .before .before .before .before .before .pre .inside), function-count (c .before .before .before .before .before .args .t .now) (c .before .before .before .before .before .args .p) (c .before .before .before .before .before .pre) (c .before .type-length .result) (c .before .type-length .ensures) (c .byte-at .result) (c .byte-at .ensures), function-row (c .before .before .before .before .before .args .t .now) (c .before .before .before .before .before .args .p) (c .before .before .before .before .before .pre) (c .before .type-length .result) (c .before .type-length .ensures) (c .byte-at .result) (c .byte-at .ensures))
 
 add-byte-at-2 : tie.Need-add-byte-at-2
-add-byte-at-2 c = omega (arith, function-long ((c .before .before .before .before .before .before .args .t .now)) ((c .before .before .before .before .before .before .args .p)) ((c .before .before .before .before .before .before .pre)), (c .before .before .before .before .before .before .pre .inside))
+add-byte-at-2 c = omega (arith, function-long (c .before .before .before .before .before .before .args .t .now) (c .before .before .before .before .before .before .args .p) (c .before .before .before .before .before .before .pre), (c .before .before .before .before .before .before .pre .inside))
 
 byte-at-requires-2 : tie.Need-byte-at-requires-2
 byte-at-requires-2 c κs = search needs
 
 add-byte-at-3 : tie.Need-add-byte-at-3
-add-byte-at-3 c = omega (arith, function-long ((c .before .before .before .before .before .before .before .args .t .now)) ((c .before .before .before .before .before .before .before .args .p)) ((c .before .before .before .before .before .before .before .pre)), (c .before .before .before .before .before .before .before .pre .inside))
+add-byte-at-3 c = omega (arith, function-long (c .before .before .before .before .before .before .before .args .t .now) (c .before .before .before .before .before .before .before .args .p) (c .before .before .before .before .before .before .before .pre), (c .before .before .before .before .before .before .before .pre .inside))
 
 byte-at-requires-3 : tie.Need-byte-at-requires-3
 byte-at-requires-3 c κs = search needs
 
 returns : tie.Need-returns
-returns c = function-read ((c .before .before .before .before .before .before .before .before .args .t .now)) ((c .before .before .before .before .before .before .before .before .args .p)) ((c .before .before .before .before .before .before .before .before .pre)) ((c .before .before .before .before .type-length .result)) ((c .before .before .before .before .type-length .ensures)) ((c .before .before .before .byte-at .result)) ((c .before .before .before .byte-at .ensures)) ((c .byte-at3 .result)) ((c .before .byte-at2 .result)) ((c .byte-at3 .ensures)) ((c .before .byte-at2 .ensures)) ((c .before .before .read-params .result)) ((c .before .before .read-params .ensures))
+returns c = function-read (c .before .before .before .before .before .before .before .before .args .t .now) (c .before .before .before .before .before .before .before .before .args .p) (c .before .before .before .before .before .before .before .before .pre) (c .before .before .before .before .type-length .result) (c .before .before .before .before .type-length .ensures) (c .before .before .before .byte-at .result) (c .before .before .before .byte-at .ensures) (c .byte-at3 .result) (c .before .byte-at2 .result) (c .byte-at3 .ensures) (c .before .byte-at2 .ensures) (c .before .before .read-params .result) (c .before .before .read-params .ensures)
 
 pub read-function-spec : {M : Type 1} → statement M
 read-function-spec =

@@ -21,7 +21,7 @@ whole-length-requires c κs = search needs
 
 returns : tie.Need-returns
 unfolding typeLength
-returns c = (c .whole-length .ensures) ∙ rw ((c .before .read-type .ensures))
+returns c = (c .whole-length .ensures) ∙ rw (c .before .read-type .ensures)
 
 pub type-length-spec : {M : Type 1} → statement M
 type-length-spec =

@@ -8,11 +8,11 @@ use Rattle.symbol.specs.declared.checks.Sections.{Sections}
 
 seek-requires : tie.Need-seek-requires
 unfolding sectionsOf
-seek-requires c κs = (ap (λ (z : Sections). z .functions) ((c .before .pre .sections)), (c .before .pre .clean))
+seek-requires c κs = (ap (λ (z : Sections). z .functions) (c .before .pre .sections), (c .before .pre .clean))
 
 returns : tie.Need-returns
 unfolding symbolsIn
-returns c = function-found ((c .before .before .args .t .now)) _ ((c .before .before .args .owner)) ((c .before .before .args .name)) ((c .seek .result)) ((c .seek .ensures))
+returns c = function-found (c .before .before .args .t .now) _ (c .before .before .args .owner) (c .before .before .args .name) (c .seek .result) (c .seek .ensures)
 
 pub first-function-spec : {M : Type 1} → statement M
 first-function-spec = tie.close (tie.spec seek-requires returns)

@@ -10,13 +10,13 @@ use Rattle.symbol.specs.declared.checks.Sections.{Sections}
 
 seek-requires : tie.Need-seek-requires
 unfolding sectionsOf
-seek-requires c κs = (ap (λ (z : Sections). z .classes) ((c .before .pre .sections)), (c .before .pre .clean))
+seek-requires c κs = (ap (λ (z : Sections). z .classes) (c .before .pre .sections), (c .before .pre .clean))
 
 enum-known-f : tie.Need-enum-known-f
 enum-known-f c = search needs
 
 add-byte-at : tie.Need-add-byte-at
-add-byte-at c = let h = rw ((c .before .before .f .given .1)) at ((c .before .before .before .before .seek .ensures)) in omega (arith, h .inside)
+add-byte-at c = let h = rw (c .before .before .f .given .1) at (c .before .before .before .before .seek .ensures) in omega (arith, h .inside)
 
 byte-at-requires : tie.Need-byte-at-requires
 byte-at-requires c κs = search needs
@@ -26,11 +26,11 @@ enum-told c = search needs
 
 returns : tie.Need-returns
 unfolding symbolsIn
-returns c = let h = rw ((c .before .before .before .f .given .1)) at ((c .before .before .before .before .before .seek .ensures)) in let n = place-fits ((c .before .before .before .before .before .before .before .args .t .now)) _ 2 ((c .before .before .before .before .before .before .before .args .class)) 0 ((c .before .before .before .f .given .0 .0)) h .class refl in rw (h .first, place-byte ((c .before .before .before .before .before .before .before .args .t .now)) _ 2 ((c .before .before .before .before .before .before .before .args .class)) 0 ((c .before .before .before .f .given .0 .0)) h 7 (omega arith), (c .byte-at .ensures))
+returns c = let h = rw (c .before .before .before .f .given .1) at (c .before .before .before .before .before .seek .ensures) in let n = place-fits (c .before .before .before .before .before .before .before .args .t .now) _ 2 (c .before .before .before .before .before .before .before .args .class) 0 (c .before .before .before .f .given .0 .0) h .class refl in rw (h .first, place-byte (c .before .before .before .before .before .before .before .args .t .now) _ 2 (c .before .before .before .before .before .before .before .args .class) 0 (c .before .before .before .f .given .0 .0) h 7 (omega arith), (c .byte-at .ensures))
 
 returns-2 : tie.Need-returns-2
 unfolding symbolsIn
-returns-2 c = let e = rw ((c .enum-told .given .1)) at ((c .before .before .seek .ensures)) in rw e
+returns-2 c = let e = rw (c .enum-told .given .1) at (c .before .before .seek .ensures) in rw e
 
 pub in-types-spec : {M : Type 1} → statement M
 in-types-spec =

@@ -23,7 +23,7 @@ cast-i c = search needs
 
 returns-2 : tie.Need-returns-2
 unfolding symbolsIn capitalIn sectionsOf
-returns-2 c = let a = ap (λ (z : Sections). z .classes .index) ((c .before .before .before .before .before .pre .sections)) in passed _ _ _ _ (le-ltb _ _ ((c .before .before .if1 .left))) (rw (names-past ((c .before .before .before .before .before .args .id) - 40) [] (recordsOf ((c .before .before .before .before .before .args .t .now))) (accepted-clean ((c .before .before .before .before .before .args .t .now)) ((c .before .before .before .before .before .pre .clean))) (omega arith)))
+returns-2 c = let a = ap (λ (z : Sections). z .classes .index) (c .before .before .before .before .before .pre .sections) in passed _ _ _ _ (le-ltb _ _ (c .before .before .if1 .left)) (rw (names-past ((c .before .before .before .before .before .args .id) - 40) [] (recordsOf (c .before .before .before .before .before .args .t .now)) (accepted-clean (c .before .before .before .before .before .args .t .now) (c .before .before .before .before .before .pre .clean)) (omega arith)))
 
 mul-byte-at : tie.Need-mul-byte-at
 mul-byte-at c = search needs
@@ -45,7 +45,7 @@ byte-at-requires-2 c κs = search needs
 
 returns-3 : tie.Need-returns-3
 unfolding symbolsIn capitalIn sectionsOf
-returns-3 c = let a = ap (λ (z : Sections). z .classes .index) ((c .before .before .before .before .before .before .before .pre .sections)) in let n : (c .before .before .before .before .before .before .before .args .id) - 40 < countBelow 2 (recordsOf ((c .before .before .before .before .before .before .before .args .t .now))) = omega arith in let x = name-at ((c .before .before .before .before .before .before .before .args .id) - 40) ((c .before .before .before .before .before .before .before .args .t .now)) [] (accepted-clean ((c .before .before .before .before .before .before .before .args .t .now)) ((c .before .before .before .before .before .before .before .pre .clean))) n 1 (omega arith) in let y = name-at ((c .before .before .before .before .before .before .before .args .id) - 40) ((c .before .before .before .before .before .before .before .args .t .now)) [] (accepted-clean ((c .before .before .before .before .before .before .before .args .t .now)) ((c .before .before .before .before .before .before .before .pre .clean))) n 2 (omega arith) in passed _ _ _ _ (le-ltb _ _ ((c .before .before .before .before .if1 .left))) (rw (x, y, (c .before .byte-at .ensures), (c .byte-at2 .ensures)))
+returns-3 c = let a = ap (λ (z : Sections). z .classes .index) (c .before .before .before .before .before .before .before .pre .sections) in let n : (c .before .before .before .before .before .before .before .args .id) - 40 < countBelow 2 (recordsOf (c .before .before .before .before .before .before .before .args .t .now)) = omega arith in let x = name-at ((c .before .before .before .before .before .before .before .args .id) - 40) (c .before .before .before .before .before .before .before .args .t .now) [] (accepted-clean (c .before .before .before .before .before .before .before .args .t .now) (c .before .before .before .before .before .before .before .pre .clean)) n 1 (omega arith) in let y = name-at ((c .before .before .before .before .before .before .before .args .id) - 40) (c .before .before .before .before .before .before .before .args .t .now) [] (accepted-clean (c .before .before .before .before .before .before .before .args .t .now) (c .before .before .before .before .before .before .before .pre .clean)) n 2 (omega arith) in passed _ _ _ _ (le-ltb _ _ (c .before .before .before .before .if1 .left)) (rw (x, y, (c .before .byte-at .ensures), (c .byte-at2 .ensures)))
 
 pub is-capital-spec : {M : Type 1} → statement M
 is-capital-spec =

@@ -8,7 +8,7 @@ use Rattle.symbol.specs.declared.checks.Sections.{Sections}
 
 seek-requires : tie.Need-seek-requires
 unfolding sectionsOf
-seek-requires c κs = (ap (λ (z : Sections). z .variants) ((c .before .pre .sections)), (c .before .pre .clean))
+seek-requires c κs = (ap (λ (z : Sections). z .variants) (c .before .pre .sections), (c .before .pre .clean))
 
 enum-told : tie.Need-enum-told
 enum-told c = search needs
@@ -18,11 +18,11 @@ enum-told-2 c = search needs
 
 returns : tie.Need-returns
 unfolding symbolsIn
-returns c = let h = rw ((c .enum-told .given .1)) at ((c .before .before .seek .ensures)) in rw (h .first)
+returns c = let h = rw (c .enum-told .given .1) at (c .before .before .seek .ensures) in rw (h .first)
 
 returns-2 : tie.Need-returns-2
 unfolding symbolsIn
-returns-2 c = let e = rw ((c .enum-told2 .given .1)) at ((c .before .before .seek .ensures)) in rw e
+returns-2 c = let e = rw (c .enum-told2 .given .1) at (c .before .before .seek .ensures) in rw e
 
 pub is-variant-spec : {M : Type 1} → statement M
 is-variant-spec = tie.close (tie.spec seek-requires enum-told enum-told-2 returns returns-2)

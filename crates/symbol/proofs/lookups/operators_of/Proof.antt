@@ -8,7 +8,7 @@ use Rattle.symbol.specs.declared.checks.Sections.{Sections}
 
 seek-requires : tie.Need-seek-requires
 unfolding sectionsOf
-seek-requires c κs = (ap (λ (z : Sections). z .operators) ((c .before .pre .sections)), (c .before .pre .clean))
+seek-requires c κs = (ap (λ (z : Sections). z .operators) (c .before .pre .sections), (c .before .pre .clean))
 
 enum-known-f : tie.Need-enum-known-f
 enum-known-f c = search needs
@@ -18,11 +18,11 @@ enum-told c = search needs
 
 returns : tie.Need-returns
 unfolding symbolsIn
-returns c = let h = rw ((c .before .before .f .given .1)) at ((c .before .before .before .before .seek .ensures)) in rw (h .first, ← h .own)
+returns c = let h = rw (c .before .before .f .given .1) at (c .before .before .before .before .seek .ensures) in rw (h .first, ← h .own)
 
 returns-2 : tie.Need-returns-2
 unfolding symbolsIn
-returns-2 c = let e = rw ((c .enum-told .given .1)) at ((c .before .before .seek .ensures)) in rw e
+returns-2 c = let e = rw (c .enum-told .given .1) at (c .before .before .seek .ensures) in rw e
 
 pub operators-of-spec : {M : Type 1} → statement M
 operators-of-spec = tie.close (tie.spec seek-requires enum-known-f enum-told returns returns-2)

@@ -11,10 +11,10 @@ use Rattle.symbol.specs.Walk.{At}
 use Rattle.symbol.specs.declared.walk.Cursor.{Cursor}
 
 find-requires : tie.Need-find-requires
-find-requires c κs = (subst (λ (z : Cursor). At ((c .before .args .t .now)) z) (sym ((c .before .pre .0))) (section-at ((c .before .args .kind)) ((c .before .args .t .now))), (c .before .pre .1))
+find-requires c κs = (subst (λ (z : Cursor). At (c .before .args .t .now) z) (sym (c .before .pre .0)) (section-at (c .before .args .kind) (c .before .args .t .now)), (c .before .pre .1))
 
 returns : tie.Need-returns
-returns c = subst (λ (z : List Record). FoundIs ((c .before .before .args .t .now)) z ((c .before .before .args .kind)) ((c .before .before .args .one)) ((c .before .before .args .two)) ((c .find .result))) (ap (λ (z : Cursor). recordsWith ((c .before .before .args .kind)) ((c .before .before .args .one)) ((c .before .before .args .two)) (recordsOf (drop (z .at) ((c .before .before .args .t .now))))) ((c .before .before .pre .0)) ∙ section-with ((c .before .before .args .kind)) ((c .before .before .args .one)) ((c .before .before .args .two)) ((c .before .before .args .t .now))) ((c .find .ensures))
+returns c = subst (λ (z : List Record). FoundIs (c .before .before .args .t .now) z (c .before .before .args .kind) (c .before .before .args .one) (c .before .before .args .two) (c .find .result)) (ap (λ (z : Cursor). recordsWith (c .before .before .args .kind) (c .before .before .args .one) (c .before .before .args .two) (recordsOf (drop (z .at) (c .before .before .args .t .now)))) (c .before .before .pre .0) ∙ section-with (c .before .before .args .kind) (c .before .before .args .one) (c .before .before .args .two) (c .before .before .args .t .now)) (c .find .ensures)
 
 pub seek-spec : {M : Type 1} → statement M
 seek-spec = tie.close (tie.spec find-requires returns)

@@ -34,7 +34,7 @@ unfolding among
 loop-again c = (omega arith, rw (add-one, (c .before .loop .inv .1)))
 
 returns : tie.Need-returns Inv-loop μ-loop
-returns c = let e : (c .before .loop .i) ≡ (c .before .before .args .n) = omega arith in (c .before .loop .inv .1) ∙ ap (λ (k : ℕ). among k ((c .before .before .args .t2)) ((c .before .before .args .id))) e
+returns c = let e : (c .before .loop .i) ≡ (c .before .before .args .n) = omega arith in (c .before .loop .inv .1) ∙ ap (λ (k : ℕ). among k (c .before .before .args .t2) (c .before .before .args .id)) e
 
 pub among-spec : {M : Type 1} → statement M
 among-spec =

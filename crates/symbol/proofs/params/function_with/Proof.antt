@@ -29,7 +29,7 @@ broken-requires c κs = search needs
 
 returns-3 : tie.Need-returns-3
 unfolding functionWith
-returns-3 c = rw ((c .broken .ensures)) (search chain depth 14)
+returns-3 c = rw (c .broken .ensures) (search chain depth 14)
 
 pub function-with-spec : {M : Type 1} → statement M
 function-with-spec =

@@ -9,7 +9,7 @@ broken-requires c κs = search needs
 
 returns : tie.Need-returns
 unfolding functionHead
-returns c = rw ((c .broken .ensures)) (search chain depth 14)
+returns c = rw (c .broken .ensures) (search chain depth 14)
 
 byte-at-requires : tie.Need-byte-at-requires
 byte-at-requires c κs = search needs

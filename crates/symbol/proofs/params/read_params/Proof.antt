@@ -21,7 +21,7 @@ read-result-requires c κs = search needs
 
 loop-holds : tie.Need-loop-holds Inv-loop μ-loop
 unfolding paramsRead
-loop-holds c = let f = rw (← (c .read-result .ensures)) at (first-inside ((c .before .before .args .s .now)) ((c .before .before .pre .0))) in (omega arith, ap₂ (λ (k : ℕ) (z : Reading). runParams k ((c .before .before .args .s .now)) z) (sub-zero ((c .before .before .args .count)) ∙ (c .before .before .pre .2)) ((c .read-result .ensures)), f .high, omega (arith, f .count))
+loop-holds c = let f = rw (← (c .read-result .ensures)) at (first-inside (c .before .before .args .s .now) (c .before .before .pre .0)) in (omega arith, ap₂ (λ (k : ℕ) (z : Reading). runParams k (c .before .before .args .s .now) z) (sub-zero (c .before .before .args .count) ∙ (c .before .before .pre .2)) (c .read-result .ensures), f .high, omega (arith, f .count))
 
 step-requires : tie.Need-step-requires Inv-loop μ-loop
 step-requires c κs = ((c .before .loop .inv .2), omega (arith, (c .before .loop .inv .3)))
@@ -33,10 +33,10 @@ loop-less : tie.Need-loop-less Inv-loop μ-loop
 loop-less c = search needs
 
 loop-again : tie.Need-loop-again Inv-loop μ-loop
-loop-again c = let o = rw (← (c .step .ensures)) at (param-onward ((c .before .before .before .before .before .args .s .now)) ((c .before .before .loop .c)) ((c .before .before .loop .inv .2))) in (omega arith, ap (runParams _ _) ((c .step .ensures)) ∙ sym (run-step _ _ _ _ ((c .before .loop-test .taken))) ∙ (c .before .before .loop .inv .1), o .high, omega (arith, o .count))
+loop-again c = let o = rw (← (c .step .ensures)) at (param-onward (c .before .before .before .before .before .args .s .now) (c .before .before .loop .c) (c .before .before .loop .inv .2)) in (omega arith, ap (runParams _ _) (c .step .ensures) ∙ sym (run-step _ _ _ _ (c .before .loop-test .taken)) ∙ (c .before .before .loop .inv .1), o .high, omega (arith, o .count))
 
 returns : tie.Need-returns Inv-loop μ-loop
-returns c = sym (run-last _ _ _ _ ((c .loop-test .left))) ∙ (c .before .loop .inv .1)
+returns c = sym (run-last _ _ _ _ (c .loop-test .left)) ∙ (c .before .loop .inv .1)
 
 pub read-params-spec : {M : Type 1} → statement M
 read-params-spec =

@@ -23,7 +23,7 @@ read-type-requires : tie.Need-read-type-requires
 read-type-requires c κs = search needs
 
 result-with-requires : tie.Need-result-with-requires
-result-with-requires c κs = rw ((c .read-type .ensures), (c .before .tail .ensures)) (ends-in 8 ((c .before .before .before .before .before .before .before .args .s .now)) ((c .before .before .before .before .before .before .before .pre)))
+result-with-requires c κs = rw ((c .read-type .ensures), (c .before .tail .ensures)) (ends-in 8 (c .before .before .before .before .before .before .before .args .s .now) (c .before .before .before .before .before .before .before .pre))
 
 returns : tie.Need-returns
 returns c = (c .result-with .ensures) ∙ rw ((c .before .before .before .highest .ensures), (c .before .before .before .before .before .or-none .ensures), (c .before .before .before .before .before .before .id-at .ensures), (c .before .before .before .before .id-at2 .ensures), (c .before .read-type .ensures), (c .before .before .tail .ensures))

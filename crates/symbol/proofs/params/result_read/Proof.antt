@@ -6,7 +6,7 @@ highest-requires : tie.Need-highest-requires
 highest-requires c κs = search needs
 
 returns : tie.Need-returns
-returns c = rw ((c .highest .ensures))
+returns c = rw (c .highest .ensures)
 
 pub result-read-spec : {M : Type 1} → statement M
 result-read-spec = tie.close (tie.spec highest-requires returns)

@@ -36,7 +36,7 @@ same-bytes-requires : tie.Need-same-bytes-requires Inv-loop μ-loop
 same-bytes-requires c κs = search needs
 
 returns : tie.Need-returns Inv-loop μ-loop
-returns c = sym ((c .before .before .before .before .loop .inv .1) ∙ rows-found ((c .before .before .before .before .before .before .before .args .name .now)) ((c .before .before .before .before .before .before .before .args .rows .now)) ((c .before .before .before .before .loop .i)) ((c .before .before .before .loop-test .taken)) ((c .before .same-bytes .result)) ((c .before .same-bytes .ensures)) ((c .if1 .taken)))
+returns c = sym ((c .before .before .before .before .loop .inv .1) ∙ rows-found (c .before .before .before .before .before .before .before .args .name .now) (c .before .before .before .before .before .before .before .args .rows .now) (c .before .before .before .before .loop .i) (c .before .before .before .loop-test .taken) (c .before .same-bytes .result) (c .before .same-bytes .ensures) (c .if1 .taken))
 
 add-i : tie.Need-add-i Inv-loop μ-loop
 add-i c = search needs
@@ -45,10 +45,10 @@ loop-less : tie.Need-loop-less Inv-loop μ-loop
 loop-less c = search needs
 
 loop-again : tie.Need-loop-again Inv-loop μ-loop
-loop-again c = (omega arith, (c .before .before .before .before .loop .inv .1) ∙ rows-past ((c .before .before .before .before .before .before .before .args .name .now)) ((c .before .before .before .before .before .before .before .args .rows .now)) ((c .before .before .before .before .loop .i)) ((c .before .before .before .loop-test .taken)) ((c .before .same-bytes .result)) ((c .before .same-bytes .ensures)) ((c .if1 .left)))
+loop-again c = (omega arith, (c .before .before .before .before .loop .inv .1) ∙ rows-past (c .before .before .before .before .before .before .before .args .name .now) (c .before .before .before .before .before .before .before .args .rows .now) (c .before .before .before .before .loop .i) (c .before .before .before .loop-test .taken) (c .before .same-bytes .result) (c .before .same-bytes .ensures) (c .if1 .left))
 
 returns-2 : tie.Need-returns-2 Inv-loop μ-loop
-returns-2 c = sym ((c .before .loop .inv .1) ∙ rows-end ((c .before .before .before .before .args .name .now)) ((c .before .before .before .before .args .rows .now)) ((c .before .loop .i)) ((c .loop-test .left)))
+returns-2 c = sym ((c .before .loop .inv .1) ∙ rows-end (c .before .before .before .before .args .name .now) (c .before .before .before .before .args .rows .now) (c .before .loop .i) (c .loop-test .left))
 
 pub in-rows-spec : {M : Type 1} → statement M
 in-rows-spec =

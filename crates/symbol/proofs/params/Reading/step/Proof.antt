@@ -14,7 +14,7 @@ use Rattle.ty.proofs.Choice.{chain, chosen, passed}
 
 returns : tie.Need-returns
 unfolding paramStep
-returns c = chosen _ _ _ _ (ap not (ne-eqb _ _ ((c .if1 .taken)))) refl
+returns c = chosen _ _ _ _ (ap not (ne-eqb _ _ (c .if1 .taken))) refl
 
 sub-if2 : tie.Need-sub-if2
 sub-if2 c = search needs
@@ -24,7 +24,7 @@ stop-requires c κs = search needs
 
 returns-2 : tie.Need-returns-2
 unfolding paramStep
-returns-2 c = passed _ _ _ _ (ap not (eq-eqb _ _ ((c .before .before .if1 .left)))) (rw ((c .stop .ensures)) (search chain depth 14))
+returns-2 c = passed _ _ _ _ (ap not (eq-eqb _ _ (c .before .before .if1 .left))) (rw (c .stop .ensures) (search chain depth 14))
 
 add-byte-at : tie.Need-add-byte-at
 add-byte-at c = search needs
@@ -37,7 +37,7 @@ stop-requires-2 c κs = search needs
 
 returns-3 : tie.Need-returns-3
 unfolding paramStep
-returns-3 c = passed _ _ _ _ (ap not (eq-eqb _ _ ((c .before .before .before .before .if1 .left)))) (rw ((c .stop2 .ensures), ← (c .before .before .byte-at .ensures)) (search chain depth 14))
+returns-3 c = passed _ _ _ _ (ap not (eq-eqb _ _ (c .before .before .before .before .if1 .left))) (rw ((c .stop2 .ensures), ← (c .before .before .byte-at .ensures)) (search chain depth 14))
 
 id-at-requires : tie.Need-id-at-requires
 id-at-requires c κs = search needs
@@ -52,11 +52,11 @@ read-type-requires : tie.Need-read-type-requires
 read-type-requires c κs = search needs
 
 add-read-requires : tie.Need-add-read-requires
-add-read-requires c κs = let h : (c .before .before .before .before .before .before .before .before .before .args .self .len) + 3 ≤ length ((c .before .before .before .before .before .before .before .before .before .args .s .now)) = omega arith in ((c .before .before .before .before .before .before .before .before .before .pre .1), rw ((c .read-type .ensures), (c .before .tail .ensures)) (ends-in ((c .before .before .before .before .before .before .before .before .before .args .self .len) + 3) ((c .before .before .before .before .before .before .before .before .before .args .s .now)) h))
+add-read-requires c κs = let h : (c .before .before .before .before .before .before .before .before .before .args .self .len) + 3 ≤ length (c .before .before .before .before .before .before .before .before .before .args .s .now) = omega arith in ((c .before .before .before .before .before .before .before .before .before .pre .1), rw ((c .read-type .ensures), (c .before .tail .ensures)) (ends-in ((c .before .before .before .before .before .before .before .before .before .args .self .len) + 3) (c .before .before .before .before .before .before .before .before .before .args .s .now) h))
 
 returns-4 : tie.Need-returns-4
 unfolding paramStep
-returns-4 c = passed _ _ _ _ (ap not (eq-eqb _ _ ((c .before .before .before .before .before .before .before .if1 .left)))) (passed _ _ _ _ (le-ltb _ _ ((c .before .before .before .before .before .before .if2 .left))) (passed _ _ _ _ (sym (ap (ltb 3) ((c .before .before .before .before .before .byte-at .ensures))) ∙ le-ltb _ _ ((c .before .before .before .before .if3 .left))) ((c .add-read .ensures) ∙ rw ((c .before .before .before .id-at .ensures), (c .before .read-type .ensures), (c .before .before .tail .ensures)))))
+returns-4 c = passed _ _ _ _ (ap not (eq-eqb _ _ (c .before .before .before .before .before .before .before .if1 .left))) (passed _ _ _ _ (le-ltb _ _ (c .before .before .before .before .before .before .if2 .left)) (passed _ _ _ _ (sym (ap (ltb 3) (c .before .before .before .before .before .byte-at .ensures)) ∙ le-ltb _ _ (c .before .before .before .before .if3 .left)) ((c .add-read .ensures) ∙ rw ((c .before .before .before .id-at .ensures), (c .before .read-type .ensures), (c .before .before .tail .ensures)))))
 
 pub step-spec : {M : Type 1} → statement M
 step-spec =

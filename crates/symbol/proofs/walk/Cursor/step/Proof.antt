@@ -26,7 +26,7 @@ add-t10 : tie.Need-add-t10
 add-t10 c = search needs
 
 returns : tie.Need-returns
-returns c = let h = rw (part-drop ((c .before .before .before .before .before .args .self .at)) ((c .before .before .before .before .before .args .t .now))) at ((c .before .before .read-record .ensures)) in record { head = h .same; own = h .same ∙ sym (record-own ((c .before .before .before .before .before .args .t .now)) ((c .before .before .before .before .before .args .self)) ((c .before .before .before .before .before .pre .0))); next = refl; index = refl; low = omega (arith, h .low); high = omega (arith, h .high, length-drop ((c .before .before .before .before .before .args .self .at)) ((c .before .before .before .before .before .args .t .now))) }
+returns c = let h = rw (part-drop (c .before .before .before .before .before .args .self .at) (c .before .before .before .before .before .args .t .now)) at (c .before .before .read-record .ensures) in record { head = h .same; own = h .same ∙ sym (record-own (c .before .before .before .before .before .args .t .now) (c .before .before .before .before .before .args .self) (c .before .before .before .before .before .pre .0)); next = refl; index = refl; low = omega (arith, h .low); high = omega (arith, h .high, length-drop (c .before .before .before .before .before .args .self .at) (c .before .before .before .before .before .args .t .now)) }
 
 pub step-spec : {M : Type 1} → statement M
 step-spec =
