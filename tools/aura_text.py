@@ -408,8 +408,6 @@ def type_text(data, names):
 def answer_text(printed, names):
     """What the program printed, in words."""
     lines = [line.split() for line in printed.splitlines()]
-    if not lines or len(lines[0]) != 5:
-        raise Fault("this is not what the program prints")
     number, passed, _, kind, _ = lines[0]
     if number != "0":
         who = {1: "table's writer", 8: "script's author", 12: "caller", 13: "judge"}
@@ -444,7 +442,10 @@ def main():
     try:
         text = Text(options.file.read_text(encoding="ascii"))
         if options.read:
-            print(answer_text(sys.stdin.read(), text.names.names), end="")
+            try:
+                print(answer_text(sys.stdin.read(), text.names.names), end="")
+            except (ValueError, IndexError):
+                raise Fault("standard input is not what the program prints under this table") from None
             return
         if options.run:
             sys.exit(run(options.run, text) != 0)
