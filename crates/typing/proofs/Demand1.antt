@@ -39,6 +39,7 @@ answered-bare lent j h = go (ltb answerBytes (length (j .ty))) (ltb lent (record
 
 -- the numbers that a judgement leads to
 record Drawn (lent : ℕ) (j : Judged) : Type 0 where
+  zero : (answered lent j .number ≡ 0) ↔ ((length (j .ty) ≤ answerBytes) × (recordLength * length (j .diags) ≤ lent))
   thirteen : (answered lent j .number ≡ 13) ↔ (answerBytes < length (j .ty))
   twelve : (answered lent j .number ≡ 12) ↔ ((length (j .ty) ≤ answerBytes) × (lent < recordLength * length (j .diags)))
 
@@ -50,17 +51,29 @@ drawn lent j = go (ltb answerBytes (length (j .ty))) refl (ltb lent (recordLengt
     go true e b f =
         let h : answerBytes < length (j .ty) = ltb-true answerBytes (length (j .ty)) e in
         let n : answered lent j .number ≡ 13 = rw e in
-        record { thirteen = (λ _. h, λ _. n); twelve = (λ m. absurd (omega arith), λ (l, m). absurd (omega arith)) }
+        record {
+          zero = (λ m. absurd (omega arith), λ (l, m). absurd (omega arith));
+          thirteen = (λ _. h, λ _. n);
+          twelve = (λ m. absurd (omega arith), λ (l, m). absurd (omega arith));
+        }
     go false e true f =
         let h : length (j .ty) ≤ answerBytes = ltb-false answerBytes (length (j .ty)) e in
         let g : lent < recordLength * length (j .diags) = ltb-true lent (recordLength * length (j .diags)) f in
         let n : answered lent j .number ≡ 12 = rw (e, f) in
-        record { thirteen = (λ m. absurd (omega arith), λ l. absurd (omega arith)); twelve = (λ _. (h, g), λ _. n) }
+        record {
+          zero = (λ m. absurd (omega arith), λ (l, m). absurd (omega arith));
+          thirteen = (λ m. absurd (omega arith), λ l. absurd (omega arith));
+          twelve = (λ _. (h, g), λ _. n);
+        }
     go false e false f =
         let h : length (j .ty) ≤ answerBytes = ltb-false answerBytes (length (j .ty)) e in
         let g : recordLength * length (j .diags) ≤ lent = ltb-false lent (recordLength * length (j .diags)) f in
         let n : answered lent j .number ≡ 0 = rw (e, f) in
-        record { thirteen = (λ m. absurd (omega arith), λ l. absurd (omega arith)); twelve = (λ m. absurd (omega arith), λ (l, m). absurd (omega arith)) }
+        record {
+          zero = (λ _. (h, g), λ _. n);
+          thirteen = (λ m. absurd (omega arith), λ l. absurd (omega arith));
+          twelve = (λ m. absurd (omega arith), λ (l, m). absurd (omega arith));
+        }
 
 module _ (t q : List ℕ) (lent : ℕ) where
   fault-upto : faultOf t q ≤ 11
@@ -104,16 +117,19 @@ module _ (t q : List ℕ) (lent : ℕ) where
   unfolding bufferOf choose
   buffer-bare h = rw (ne-eqb (answerOf t q lent .number) 0 h)
 
-  -- a number over 11 is the judgement's
-  judged : (n : ℕ) → 11 < n → answerOf t q lent .number ≡ n → (faultOf t q ≡ 0) × (answered lent (judgementOf t q) .number ≡ n)
+  -- a number that no fault has is the judgement's
+  judged : (n : ℕ) → (faultOf t q ≢ 0 → faultOf t q ≢ n) → answerOf t q lent .number ≡ n → (faultOf t q ≡ 0) × (answered lent (judgementOf t q) .number ≡ n)
   judged n h e = go (eqb (faultOf t q) 0) refl
     where
       go : (b : Bool) → eqb (faultOf t q) 0 ≡ b → (faultOf t q ≡ 0) × (answered lent (judgementOf t q) .number ≡ n)
       go true f = let z : faultOf t q ≡ 0 = eqb-true (faultOf t q) 0 f in (z, rw (answer-judged t q lent z) at e)
       go false f =
-          let m : faultOf t q ≡ n = rw (faulty (eqb-false (faultOf t q) 0 f)) at e in
-          let l : faultOf t q ≤ 11 = fault-upto in
-          absurd (omega arith)
+          let z : faultOf t q ≢ 0 = eqb-false (faultOf t q) 0 f in
+          let m : faultOf t q ≡ n = rw (faulty z) at e in
+          absurd (h z m)
+
+  over : (n : ℕ) → 11 < n → faultOf t q ≢ n
+  over n h e = omega (arith, fault-upto)
 
   number-is : (n : ℕ) → tableFault t ≡ 0 → questionFault (namesOf t) q ≡ 0 → answered lent (judgementOf t q) .number ≡ n → answerOf t q lent .number ≡ n
   number-is n e f g = rw (answer-judged t q lent (no-fault t q lent e f)) g
@@ -129,12 +145,16 @@ module _ (t q : List ℕ) (lent : ℕ) where
         question = λ e h.
             let f : faultOf t q ≡ questionFault (namesOf t) q = fault-question e in
             ap (λ (a : Answer). a .number) (faulty (λ z. h (sym f ∙ z))) ∙ f;
+        zero = (
+          λ e. let (z, n) = judged 0 (λ h. h) e in let (x, y) = both z in let (l, m) = d .zero .0 n in (x, y, l, m),
+          λ (x, y, l, m). number-is 0 x y (d .zero .1 (l, m)),
+        );
         thirteen = (
-          λ e. let (z, n) = judged 13 (omega arith) e in let (x, y) = both z in (x, y, d .thirteen .0 n),
+          λ e. let (z, n) = judged 13 (λ _. over 13 (omega arith)) e in let (x, y) = both z in (x, y, d .thirteen .0 n),
           λ (x, y, l). number-is 13 x y (d .thirteen .1 l),
         );
         twelve = (
-          λ e. let (z, n) = judged 12 (omega arith) e in let (x, y) = both z in let (l, m) = d .twelve .0 n in (x, y, l, m),
+          λ e. let (z, n) = judged 12 (λ _. over 12 (omega arith)) e in let (x, y) = both z in let (l, m) = d .twelve .0 n in (x, y, l, m),
           λ (x, y, l, m). number-is 12 x y (d .twelve .1 (l, m)),
         );
         pass = λ h. answer-bare h .pass;

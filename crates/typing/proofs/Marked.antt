@@ -37,7 +37,7 @@ use Rattle.symbol.specs.Subclass.{climbs, isSubclass}
 use Rattle.symbol.specs.Table.{recordsFrom, countOf}
 use Rattle.ty.specs.Bytes.{innerOf, nonNull, sameBytes}
 use Rattle.ty.specs.Choose.{choose}
-use Rattle.ty.specs.Name.{noId}
+use Rattle.ty.specs.Name.{listId, mutableListId, noId}
 use Rattle.ty.specs.Read.{bodyLength, children, idIn, itemOf, itemAt, stopped, readFrom, readType}
 use Rattle.typing.proofs.Samples.{letter, class, noSuper, operators, function, param, script, leaf, binary, unary, named, call, int, long, float, double, string, any, error, nullable, namedClass, diagnostic, Passes, Fails}
 use Rattle.typing.specs.Answer.{Answer, refused}
@@ -46,13 +46,13 @@ use Rattle.typing.specs.Callee.{baseName, callIn, methodIn, methodBy}
 use Rattle.typing.specs.Judge.{callStep, methodStep, judge}
 use Rattle.typing.specs.Mark.{noError, noDiag, passes}
 
--- unnamed arguments of some types
-abbrev unnamed : List (List ℕ) → List Arg
-unnamed ts = map (λ t. record { name = none; ty = t; node = 0 }) ts
+-- an argument of a type, with a name or without
+abbrev arg : Option ℕ → List ℕ → Arg
+arg name t = record { name = name; ty = t; node = 0 }
 
--- the scores of the ownerless functions of a name
-scoresOf : List ℕ → ℕ → List (List ℕ) → List (Option ℕ)
-scoresOf t id ts = map (λ o. score (symbolsOf t) o (unnamed ts)) (symbolsOf t .functionsOf noId id)
+-- the scores of the ownerless functions of a name, `none` for no match
+scoresOf : List ℕ → ℕ → List Arg → List (Option ℕ)
+scoresOf t id xs = map (λ o. score (symbolsOf t) o xs) (symbolsOf t .functionsOf noId id)
 
 -- a number, and the lent bytes afterwards
 record Fits (lent : ℕ) (a : Answer) (b : List ℕ) (number : ℕ) (diags : List ℕ) : Type 0 where
@@ -62,6 +62,10 @@ record Fits (lent : ℕ) (a : Answer) (b : List ℕ) (number : ℕ) (diags : Lis
 -- f(p): Int, with one parameter of a type; f is name 40, p is 41
 abbrev taking : List ℕ → List ℕ
 taking ty = letter 102 ++ (letter 112 ++ function 40 int 1 (param 41 ty))
+
+-- the question of the sample
+abbrev sampleQuestion : List ℕ
+sampleQuestion = 255 ∷ 255 ∷ 255 ∷ 255 ∷ 0 ∷ 2 ∷ 6 ∷ 0 ∷ 0 ∷ []
 
 -- x is 40, y is 41, z is 42; y is x's superclass, and z is y's. x and z have operator sets, z's with plus; y has one with the mask, where there is one
 abbrev chain : List ℕ → List ℕ
@@ -88,11 +92,12 @@ pub record Marked : Type 0 where
   -- "◆ Nullable(String) does not."
   nullable-string : canAssign (nullable string) int ≡ false
   nullable-argument : Fails (taking int) (script (call 40 1 (leaf (nullable string)))) int (diagnostic 17 1 1)
-  -- "◆ Named A does not assign to Named B although B is A's superclass;"
+  -- "◆ Named A does not assign to Named B although B is A's superclass; only List, ArrayList and MutableList, as names, assign among themselves."
   superclass : canAssign (namedClass 40) (namedClass 41) ≡ false
   superclass-argument :
       Fails (letter 120 ++ (letter 121 ++ (letter 102 ++ (letter 112 ++ (class 41 noSuper ++ (class 40 (41 ∷ 0 ∷ []) ++ function 42 int 1 (param 43 (namedClass 41))))))))
       (script (call 42 1 (leaf (namedClass 40)))) int (diagnostic 17 1 1)
+  list-names : canAssign (namedClass listId) (namedClass mutableListId) ≡ true
   -- "◆ Long + Long is Int."
   long-plus : Passes [] (plus long long) int
   -- "◆ Long − Long is Long."
@@ -105,23 +110,27 @@ pub record Marked : Type 0 where
   climb-stops : Fails (chain (operators 40 2 ++ operators 42 1)) (plus (namedClass 40) (namedClass 40)) error (diagnostic 2 0 0)
   -- (and goes on past one with an operator set; "A method without a function gives Any.")
   climb-goes : Passes (chain (operators 40 2 ++ (operators 41 2 ++ operators 42 1))) (plus (namedClass 40) (namedClass 40)) any
-  -- "◆ NotNull gives Error and a diagnostic on Int;"
+  -- "◆ NotNull gives Error and a diagnostic on Int; a nullable operand is reported earlier."
   not-null : Fails [] (script (unary 6 (leaf int))) error (diagnostic 13 0 0)
+  not-null-nullable : Fails [] (script (unary 6 (leaf (nullable int)))) error (diagnostic 8 0 0)
   -- "◆ Overloads f(Int, String) and f(Int, Int) called f(Int, String): neither matches, diagnostic 18."
   no-match : Fails two (script (call 40 2 (leaf int ++ leaf string))) error (diagnostic 18 0 0)
+  no-match-scores : scoresOf two 40 (arg none int ∷ arg none string ∷ []) ≡ none ∷ none ∷ []
   -- "◆ Called f(Int, Int): both match with 4, a tie of two."
   tie : Fails two (script (call 40 2 (leaf int ++ leaf int))) int (diagnostic 19 0 2)
-  scores : scoresOf two 40 (int ∷ int ∷ []) ≡ some 4 ∷ some 4 ∷ []
+  tie-scores : scoresOf two 40 (arg none int ∷ arg none int ∷ []) ≡ some 4 ∷ some 4 ∷ []
   -- "With f(Int, String) as the only overload, f(Int, String) matches nothing and passes by the check by index"
   only : Passes first (script (call 40 2 (leaf int ++ leaf string))) int
-  only-scores : scoresOf first 40 (int ∷ string ∷ []) ≡ none ∷ []
+  only-scores : scoresOf first 40 (arg none int ∷ arg none string ∷ []) ≡ none ∷ []
   -- "◆ f(p Int, q String) called f(q = Int, String) matches nothing, yet the only fitting overload is then checked by index and passes silently."
   by-index : Passes first (script (call 40 2 (named 42 (leaf int) ++ leaf string))) int
+  by-index-scores : scoresOf first 40 (arg (some 42) int ∷ arg none string ∷ []) ≡ none ∷ []
   -- "◆ f(a Int, b Int) called f(a = Int, a = Int) matches."
   twice-named : Passes ints (script (call 40 2 (named 41 (leaf int) ++ named 41 (leaf int)))) int
+  twice-scores : scoresOf ints 40 (arg (some 41) int ∷ arg (some 41) int ∷ []) ≡ some 4 ∷ []
   -- "Bytes (hex) 00 00 FF FF FF FF 00 02 06 00 00 print `0 0 1 15 1`, then `13 0 0`."
-  sample : answerOf [] (255 ∷ 255 ∷ 255 ∷ 255 ∷ 0 ∷ 2 ∷ 6 ∷ 0 ∷ 0 ∷ []) 65535
-      ≡ record { number = 0; pass = 0; ty = 21 ∷ replicate 255 0; len = 1; count = 1 }
+  sample : answerOf [] sampleQuestion 65535 ≡ record { number = 0; pass = 0; ty = 21 ∷ replicate 255 0; len = 1; count = 1 }
+  sample-buffer : bufferOf [] sampleQuestion 65535 ≡ padded 65535 (diagnostic 13 0 0)
   -- "(one diagnostic: 5 bytes pass, 4 don't)"
   five : Fits 5 (answerOf [] (script (unary 6 (leaf int))) 5) (bufferOf [] (script (unary 6 (leaf int))) 5) 0 (diagnostic 13 0 0)
   four : Fits 4 (answerOf [] (script (unary 6 (leaf int))) 4) (bufferOf [] (script (unary 6 (leaf int))) 4) 12 []
@@ -137,6 +146,7 @@ marked = record {
   nullable-argument = record { answer = refl; buffer = refl };
   superclass = refl;
   superclass-argument = record { answer = refl; buffer = refl };
+  list-names = refl;
   long-plus = record { answer = refl; buffer = refl };
   long-minus = record { answer = refl; buffer = refl };
   double-plus = record { answer = refl; buffer = refl };
@@ -144,14 +154,19 @@ marked = record {
   climb-stops = record { answer = refl; buffer = refl };
   climb-goes = record { answer = refl; buffer = refl };
   not-null = record { answer = refl; buffer = refl };
+  not-null-nullable = record { answer = refl; buffer = refl };
   no-match = record { answer = refl; buffer = refl };
+  no-match-scores = refl;
   tie = record { answer = refl; buffer = refl };
-  scores = refl;
+  tie-scores = refl;
   only = record { answer = refl; buffer = refl };
   only-scores = refl;
   by-index = record { answer = refl; buffer = refl };
+  by-index-scores = refl;
   twice-named = record { answer = refl; buffer = refl };
+  twice-scores = refl;
   sample = refl;
+  sample-buffer = refl;
   five = record { said = refl; left = refl };
   four = record { said = refl; left = refl };
   nothing = refl;

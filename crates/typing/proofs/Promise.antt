@@ -1,4 +1,4 @@
--- Demand 3 for one table and one question whose types fit. Assumes nothing.
+-- Demand 3 for one table and one question whose types fit. No axiom.
 use Prim.Native.Nat.{ℕ, _≤_}
 use lib.ListN.{length}
 use mathlib.Core.Bool.{true}

@@ -1,4 +1,5 @@
--- The clean rules of calls. Document 01, "Clean rules". Only arity, acceptance and scoring are shared with the definition of `check_call_args`.
+-- The clean rules of calls. Document 01, "Clean rules". Only which overloads are usable and fit, scoring, and the check by index are
+-- shared with the definition of `check_call_args`.
 use Prim.Native.Nat.{ℕ, _<_}
 use lib.ListN.{length}
 use mathlib.Core.Bool.{true, false}

@@ -1,4 +1,6 @@
--- Demand 1, of an answer a and a buffer b afterwards, where `lent` bytes were lent.
+-- Demand 1: "Malformed or too long tables and questions, and diagnostics that don't fit the lent buffer, are refused by document 01's number, with type length
+-- 0 and that buffer all zero. It ends on every input."
+-- Here of an answer a and a buffer b afterwards, where `lent` bytes were lent, for any bytes of a table t and a question q.
 use Prim.Native.Nat.{ℕ, _*_, _≤_, _<_}
 use lib.ListN.{length}
 use mathlib.Core.List.{List}
@@ -10,6 +12,10 @@ use Rattle.symbol.specs.Refused.{tableFault}
 use Rattle.typing.specs.Answer.{Answer, answerBytes, zeros, namesOf, judgementOf}
 
 pub record Demand1 (t q : List ℕ) (lent : ℕ) (a : Answer) (b : List ℕ) : Type 0 where
+  -- 0 exactly when both are accepted, the root type has at most 256 bytes and the diagnostics fit the buffer
+  pub zero : (a .number ≡ 0)
+      ↔ ((tableFault t ≡ 0) × (questionFault (namesOf t) q ≡ 0) × (length (judgementOf t q .ty) ≤ answerBytes)
+      × (recordLength * length (judgementOf t q .diags) ≤ lent))
   -- the table's number comes first, then the question's
   pub table : tableFault t ≢ 0 → a .number ≡ tableFault t
   pub question : tableFault t ≡ 0 → questionFault (namesOf t) q ≢ 0 → a .number ≡ questionFault (namesOf t) q
