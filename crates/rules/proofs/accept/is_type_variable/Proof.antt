@@ -10,5 +10,8 @@ is-type-variable-spec =
     (λ c κs. search needs)
     (λ c κs. search needs)
     (λ c κs. search needs)
-    (λ c. rw (c .is-variable-name .ensures, c .before .name-of .ensures, ← c .before .before .before .kind-of .ensures, eq-eqb _ _ (c .before .before .if1 .taken)))
+    (λ c.
+    let c2 = c .before .before in
+    let c3 = c2 .before in
+    rw (c .is-variable-name .ensures, c .before .name-of .ensures, ← c3 .kind-of .ensures, eq-eqb _ _ (c2 .if1 .taken)))
     (λ c. rw (← c .before .kind-of .ensures, ne-eqb _ _ (c .if1 .left))))

@@ -17,12 +17,26 @@ add-spec =
     (λ c κs. search needs)
     (λ c κs. search needs)
     (λ c κs. search needs)
-    (λ c table x y. rw (c .plain2 .ensures table x y, ← c .before .before .fractional .ensures, ← c .before .before .before .before .numbers .ensures) (search chain depth 16))
+    (λ c table x y.
+    let c2 = c .before .before in
+    let c4 = c2 .before .before in
+    rw (c .plain2 .ensures table x y, ← c2 .fractional .ensures, ← c4 .numbers .ensures) (search chain depth 16))
     (λ c κs. search needs)
-    (λ c table x y. rw (c .plain3 .ensures table x y, ← c .before .before .fractional .ensures, ← c .before .before .before .before .numbers .ensures) (search chain depth 16))
+    (λ c table x y.
+    let c2 = c .before .before in
+    let c4 = c2 .before .before in
+    rw (c .plain3 .ensures table x y, ← c2 .fractional .ensures, ← c4 .numbers .ensures) (search chain depth 16))
     (λ c κs. search needs)
     (λ c κs. search needs)
     (λ c κs. search needs)
-    (λ c table x y. rw (c .plain4 .ensures table x y, ← c .before .before .before .before .before .numbers .ensures, ← c .before .before .before .either .ensures, ← c .before .before .either2 .ensures) (search chain depth 16))
+    (λ c table x y.
+    let c2 = c .before .before in
+    let c3 = c2 .before in
+    let c5 = c3 .before .before in
+    rw (c .plain4 .ensures table x y, ← c5 .numbers .ensures, ← c3 .either .ensures, ← c2 .either2 .ensures) (search chain depth 16))
     (λ c κs. search needs)
-    (λ c table x y. rw (c .fails .ensures table x y, ← c .before .before .before .before .before .numbers .ensures, ← c .before .before .before .either .ensures, ← c .before .before .either2 .ensures) (search chain depth 16)))
+    (λ c table x y.
+    let c2 = c .before .before in
+    let c3 = c2 .before in
+    let c5 = c3 .before .before in
+    rw (c .fails .ensures table x y, ← c5 .numbers .ensures, ← c3 .either .ensures, ← c2 .either2 .ensures) (search chain depth 16)))

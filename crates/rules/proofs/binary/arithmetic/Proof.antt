@@ -15,11 +15,22 @@ arithmetic-spec =
     (λ c κs. search needs)
     (λ c κs. search needs)
     (λ c κs. search needs)
-    (λ c table x y. rw (c .plain .ensures table x y, ← c .before .before .fractional .ensures, ← c .before .before .before .before .numbers .ensures) (search chain depth 16))
+    (λ c table x y.
+    let c2 = c .before .before in
+    let c4 = c2 .before .before in
+    rw (c .plain .ensures table x y, ← c2 .fractional .ensures, ← c4 .numbers .ensures) (search chain depth 16))
     (λ c κs. search needs)
     (λ c κs. search needs)
-    (λ c table x y. rw (c .plain2 .ensures table x y, ← c .before .before .before .before .fractional .ensures, ← c .before .before .before .before .before .before .numbers .ensures, ← c .before .before .either .ensures) (search chain depth 16))
+    (λ c table x y.
+    let c2 = c .before .before in
+    let c4 = c2 .before .before in
+    let c6 = c4 .before .before in
+    rw (c .plain2 .ensures table x y, ← c4 .fractional .ensures, ← c6 .numbers .ensures, ← c2 .either .ensures) (search chain depth 16))
     (λ c κs. search needs)
-    (λ c table x y. rw (c .plain3 .ensures table x y, ← c .before .before .before .before .fractional .ensures, ← c .before .before .before .before .before .before .numbers .ensures, ← c .before .before .either .ensures) (search chain depth 16))
+    (λ c table x y.
+    let c2 = c .before .before in
+    let c4 = c2 .before .before in
+    let c6 = c4 .before .before in
+    rw (c .plain3 .ensures table x y, ← c4 .fractional .ensures, ← c6 .numbers .ensures, ← c2 .either .ensures) (search chain depth 16))
     (λ c κs. search needs)
     (λ c table x y. rw (c .fails .ensures table x y, ← c .before .before .numbers .ensures) (search chain depth 16)))

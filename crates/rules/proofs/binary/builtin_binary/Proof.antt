@@ -16,6 +16,27 @@ builtin-binary-spec =
     (λ c κs. search needs)
     (λ c κs. search needs)
     (λ c κs. search needs)
-    (λ c. let a = c .before .before .before .before .before .before .before .before .before .args in λ table S. rw (c .alone .ensures table (a .lt .now) (a .rt .now), c .before .fails .ensures table (a .lt .now) (a .rt .now), ← c .before .before .before .before .before .before .kind-of .ensures, ← c .before .before .before .before .before .kind-of2 .ensures, ← c .before .before .before .either .ensures, ← c .before .before .before .before .takes-nullable .ensures) (search chain depth 16))
+    (λ c.
+    let c3 = c .before .before .before in
+    let c4 = c3 .before in
+    let c5 = c4 .before in
+    let c6 = c5 .before in
+    let c9 = c6 .before .before .before in
+    let a = c9 .args in
+    λ table S.
+    rw (
+      c .alone .ensures table (a .lt .now) (a .rt .now),
+      c .before .fails .ensures table (a .lt .now) (a .rt .now),
+      ← c6 .kind-of .ensures,
+      ← c5 .kind-of2 .ensures,
+      ← c3 .either .ensures,
+      ← c4 .takes-nullable .ensures,
+    ) (search chain depth 16))
     (λ c κs. search needs)
-    (λ c table S. rw (c .operator .ensures table, ← c .before .before .before .before .before .kind-of .ensures, ← c .before .before .before .before .kind-of2 .ensures, ← c .before .before .either .ensures, ← c .before .before .before .takes-nullable .ensures) (search chain depth 16)))
+    (λ c table S.
+    let c2 = c .before .before in
+    let c3 = c2 .before in
+    let c4 = c3 .before in
+    let c5 = c4 .before in
+    rw (c .operator .ensures table, ← c5 .kind-of .ensures, ← c4 .kind-of2 .ensures, ← c2 .either .ensures, ← c3 .takes-nullable .ensures)
+    (search chain depth 16)))

@@ -17,7 +17,19 @@ check-binary-spec =
     (λ c κs. search needs)
     (λ c κs. search needs)
     (λ c κs. search needs)
-    (λ c. let a = c .before .before .before .before .before .before .before .before .before .args in rw (c .alone .ensures (a .table .now) (a .lt .now) (a .rt .now), c .before .plain .ensures (a .table .now) (a .lt .now) (a .rt .now), ← c .before .before .before .before .before .kind-of .ensures, ← c .before .before .before .before .kind-of2 .ensures, ← c .before .before .before .either .ensures) (search chain depth 16))
+    (λ c.
+    let c3 = c .before .before .before in
+    let c4 = c3 .before in
+    let c5 = c4 .before in
+    let c9 = c5 .before .before .before .before in
+    let a = c9 .args in
+    rw (
+      c .alone .ensures (a .table .now) (a .lt .now) (a .rt .now),
+      c .before .plain .ensures (a .table .now) (a .lt .now) (a .rt .now),
+      ← c5 .kind-of .ensures,
+      ← c4 .kind-of2 .ensures,
+      ← c3 .either .ensures,
+    ) (search chain depth 16))
     (λ c κs. search needs)
     (λ c. search needs)
     (λ c κs. search needs)
@@ -27,6 +39,50 @@ check-binary-spec =
     (λ c. search needs)
     (λ c κs. search needs)
     (λ c κs. search needs)
-    (λ c. let a = c .before .before .before .before .before .before .before .before .before .before .before .args in rw (c .builtin-binary .ensures (a .table .now) (symbolsOf (a .table .now)), no-method _ _ _ _ (c .before .before .before .operator-overload-return .ensures) ((c .before .enum-told .given) .1), ← c .before .before .before .before .before .before .before .kind-of .ensures, ← c .before .before .before .before .before .before .kind-of2 .ensures, ← c .before .before .before .before .before .either .ensures) (search chain depth 16))
-    (λ c. let a = c .before .before .before .before .before .before .before .before .before .before .before .before .args in rw (c .alone2 .ensures (a .table .now) (a .lt .now) (a .rt .now), c .before .plain2 .ensures (a .table .now) (a .lt .now) (a .rt .now), any-method _ _ _ _ (c .before .before .before .before .operator-overload-return .ensures) ((c .before .before .enum-told2 .given) .1), ← c .before .before .before .before .before .before .before .before .kind-of .ensures, ← c .before .before .before .before .before .before .before .kind-of2 .ensures, ← c .before .before .before .before .before .before .either .ensures) (search chain depth 16))
-    (λ c. let a = c .before .before .before .before .before .before .before .before .before .before .before .before .before .args in let g = (c .before .before .before .method .given) in rw (c .alone3 .ensures (a .table .now) (a .lt .now) (a .rt .now), c .before .clean .ensures (a .table .now) (a .lt .now) (a .rt .now), method-at _ _ _ _ (g .0 .0) (g .0 .1 .0) (c .before .before .before .before .before .operator-overload-return .ensures) (g .1), ← c .before .before .before .before .before .before .before .before .before .kind-of .ensures, ← c .before .before .before .before .before .before .before .before .kind-of2 .ensures, ← c .before .before .before .before .before .before .before .either .ensures) (search chain depth 16)))
+    (λ c.
+    let c3 = c .before .before .before in
+    let c5 = c3 .before .before in
+    let c6 = c5 .before in
+    let c7 = c6 .before in
+    let c11 = c7 .before .before .before .before in
+    let a = c11 .args in
+    rw (
+      c .builtin-binary .ensures (a .table .now) (symbolsOf (a .table .now)),
+      no-method _ _ _ _ (c3 .operator-overload-return .ensures) ((c .before .enum-told .given) .1),
+      ← c7 .kind-of .ensures,
+      ← c6 .kind-of2 .ensures,
+      ← c5 .either .ensures,
+    ) (search chain depth 16))
+    (λ c.
+    let c2 = c .before .before in
+    let c4 = c2 .before .before in
+    let c6 = c4 .before .before in
+    let c7 = c6 .before in
+    let c8 = c7 .before in
+    let c12 = c8 .before .before .before .before in
+    let a = c12 .args in
+    rw (
+      c .alone2 .ensures (a .table .now) (a .lt .now) (a .rt .now),
+      c .before .plain2 .ensures (a .table .now) (a .lt .now) (a .rt .now),
+      any-method _ _ _ _ (c4 .operator-overload-return .ensures) (c2 .enum-told2 .given .1),
+      ← c8 .kind-of .ensures,
+      ← c7 .kind-of2 .ensures,
+      ← c6 .either .ensures,
+    ) (search chain depth 16))
+    (λ c.
+    let c3 = c .before .before .before in
+    let c5 = c3 .before .before in
+    let c7 = c5 .before .before in
+    let c8 = c7 .before in
+    let c9 = c8 .before in
+    let c13 = c9 .before .before .before .before in
+    let a = c13 .args in
+    let g = c3 .method .given in
+    rw (
+      c .alone3 .ensures (a .table .now) (a .lt .now) (a .rt .now),
+      c .before .clean .ensures (a .table .now) (a .lt .now) (a .rt .now),
+      method-at _ _ _ _ (g .0 .0) (g .0 .1 .0) (c5 .operator-overload-return .ensures) (g .1),
+      ← c9 .kind-of .ensures,
+      ← c8 .kind-of2 .ensures,
+      ← c7 .either .ensures,
+    ) (search chain depth 16)))

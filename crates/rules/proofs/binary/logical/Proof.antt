@@ -14,4 +14,7 @@ logical-spec =
     (λ c κs. search needs)
     (λ c κs. search needs)
     (λ c κs. search needs)
-    (λ c table x y. rw (c .before .before .unless .ensures, c .unless2 .ensures, c .before .before .before .is-logical .ensures, c .before .is-logical2 .ensures)))
+    (λ c table x y.
+    let c2 = c .before .before in
+    let c3 = c2 .before in
+    rw (c2 .unless .ensures, c .unless2 .ensures, c3 .is-logical .ensures, c .before .is-logical2 .ensures)))

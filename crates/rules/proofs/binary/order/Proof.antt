@@ -14,4 +14,7 @@ order-spec =
     (λ c κs. search needs)
     (λ c κs. search needs)
     (λ c κs. search needs)
-    (λ c table x y. rw (c .checked .ensures table x y, c .before .before .before .numbers .ensures, c .before .before .either .ensures, c .before .char-string .ensures)))
+    (λ c table x y.
+    let c2 = c .before .before in
+    let c3 = c2 .before in
+    rw (c .checked .ensures table x y, c3 .numbers .ensures, c2 .either .ensures, c .before .char-string .ensures)))

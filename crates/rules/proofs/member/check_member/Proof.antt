@@ -21,14 +21,58 @@ check-member-spec =
     (λ c κs. search needs)
     (λ c κs. search needs)
     (λ c κs. search needs)
-    (λ c. let a = c .before .before .before .before .before .before .args in λ y. rw (c .alone .ensures (a .table .now) (a .object .now) y, c .before .fails .ensures (a .table .now) (a .object .now) y, ← c .before .before .before .is-nullable-object .ensures) (search chain depth 16))
+    (λ c.
+    let c3 = c .before .before .before in
+    let c6 = c3 .before .before .before in
+    let a = c6 .args in
+    λ y.
+    rw (
+      c .alone .ensures (a .table .now) (a .object .now) y,
+      c .before .fails .ensures (a .table .now) (a .object .now) y,
+      ← c3 .is-nullable-object .ensures,
+    ) (search chain depth 16))
     (λ c κs. search needs)
     (λ c κs. search needs)
     (λ c κs. search needs)
     (λ c κs. search needs)
-    (λ c. let a = c .before .before .before .before .before .before .before .before .before .args in λ y. rw (c .alone2 .ensures (a .table .now) (a .object .now) y, c .before .plain .ensures (a .table .now) (a .object .now) y, ← c .before .before .before .before .before .before .is-nullable-object .ensures, ← c .before .before .before .before .non-null .ensures, ← c .before .before .before .kind-of .ensures) (search chain depth 16))
+    (λ c.
+    let c3 = c .before .before .before in
+    let c4 = c3 .before in
+    let c6 = c4 .before .before in
+    let c9 = c6 .before .before .before in
+    let a = c9 .args in
+    λ y.
+    rw (
+      c .alone2 .ensures (a .table .now) (a .object .now) y,
+      c .before .plain .ensures (a .table .now) (a .object .now) y,
+      ← c6 .is-nullable-object .ensures,
+      ← c4 .non-null .ensures,
+      ← c3 .kind-of .ensures,
+    ) (search chain depth 16))
     (λ c κs. search needs)
     (λ c κs. search needs)
     (λ c κs. search needs)
     (λ c κs. search needs)
-    (λ c. let a = c .before .before .before .before .before .before .before .before .before .before .before .args in λ y. rw (c .behind .ensures (a .table .now) (a .object .now) y, c .before .before .before .member-report .ensures, c .before .kind-member .ensures y, c .before .before .is-array .ensures, c .before .before .before .before .before .kind-of .ensures, c .before .before .before .before .before .before .non-null .ensures, same-base _ (a .object .now) _ (sym (c .before .before .before .before .before .before .before .before .is-nullable-object .ensures) ∙ c .before .before .before .before .before .before .before .if1 .left)) (passed _ _ _ _ (sym (c .before .before .before .before .before .before .before .before .is-nullable-object .ensures) ∙ c .before .before .before .before .before .before .before .if1 .left) (passed _ _ _ _ (sym (ap (λ (s : List ℕ). eqb (kindOf s) moduleKind) (c .before .before .before .before .before .before .non-null .ensures)) ∙ (sym (ap (λ (k : ℕ). eqb k moduleKind) (c .before .before .before .before .before .kind-of .ensures)) ∙ ne-eqb _ _ (c .before .before .before .before .if2 .left))) refl))))
+    (λ c.
+    let c2 = c .before .before in
+    let c3 = c2 .before in
+    let c4 = c3 .before in
+    let c5 = c4 .before in
+    let c6 = c5 .before in
+    let c7 = c6 .before in
+    let c8 = c7 .before in
+    let c11 = c8 .before .before .before in
+    let a = c11 .args in
+    λ y.
+    rw (
+      c .behind .ensures (a .table .now) (a .object .now) y,
+      c3 .member-report .ensures,
+      c .before .kind-member .ensures y,
+      c2 .is-array .ensures,
+      c5 .kind-of .ensures,
+      c6 .non-null .ensures,
+      same-base _ (a .object .now) _ (sym (c8 .is-nullable-object .ensures)
+          ∙ c7 .if1 .left),
+    ) (passed _ _ _ _ (sym (c8 .is-nullable-object .ensures) ∙ c7 .if1 .left) (passed _ _ _ _
+    (sym (ap (λ (s : List ℕ). eqb (kindOf s) moduleKind) (c6 .non-null .ensures)) ∙ (sym (ap (λ (k : ℕ). eqb k moduleKind) (c5 .kind-of .ensures))
+    ∙ ne-eqb _ _ (c4 .if2 .left))) refl))))

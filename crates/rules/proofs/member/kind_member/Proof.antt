@@ -12,14 +12,36 @@ kind-member-spec =
     (tie.spec
     (λ c κs. search needs)
     (λ c κs. search needs)
-    (λ c y. rw (c .named-member .ensures (c .before .before .before .before .before .args .object .now) y, c .before .name-of .ensures) (search chain depth 16))
+    (λ c y.
+    let c5 = c .before .before .before .before .before in
+    rw (c .named-member .ensures (c5 .args .object .now) y, c .before .name-of .ensures) (search chain depth 16))
     (λ c κs. search needs)
-    (λ c. let a = c .before .before .before .before .before .args in λ y. rw (c .string-member .ensures (a .table .now) (a .object .now) y) (search chain depth 16))
+    (λ c.
+    let c5 = c .before .before .before .before .before in
+    let a = c5 .args in
+    λ y.
+    rw (c .string-member .ensures (a .table .now) (a .object .now) y) (search chain depth 16))
     (λ c κs. search needs)
-    (λ c. let a = c .before .before .before .before .before .before .args in λ y. rw (c .element-member .ensures (a .table .now) (a .object .now) y) (search chain depth 16))
+    (λ c.
+    let c6 = c .before .before .before .before .before .before in
+    let a = c6 .args in
+    λ y.
+    rw (c .element-member .ensures (a .table .now) (a .object .now) y) (search chain depth 16))
     (λ c κs. search needs)
-    (λ c. let a = c .before .before .before .before .before .before .before .args in λ y. rw (c .map-member .ensures (a .table .now) (a .object .now) y) (search chain depth 16))
+    (λ c.
+    let c7 = c .before .before .before .before .before .before .before in
+    let a = c7 .args in
+    λ y.
+    rw (c .map-member .ensures (a .table .now) (a .object .now) y) (search chain depth 16))
     (λ c κs. search needs)
-    (λ c. let a = c .before .before .before .before .before .before .before .before .args in λ y. rw (c .plain .ensures (a .table .now) (a .object .now) y) (search chain depth 16))
+    (λ c.
+    let c8 = c .before .before .before .before .before .before .before .before in
+    let a = c8 .args in
+    λ y.
+    rw (c .plain .ensures (a .table .now) (a .object .now) y) (search chain depth 16))
     (λ c κs. search needs)
-    (λ c. let a = c .before .before .before .before .before .before .before .before .args in λ y. rw (c .fails .ensures (a .table .now) (a .object .now) y) (search chain depth 16)))
+    (λ c.
+    let c8 = c .before .before .before .before .before .before .before .before in
+    let a = c8 .args in
+    λ y.
+    rw (c .fails .ensures (a .table .now) (a .object .now) y) (search chain depth 16)))

@@ -12,5 +12,10 @@ lookup-var-ty-spec =
     (λ c. search needs)
     (λ c. search needs)
     (λ c κs. search needs)
-    (λ c. let x = (c .before .field .given) in sym (field-found _ _ _ _ (x .0 .0) (x .0 .1 .0) ((c .before .before .before .field-of .ensures) .0) (x .1)))
-    (λ c. c .lookup-function .ensures ∙ sym (no-field _ _ _ _ ((c .before .before .before .field-of .ensures) .0) ((c .before .enum-told .given) .1))))
+    (λ c.
+    let c3 = c .before .before .before in
+    let x = c .before .field .given in
+    sym (field-found _ _ _ _ (x .0 .0) (x .0 .1 .0) ((c3 .field-of .ensures) .0) (x .1)))
+    (λ c.
+    let c3 = c .before .before .before in
+    c .lookup-function .ensures ∙ sym (no-field _ _ _ _ ((c3 .field-of .ensures) .0) ((c .before .enum-told .given) .1))))

@@ -11,10 +11,19 @@ named-member-spec =
     (tie.spec
     (λ c κs. search needs)
     (λ c κs. search needs)
-    (λ c x y. rw (c .variable-member .ensures (c .before .before .before .before .args .table .now) x y, ← c .before .before .is-variable-name .ensures) (search chain depth 16))
+    (λ c x y.
+    let c2 = c .before .before in
+    let c4 = c2 .before .before in
+    rw (c .variable-member .ensures (c4 .args .table .now) x y, ← c2 .is-variable-name .ensures) (search chain depth 16))
     (λ c κs. search needs)
-    (λ c x y. rw (c .pair-member .ensures (c .before .before .before .before .before .args .table .now) x y, ← c .before .before .before .is-variable-name .ensures) (search chain depth 16))
+    (λ c x y.
+    let c3 = c .before .before .before in
+    let c5 = c3 .before .before in
+    rw (c .pair-member .ensures (c5 .args .table .now) x y, ← c3 .is-variable-name .ensures) (search chain depth 16))
     (λ c κs. search needs)
-    (λ c x y. rw (c .collection-member .ensures (c .before .before .before .before .before .before .args .table .now) x y, ← c .before .before .before .before .is-variable-name .ensures) (search chain depth 16))
+    (λ c x y.
+    let c4 = c .before .before .before .before in
+    let c6 = c4 .before .before in
+    rw (c .collection-member .ensures (c6 .args .table .now) x y, ← c4 .is-variable-name .ensures) (search chain depth 16))
     (λ c κs. search needs)
     (λ c x y. rw (c .class-member .ensures x y, ← c .before .before .before .before .is-variable-name .ensures) (search chain depth 16)))

@@ -22,7 +22,12 @@ enum-told : tie.Need-enum-told Inv-loop μ-loop
 enum-told c = search needs
 
 returns : tie.Need-returns Inv-loop μ-loop
-returns c = sym (no-set (c .before .before .before .before .before .before .args .table .now) _ _ _ (c .before .before .before .loop-test .taken) (c .before .before .before .before .loop .inv) _ (c .before .before .operators-of .ensures) ((c .enum-told .given) .1))
+returns c =
+    let c2 = c .before .before in
+    let c3 = c2 .before in
+    let c4 = c3 .before in
+    let c6 = c4 .before .before in
+    sym (no-set (c6 .args .table .now) _ _ _ (c3 .loop-test .taken) (c4 .loop .inv) _ (c2 .operators-of .ensures) (c .enum-told .given .1))
 
 enum-known-set : tie.Need-enum-known-set Inv-loop μ-loop
 enum-known-set c = search needs
@@ -37,16 +42,38 @@ first-result-requires : tie.Need-first-result-requires Inv-loop μ-loop
 first-result-requires c κs = search needs
 
 returns-2 : tie.Need-returns-2 Inv-loop μ-loop
-returns-2 c = let x = (c .before .before .before .before .set .given) in (c .first-result .ensures) ∙ sym (has-method (c .before .before .before .before .before .before .before .before .before .before .args .table .now) _ _ _ (c .before .before .before .before .before .before .before .loop-test .taken) (c .before .before .before .before .before .before .before .before .loop .inv) _ (x .0 .0) (c .before .before .before .before .before .before .operators-of .ensures) (x .1) (sym (c .before .before .has-operator .ensures) ∙ c .before .if1 .taken))
+returns-2 c =
+    let c2 = c .before .before in
+    let c4 = c2 .before .before in
+    let c6 = c4 .before .before in
+    let c7 = c6 .before in
+    let c8 = c7 .before in
+    let c10 = c8 .before .before in
+    let x = c4 .set .given in
+    (c .first-result .ensures)
+    ∙ sym (has-method (c10 .args .table .now) _ _ _ (c7 .loop-test .taken) (c8 .loop .inv) _ (x .0 .0) (c6 .operators-of .ensures) (x .1)
+    (sym (c2 .has-operator .ensures) ∙ c .before .if1 .taken))
 
 superclass-of-requires : tie.Need-superclass-of-requires Inv-loop μ-loop
 superclass-of-requires c κs = search needs
 
 loop-less : tie.Need-loop-less Inv-loop μ-loop
-loop-less c = rw (c .superclass-of .ensures) (super-below (c .before .before .before .before .before .before .before .before .before .before .args .table .now) ((c .before .before .before .before .before .before .before .before .before .before .pre) .0 .clean) _ (c .before .before .before .before .before .before .before .loop-test .taken))
+loop-less c =
+    let c7 = c .before .before .before .before .before .before .before in
+    let c10 = c7 .before .before .before in
+    rw (c .superclass-of .ensures) (super-below (c10 .args .table .now) (c10 .pre .0 .clean) _ (c7 .loop-test .taken))
 
 loop-again : tie.Need-loop-again Inv-loop μ-loop
-loop-again c = let x = (c .before .before .before .before .set .given) in rw (c .superclass-of .ensures) (going-up (c .before .before .before .before .before .before .before .before .before .before .args .table .now) _ _ _ (c .before .before .before .before .before .before .before .loop-test .taken) (c .before .before .before .before .before .before .before .before .loop .inv) _ (x .0 .0) (c .before .before .before .before .before .before .operators-of .ensures) (x .1) ((c .before .before .before .before .before .before .before .before .before .before .pre) .0 .clean) (sym (c .before .before .has-operator .ensures) ∙ c .before .if1 .left))
+loop-again c =
+    let c2 = c .before .before in
+    let c4 = c2 .before .before in
+    let c6 = c4 .before .before in
+    let c7 = c6 .before in
+    let c8 = c7 .before in
+    let c10 = c8 .before .before in
+    let x = c4 .set .given in
+    rw (c .superclass-of .ensures) (going-up (c10 .args .table .now) _ _ _ (c7 .loop-test .taken) (c8 .loop .inv) _ (x .0 .0) (c6 .operators-of .ensures) (x .1) (c10 .pre .0 .clean)
+    (sym (c2 .has-operator .ensures) ∙ c .before .if1 .left))
 
 returns-3 : tie.Need-returns-3 Inv-loop μ-loop
 returns-3 c = sym (going-end (c .before .before .before .args .table .now) _ _ _ (c .before .loop .inv) (c .loop-test .left))

@@ -9,4 +9,9 @@ check-unary-spec = tie.close (tie.spec
     (λ c κs. search needs)
     (λ c κs. search needs)
     (λ c κs. search needs)
-    (λ c. let a = c .before .before .before .before .args in λ table y. rw (c .alone .ensures table (a .t .now) y, c .before .unary .ensures table (a .t .now) y, c .before .before .kind-of .ensures)))
+    (λ c.
+    let c2 = c .before .before in
+    let c4 = c2 .before .before in
+    let a = c4 .args in
+    λ table y.
+    rw (c .alone .ensures table (a .t .now) y, c .before .unary .ensures table (a .t .now) y, c2 .kind-of .ensures)))
