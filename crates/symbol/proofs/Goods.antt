@@ -1,6 +1,6 @@
 -- THE LAWS of an accepted table, over `symbolsOf`: its functions, fields and ids. Assumes nothing.
-use Prim.Native.Nat.{ℕ, zero, suc, _+_, _-_, _≤_, _<_}
-use borrow.Author.Tests.{eqb-true, ltb-true, lt-ltb}
+use Prim.Native.Nat.{ℕ, zero, suc, _+_, _-_, _≤_, _<_, max}
+use borrow.Author.Tests.{eqb-true, ltb-true, ltb-false, lt-ltb}
 use lib.Dec.{eqb, ltb}
 use lib.ListN.{length, getD, take, drop, length-drop, length-take, length-map}
 use lib.Seq.{length-take-le, take-all}
@@ -26,9 +26,10 @@ use Rattle.symbol.proofs.Cleans.{Clean}
 use Rattle.symbol.proofs.Names.{Distinct, names-distinct}
 use Rattle.symbol.proofs.Own.{head-own}
 use Rattle.symbol.proofs.Records.{records-here, records-end}
+use Rattle.symbol.proofs.Sizes.{head-by}
 use Rattle.symbol.proofs.Wholes.{FunctionWhole, function-whole, FieldWhole, field-whole}
-use Rattle.symbol.specs.Front.{headOf}
-use Rattle.symbol.specs.Lookup.{isOf, recordsWith, typeLength, paramOf, paramsFrom, overloadOf, fieldIn, symbolsIn, symbolsOf}
+use Rattle.symbol.specs.Front.{plainHead, visibilityHead, headBy, headOf}
+use Rattle.symbol.specs.Lookup.{isOf, recordsWith, typeLength, paramOf, paramsFrom, overloadOf, fieldIn, visibilityIn, symbolsIn, symbolsOf}
 use Rattle.symbol.specs.Refused.{tableFault}
 use Rattle.symbol.specs.Row.{TypeAt, RowAt}
 use Rattle.symbol.specs.Symbols.{Param, Overload}
@@ -174,6 +175,35 @@ field-good t e owner name ty q =
         no-some : none ≡ some ty → ⊥
         no-some q = let z : _≡_ {A = ℕ} 0 1 = cc in omega arith
     go (r ∷ rs) v q = let z : drop 5 r ≡ ty = cc in subst TypeGood z (v .0)
+
+-- ---- visibilities
+
+-- a record with no type in it that has a kind is not bad
+record NotBad (bad : Bool) (h : Head) : Type 0 where
+  is : 1 ≤ h .kind → bad ≡ false
+
+not-bad : (s : List ℕ) (n : ℕ) (bad : Bool) (kind one two top : ℕ) → NotBad bad (plainHead s n bad kind one two top)
+unfolding plainHead
+not-bad s n bad kind one two top =
+    by-choice (NotBad bad) (ltb (length s) n) (λ _. record { is = λ l. absurd (omega arith) }) λ _.
+    by-choice (NotBad bad) bad (λ _. record { is = λ l. absurd (omega arith) }) (λ b. record { is = λ _. b })
+
+level-small : (s : List ℕ) → headOf s .kind ≡ 6 → getD s 5 0 ≤ 3
+unfolding headBy visibilityHead choose
+level-small s k =
+    let e : headOf s ≡ visibilityHead s = head-by s 6 (omega arith) k in
+    ltb-false 3 (getD s 5 0) (not-bad s 6 (ltb 3 (getD s 5 0)) 6 (idAt s 1) (idAt s 3) (max (idAt s 1) (idAt s 3)) .is (omega (arith, ap (λ (x : Head). x .kind) e)))
+
+-- A MEMBER'S VISIBILITY of an accepted table is one of 0 to 3
+pub visibility-small : (t : List ℕ) → tableFault t ≡ 0 → (owner name v : ℕ) → symbolsOf t .visibilityOf owner name ≡ some v → v ≤ 3
+unfolding symbolsIn
+visibility-small t e owner name v q =
+    go (recordsWith 6 owner name (recordsOf t))
+    (with-every (λ r. getD r 5 0 ≤ 3) 6 owner name (λ r k _ _ _. level-small r k) [] (recordsOf t) (accepted-clean t e) (records-own (length t) t (omega arith))) q
+  where
+    go : (rs : List Record) → Every (λ r. getD r 5 0 ≤ 3) rs → visibilityIn rs ≡ some v → v ≤ 3
+    go [] w q = let z : _≡_ {A = ℕ} 0 1 = cc in absurd (omega arith)
+    go (r ∷ rs) w q = let z : getD r 5 0 ≡ v = cc in omega (arith, w .0)
 
 -- ---- how many
 

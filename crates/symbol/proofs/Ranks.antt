@@ -1,19 +1,20 @@
 -- In an accepted table superclasses do not go round: each class has a rank of at most the number of classes, and its superclass, if there is one, a lower one.
 -- Assumes nothing.
-use Prim.Native.Nat.{ℕ, zero, suc, _+_, _-_, _≤_, _<_}
-use mathlib.Core.Path.{_≡_, refl, sym, ap, _∙_}
+use Prim.Native.Nat.{ℕ, suc, _+_, _-_, _≤_, _<_}
+use borrow.Author.Tests.{eqb-false, ne-eqb}
+use lib.Dec.{eqb}
 use mathlib.Core.Bool.{Bool, true, false, not, _&&_, _||_, true≢false, false≢true}
 use mathlib.Core.List.{List, [], _∷_}
 use mathlib.Core.Logic.{_⊎_, inl, inr, ⊎-elim}
+use mathlib.Core.Path.{_≡_, refl, sym, ap, _∙_}
 use native.Mathlib.Omega.{arith}
-use lib.Dec.{eqb}
-use borrow.Author.Tests.{eqb-true, eqb-false, ne-eqb}
+use Rattle.symbol.proofs.Accepts.{CleanFrom, accepted-clean}
+use Rattle.symbol.specs.Front.{headOf}
+use Rattle.symbol.specs.Lookup.{isOf, recordsWith, superIn, symbolsIn, symbolsOf}
+use Rattle.symbol.specs.Refused.{isClass, hasClass, superLate, tableFault}
+use Rattle.symbol.specs.Table.{Record, recordsOf, countOf}
 use Rattle.ty.specs.Choose.{choose}
 use Rattle.ty.specs.Name.{noId}
-use Rattle.symbol.specs.Front.{headOf}
-use Rattle.symbol.specs.Table.{Record, recordsOf, countOf}
-use Rattle.symbol.specs.Lookup.{isOf, recordsWith, superIn, symbolsIn, symbolsOf}
-use Rattle.symbol.specs.Refused.{isClass, hasClass, superLate, recordFault, faultFrom, tableFault}
 
 -- how many class records there are from that of c on
 unfoldable pub classesFrom : ℕ → List Record → ℕ
@@ -25,11 +26,6 @@ unfoldable pub rankIn : List Record → ℕ → ℕ
 rankIn rs c = choose (hasClass c rs) (suc (countOf 2 rs) - classesFrom c rs) 0
 
 -- ---- small laws
-not-taken : (v : Bool) (n x : ℕ) → choose v (suc n) x ≡ 0 → (v ≡ false) × (x ≡ 0)
-unfolding choose
-not-taken true n x e = let z : suc n ≡ 0 = e in absurd (omega arith)
-not-taken false n x e = (refl, e)
-
 here : (c : ℕ) (r : Record) (rs : List Record) → isClass c (headOf r) ≡ true → classesFrom c (r ∷ rs) ≡ suc (countOf 2 rs)
 unfolding classesFrom choose
 here c r rs e = rw e
@@ -95,15 +91,6 @@ no-record c (r ∷ rs) e = go (isClass c (headOf r)) refl e (no-record c rs)
     go false i h k = with-there c r rs i ∙ k h
 
 -- ---- what an accepted record says of its superclass
-not-late : (earlier : List Record) (r : Record) (rest : List Record) → recordFault earlier r rest ≡ 0 → superLate earlier r rest ≡ false
-unfolding recordFault
-not-late earlier r rest e =
-    let e1 = not-taken _ 1 _ e in
-    let e2 = not-taken _ 2 _ (e1 .1) in
-    let e3 = not-taken _ 3 _ (e2 .1) in
-    let e4 = not-taken _ 4 _ (e3 .1) in
-    not-taken _ 5 _ (e4 .1) .0
-
 earlier-or-none : (k o : Bool) (n a b : Bool) → k && o ≡ true → n ≡ false → k && (not n && (not a && b)) ≡ false → (a ≡ true) ⊎ (b ≡ false)
 earlier-or-none true o n true b i m h = inl refl
 earlier-or-none true o false false b i m h = inr h
@@ -118,16 +105,6 @@ super-stands earlier c r rest l i n = earlier-or-none (eqb (headOf r .kind) 2) (
 -- the superclass s of the class c, of which the record stands in rest: it stands before rest, it does not stand in rest, or it stands before c
 abbrev Stands : List Record → ℕ → ℕ → List Record → Type 0
 Stands earlier c s rest = (hasClass s earlier ≡ true) ⊎ ((hasClass s rest ≡ false) ⊎ (classesFrom c rest < classesFrom s rest))
-
-first-fault : (earlier : List Record) (r : Record) (rs : List Record) → faultFrom earlier (r ∷ rs) ≡ 0
-    → (recordFault earlier r (r ∷ rs) ≡ 0) × (faultFrom (r ∷ earlier) rs ≡ 0)
-unfolding faultFrom choose
-first-fault earlier r rs e = go (eqb (recordFault earlier r (r ∷ rs)) 0) refl e
-  where
-    go : (b : Bool) → eqb (recordFault earlier r (r ∷ rs)) 0 ≡ b → choose b (faultFrom (r ∷ earlier) rs) (recordFault earlier r (r ∷ rs)) ≡ 0
-        → (recordFault earlier r (r ∷ rs) ≡ 0) × (faultFrom (r ∷ earlier) rs ≡ 0)
-    go true i h = (eqb-true _ _ i, h)
-    go false i h = absurd (eqb-false _ _ i h)
 
 -- s stands at the front
 at-front : (earlier : List Record) (c s : ℕ) (r : Record) (rs : List Record) → isClass c (headOf r) ≡ false → isClass s (headOf r) ≡ true → Stands earlier c s (r ∷ rs)
@@ -144,11 +121,11 @@ back earlier c s r rs i h = go (isClass s (headOf r)) refl
         ⊎-elim (λ a. inl (sym (ap (λ (b : Bool). b || hasClass s earlier) j) ∙ a))
         (⊎-elim (λ a. inr (inl (ap (λ (b : Bool). b || hasClass s rs) j ∙ a))) (λ a. inr (inr (rw (there s r rs j, there c r rs i) a)))) h
 
-stands : (earlier : List Record) (c : ℕ) (rest : List Record) → faultFrom earlier rest ≡ 0 → (superIn (recordsWith 2 c 0 rest) ≡ noId → ⊥)
+stands : (earlier : List Record) (c : ℕ) (rest : List Record) → CleanFrom earlier rest → (superIn (recordsWith 2 c 0 rest) ≡ noId → ⊥)
     → Stands earlier c (superIn (recordsWith 2 c 0 rest)) rest
 unfolding recordsWith
 stands earlier c [] e n = absurd (n refl)
-stands earlier c (r ∷ rs) e n = go (isClass c (headOf r)) refl (stands (r ∷ earlier) c rs (first-fault earlier r rs e .1))
+stands earlier c (r ∷ rs) e n = go (isClass c (headOf r)) refl (stands (r ∷ earlier) c rs (e .1))
   where
     go : (b : Bool) → isClass c (headOf r) ≡ b
         → ((superIn (recordsWith 2 c 0 rs) ≡ noId → ⊥) → Stands (r ∷ earlier) c (superIn (recordsWith 2 c 0 rs)) rs)
@@ -156,7 +133,7 @@ stands earlier c (r ∷ rs) e n = go (isClass c (headOf r)) refl (stands (r ∷ 
     go true i k =
         rw (with-here c r rs i)
         (⊎-elim (λ a. inl a) (λ a. inr (inl a))
-        (super-stands earlier c r (r ∷ rs) (not-late earlier r (r ∷ rs) (first-fault earlier r rs e .0)) i (rw (with-here c r rs i) at n)))
+        (super-stands earlier c r (r ∷ rs) (e .0 .super) i (rw (with-here c r rs i) at n)))
     go false i k = rw (with-there c r rs i) (back earlier c _ r rs i (k (rw (with-there c r rs i) at n)))
 
 -- ---- the laws
@@ -184,7 +161,7 @@ module _ (rs : List Record) where
       go true e = e
       go false e = absurd (n (rw (no-record c rs e)))
 
-  pub rank-falls : faultFrom [] rs ≡ 0 → (c : ℕ) → (superIn (recordsWith 2 c 0 rs) ≡ noId → ⊥) → rankIn rs (superIn (recordsWith 2 c 0 rs)) < rankIn rs c
+  pub rank-falls : CleanFrom [] rs → (c : ℕ) → (superIn (recordsWith 2 c 0 rs) ≡ noId → ⊥) → rankIn rs (superIn (recordsWith 2 c 0 rs)) < rankIn rs c
   unfolding hasClass
   rank-falls e c n =
       ⊎-elim (λ a. absurd (false≢true a))
@@ -200,13 +177,9 @@ abbrev pub rankOf : List ℕ → ℕ → ℕ
 rankOf t c = rankIn (recordsOf t) c
 
 module _ (t : List ℕ) (e : tableFault t ≡ 0) where
-  no-fault : faultFrom [] (recordsOf t) ≡ 0
-  unfolding tableFault
-  no-fault = not-taken _ 0 _ e .1
-
   pub super-lower : (c : ℕ) → (symbolsOf t .superOf c ≡ noId → ⊥) → rankOf t (symbolsOf t .superOf c) < rankOf t c
   unfolding symbolsIn
-  super-lower c n = rank-falls (recordsOf t) no-fault c n
+  super-lower c n = rank-falls (recordsOf t) (accepted-clean t e) c n
 
 pub class-rank : (t : List ℕ) (c : ℕ) → rankOf t c ≤ symbolsOf t .classes
 unfolding symbolsIn

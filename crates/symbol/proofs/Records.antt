@@ -11,7 +11,7 @@ use Rattle.symbol.proofs.Bounds.{head-bounded}
 use Rattle.symbol.proofs.Own.{head-own, drop-take}
 use Rattle.symbol.specs.Front.{headOf}
 use Rattle.symbol.specs.Sections.{start}
-use Rattle.symbol.specs.Table.{Record, frontRecord, recordsFrom, recordsOf}
+use Rattle.symbol.specs.Table.{Record, frontRecord, recordsFrom, recordsOf, joined}
 use Rattle.symbol.specs.Walk.{At, recordAt, StepIs, before}
 use Rattle.symbol.specs.declared.walk.Cursor.{Cursor}
 use Rattle.symbol.specs.declared.walk.Step.{Step}
@@ -42,11 +42,6 @@ records-here (b ∷ bs) h =
 pub records-end : (t : List ℕ) (a : ℕ) → length t ≤ a → recordsOf (drop a t) ≡ []
 unfolding recordsFrom
 records-end t a h = ap (λ (z : List ℕ). recordsFrom z 0) (drop-of-length-le t h)
-
--- all bytes of some records
-unfoldable pub joined : List Record → List ℕ
-joined [] = []
-joined (r ∷ rs) = r ++ joined rs
 
 -- THE RECORDS OF A TABLE, JOINED, ARE THE TABLE
 pub records-joined : (t : List ℕ) → joined (recordsOf t) ≡ t

@@ -1,7 +1,7 @@
 -- A table as the list of its records, each its own bytes.
 use Prim.Native.Nat.{ℕ, zero, suc, _+_, _-_}
 use mathlib.Core.Bool.{Bool}
-use mathlib.Core.List.{List, [], _∷_}
+use mathlib.Core.List.{List, [], _∷_, _++_}
 use lib.ListN.{take, drop}
 use lib.Dec.{eqb}
 use Rattle.ty.specs.Choose.{choose}
@@ -22,6 +22,11 @@ recordsFrom (b ∷ bs) zero = frontRecord (b ∷ bs) ∷ recordsFrom bs (headOf 
 
 abbrev pub recordsOf : List ℕ → List Record
 recordsOf t = recordsFrom t 0
+
+-- the bytes of some records, one behind the other: those of a table are the table (law `records-joined`)
+unfoldable pub joined : List Record → List ℕ
+joined [] = []
+joined (r ∷ rs) = r ++ joined rs
 
 -- how many of some records have kind k
 unfoldable pub countOf : ℕ → List Record → ℕ
