@@ -5,17 +5,18 @@ use lib.ListN.{length, length-append}
 use mathlib.Core.Bool.{Bool, true, false}
 use mathlib.Core.List.{List, [], _∷_, _++_}
 use mathlib.Core.Option.{Option, none, some}
-use mathlib.Core.Path.{_≡_, refl, ap, sym}
+use mathlib.Core.Path.{_≡_, refl, ap, sym, subst}
 use native.Mathlib.Omega.{arith}
 use Rattle.area.specs.Diagnostic.{Diag, countLimit}
+use Rattle.overload.proofs.Chosen.{picked-few, picked-usable}
 use Rattle.overload.proofs.Lists.{some≢none}
+use Rattle.overload.proofs.Reporting.{unknowns-few, mismatches-few}
 use Rattle.overload.specs.Arg.{Arg}
-use Rattle.overload.specs.Arity.{anyOwn, own, usable, fitting}
+use Rattle.overload.specs.Arity.{anyOwn, usable, fitting}
 use Rattle.overload.specs.Before.{suspendReport, callReports}
 use Rattle.overload.specs.Best.{Best, nobody, best, chosen}
-use Rattle.overload.specs.ByIndex.{absent, unknownOne, unknowns, allUnknown, mismatchOne, mismatches}
+use Rattle.overload.specs.ByIndex.{allUnknown}
 use Rattle.overload.specs.Resolve.{noneFits, tieReport, settle, resolveIn, resolve}
-use Rattle.overload.specs.Score.{paramOf}
 use Rattle.question.proofs.Accepted.{accepted}
 use Rattle.question.proofs.Trees.{some-size}
 use Rattle.question.specs.Header.{headerOf}
@@ -33,7 +34,7 @@ use Rattle.rules.specs.Unary.{unaryOf, unaryOut}
 use Rattle.symbol.proofs.Goods.{functions-few}
 use Rattle.symbol.specs.Lookup.{symbolsOf}
 use Rattle.symbol.specs.Refused.{tableFault}
-use Rattle.symbol.specs.Symbols.{Param, Overload, Symbols}
+use Rattle.symbol.specs.Symbols.{Overload, Symbols}
 use Rattle.ty.proofs.Choice.{by-choice}
 use Rattle.ty.specs.Bytes.{Ty}
 use Rattle.ty.specs.Choose.{choose}
@@ -163,34 +164,8 @@ module _ (S : Symbols) (H : Header) where
       (either _ (few-plain refl) (record { few = two-few (memberReport S H _ id) _ (member-report _ id) (kind-one _ _ _ id .one) }))
 
 -- ---- calls
-own-fewer : (os : List Overload) → length (own os) ≤ length os
-unfolding own
-own-fewer [] = omega arith
-own-fewer (o ∷ os) = by-choice (λ (vs : List Overload). length vs ≤ length (o ∷ os)) _ (λ _. omega (arith, own-fewer os)) (λ _. omega (arith, own-fewer os))
-
-usable-fewer : (os : List Overload) → length (usable os) ≤ length os
-unfolding usable
-usable-fewer os = by-choice (λ (vs : List Overload). length vs ≤ length os) _ (λ _. own-fewer os) (λ _. omega arith)
-
-fitting-fewer : (n : ℕ) (os : List Overload) → length (fitting n os) ≤ length os
-unfolding fitting
-fitting-fewer n [] = omega arith
-fitting-fewer n (o ∷ os) =
-    by-choice (λ (vs : List Overload). length vs ≤ length (o ∷ os)) _ (λ _. omega (arith, fitting-fewer n os)) (λ _. omega (arith, fitting-fewer n os))
-
-unknown-one : (m : Option ℕ) (ps : List Param) (i n : ℕ) → length (unknownOne m ps i n) ≤ 1
-unfolding unknownOne absent
-unknown-one none ps i n = omega arith
-unknown-one (some id) ps i n = go (paramOf id ps)
-  where
-    go : (o : Option Param) → length (absent o i n) ≤ 1
-    go none = omega arith
-    go (some p) = omega arith
-
-unknowns-few : (ps : List Param) (i : ℕ) (xs : List Arg) → length (unknowns ps i xs) ≤ length xs
-unfolding unknowns
-unknowns-few ps i [] = omega arith
-unknowns-few ps i (x ∷ xs) = simp length-append (omega (arith, unknown-one (x .name) ps i (x .node), unknowns-few ps (suc i) xs))
+picked-fewer : (n : ℕ) (os : List Overload) → length (fitting n (usable os)) ≤ length os
+picked-fewer n os = subst (λ (vs : List Overload). length vs ≤ length os) (picked-usable n os) (picked-few (anyOwn os) n os)
 
 all-unknown : (vs : List Overload) (xs : List Arg) → length xs ≤ 64 → length (allUnknown vs xs) ≤ 64 * length vs
 unfolding allUnknown
@@ -210,21 +185,11 @@ abbrev afterArgs : ℕ
 afterArgs = 3840065
 
 module _ (S : Symbols) where
-  mismatch-one : (p : Param) (i : ℕ) (x : Arg) → length (mismatchOne S p i x) ≤ 1
-  unfolding mismatchOne
-  mismatch-one p i x = by-choice (λ (ds : List Diag). length ds ≤ 1) _ (λ _. omega arith) (λ _. omega arith)
-
-  mismatches-few : (ps : List Param) (i : ℕ) (xs : List Arg) → length (mismatches S ps i xs) ≤ length xs
-  unfolding mismatches
-  mismatches-few ps i [] = omega arith
-  mismatches-few [] i (x ∷ xs) = omega arith
-  mismatches-few (p ∷ ps) i (x ∷ xs) = simp length-append (omega (arith, mismatch-one p i x, mismatches-few ps (suc i) xs))
-
   settle-few : (n : ℕ) (xs : List Arg) (v : Overload) (vs : List Overload) (b : Best) → length xs ≤ 64 → length (v ∷ vs) ≤ 60000
       → length (settle S n xs v vs b .diags) ≤ afterArgs
   unfolding settle
   settle-few n xs v vs (best s o many) h k = simp length-append (omega (arith, all-unknown (v ∷ vs) xs h, tie-few n many))
-  settle-few n xs v [] nobody h k = simp length-append (omega (arith, all-unknown (v ∷ []) xs h, mismatches-few (v .params) 1 xs))
+  settle-few n xs v [] nobody h k = simp length-append (omega (arith, all-unknown (v ∷ []) xs h, mismatches-few S (v .params) 1 xs))
   settle-few n xs v (w ∷ vs) nobody h k = simp length-append (omega (arith, all-unknown (v ∷ w ∷ vs) xs h))
 
   in-few : (b : Bool) (n : ℕ) (xs : List Arg) (vs : List Overload) → length xs ≤ 64 → length vs ≤ 60000 → length (resolveIn S b n xs vs .diags) ≤ afterArgs
@@ -235,7 +200,7 @@ module _ (S : Symbols) where
   resolve-few : (os : List Overload) (n : ℕ) (xs : List Arg) → length xs ≤ 64 → length os ≤ 60000 → length (resolve S os n xs .diags) ≤ afterArgs
   unfolding resolve
   resolve-few os n xs h k =
-      in-few (anyOwn os) n xs (fitting (length xs) (usable os)) h (omega (arith, fitting-fewer (length xs) (usable os), usable-fewer os))
+      in-few (anyOwn os) n xs (fitting (length xs) (usable os)) h (omega (arith, picked-fewer (length xs) os))
 
 -- a list that was found, with what is reported before the arguments
 record Small (c : Callee) : Type 0 where
