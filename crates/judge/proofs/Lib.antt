@@ -1,0 +1,6 @@
+pub mod Answering
+pub mod Calling
+pub mod Reaching
+pub mod Rows
+pub mod Steps
+pub mod Working
