@@ -3,7 +3,7 @@
 
     tests/replay.py PROGRAM [--bin] [--first N]
 
-Without --bin the cases come from samples/answers.txt, with it from samples/answers.bin. Each case is one run of
+Without --bin the cases come from samples/answers.txt, with it from crates/replay/stdin. Each case is one run of
 PROGRAM: 2-byte table length, table and question on its standard input; what it prints is compared byte for byte.
 A table of more than 65,535 bytes has no such input; there is none in the sample.
 """
@@ -13,7 +13,7 @@ import pathlib
 import subprocess
 import sys
 
-SAMPLES = pathlib.Path(__file__).resolve().parent.parent / "samples"
+ROOT = pathlib.Path(__file__).resolve().parent.parent
 
 
 def unhex(text):
@@ -27,7 +27,7 @@ def unhex(text):
 
 
 def text_cases():
-    for line in (SAMPLES / "answers.txt").read_text(encoding="ascii").splitlines():
+    for line in (ROOT / "samples/answers.txt").read_text(encoding="ascii").splitlines():
         if line.startswith("#"):
             continue
         name, table, question, answer = line.split(" ", 3)
@@ -35,7 +35,7 @@ def text_cases():
 
 
 def binary_cases():
-    data = (SAMPLES / "answers.bin").read_bytes()
+    data = (ROOT / "crates/replay/stdin").read_bytes()
     at = 0
     number = 0
     while at < len(data):
@@ -44,7 +44,7 @@ def binary_cases():
             length = int.from_bytes(data[at:at + 2], "little")
             parts.append(data[at + 2:at + 2 + length])
             if len(parts[-1]) != length:
-                sys.exit("answers.bin is cut")
+                sys.exit("crates/replay/stdin is cut")
             at += 2 + length
         yield (f"case {number}", *parts)
         number += 1
@@ -53,7 +53,7 @@ def binary_cases():
 def main():
     parser = argparse.ArgumentParser(description=__doc__, formatter_class=argparse.RawDescriptionHelpFormatter)
     parser.add_argument("program")
-    parser.add_argument("--bin", action="store_true", help="read samples/answers.bin")
+    parser.add_argument("--bin", action="store_true", help="read crates/replay/stdin")
     parser.add_argument("--first", type=int, default=None, help="only the first N cases")
     options = parser.parse_args()
     run = wrong = 0

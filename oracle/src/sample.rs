@@ -129,7 +129,7 @@ pub fn text_line(name: &str, table: &[u8], question: &[u8], printed: &str) -> St
     format!("{} {} {} {}\n", name, hex(table), hex(question), printed.trim_end().replace('\n', "/"))
 }
 
-/// One case as samples/answers.bin has it: table, question and printed answer, each behind a
+/// One case as the binary form has it: table, question and printed answer, each behind a
 /// 2-byte length, low byte first. None where a length does not fit.
 pub fn binary_case(table: &[u8], question: &[u8], printed: &str) -> Option<Bytes> {
     let mut bytes = Vec::new();
@@ -141,7 +141,17 @@ pub fn binary_case(table: &[u8], question: &[u8], printed: &str) -> Option<Bytes
     Some(bytes)
 }
 
-/// The two files' contents.
+/// The files, from the repository's root. The program `replay` is run on the binary form, and prints the third.
+pub const TEXT: &str = "samples/answers.txt";
+pub const BINARY: &str = "crates/replay/stdin";
+pub const REPLAYED: &str = "crates/replay/stdout";
+
+/// What `replay` prints where every case of the text agrees.
+pub fn replayed(text: &str) -> String {
+    format!("{} cases agree\n", text.lines().filter(|l| !l.starts_with('#')).count())
+}
+
+/// The contents of the first two.
 pub fn files() -> (String, Bytes) {
     let mut text = String::from(HEADER);
     let mut binary = Vec::new();

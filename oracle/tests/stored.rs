@@ -1,6 +1,6 @@
 //! The stored answers are what the oracle says today.
 
-use oracle::sample::{files, hex, unhex};
+use oracle::sample::{files, hex, replayed, unhex, BINARY, REPLAYED, TEXT};
 use std::collections::HashSet;
 use std::path::PathBuf;
 use std::sync::OnceLock;
@@ -11,19 +11,20 @@ fn made() -> &'static (String, Vec<u8>) {
     MADE.get_or_init(files)
 }
 
-fn folder() -> PathBuf {
-    PathBuf::from(env!("CARGO_MANIFEST_DIR")).join("../samples")
+fn place(file: &str) -> PathBuf {
+    PathBuf::from(env!("CARGO_MANIFEST_DIR")).join("..").join(file)
 }
 
 #[test]
 fn the_stored_files_are_what_the_oracle_says() {
     let (text, binary) = made();
-    let stored_text = std::fs::read_to_string(folder().join("answers.txt")).expect("samples/answers.txt");
+    let stored_text = std::fs::read_to_string(place(TEXT)).expect(TEXT);
     for (i, (line, now)) in stored_text.lines().zip(text.lines()).enumerate() {
         assert_eq!(line, now, "line {} (made anew by: cargo run --release --bin samples)", i + 1);
     }
     assert!(stored_text == *text, "the text has another length");
-    assert!(std::fs::read(folder().join("answers.bin")).expect("samples/answers.bin") == *binary);
+    assert!(std::fs::read(place(BINARY)).expect(BINARY) == *binary);
+    assert_eq!(std::fs::read_to_string(place(REPLAYED)).expect(REPLAYED), replayed(text));
     assert!(text.len() + binary.len() < 2_300_000);
 }
 

@@ -1,4 +1,4 @@
-//! Writes generated cases with their answers in the layout of samples/answers.bin.
+//! Writes generated cases with their answers in the layout of crates/replay/stdin.
 //!
 //! numbers --profile P --seed S --count N --out FILE   (P: a profile's name, or mixed)
 

@@ -1,14 +1,14 @@
-//! Writes samples/answers.txt and samples/answers.bin anew.
+//! Writes the stored answers anew: samples/answers.txt, and the same for the program `replay`.
 
-use oracle::sample::files;
+use oracle::sample::{files, replayed, BINARY, REPLAYED, TEXT};
 use std::path::Path;
 
 fn main() -> std::io::Result<()> {
-    let folder = Path::new(env!("CARGO_MANIFEST_DIR")).join("../samples");
-    std::fs::create_dir_all(&folder)?;
+    let root = Path::new(env!("CARGO_MANIFEST_DIR")).join("..");
     let (text, binary) = files();
-    std::fs::write(folder.join("answers.txt"), &text)?;
-    std::fs::write(folder.join("answers.bin"), &binary)?;
+    std::fs::write(root.join(TEXT), &text)?;
+    std::fs::write(root.join(BINARY), &binary)?;
+    std::fs::write(root.join(REPLAYED), replayed(&text))?;
     let cases = text.lines().filter(|l| !l.starts_with('#')).count();
     println!("samples: {} cases, {} bytes of text, {} bytes binary", cases, text.len(), binary.len());
     Ok(())

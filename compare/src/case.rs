@@ -1,0 +1,155 @@
+//! One case: what the Rust says for some buffer lengths, and what the proved judge does.
+
+use crate::proved::{self, ANSWER_SIZE};
+use oracle::answer::{diagnostics, finish, inside, refusal, run};
+use oracle::diagnostic::Diagnostic;
+use oracle::gen::Case;
+use oracle::question::build;
+use oracle::rust::Judged;
+use oracle::sample::hex;
+use oracle::table::fill;
+use oracle::{print_answer, Answer};
+
+/// What lies in and around the lent slices before a call.
+const POISON: u8 = 0xa5;
+
+/// Bytes before and behind a lent slice, which a call must leave alone.
+const GUARD: usize = 64;
+
+/// The longest buffer that is lent.
+const LONGEST: usize = 66_000;
+
+/// What the Rust says of a table and a question.
+enum Said {
+    Refused(u8),
+    Judged { judged: Box<Judged>, diagnostics: Vec<Diagnostic>, names: Vec<String>, inside: bool },
+}
+
+impl Said {
+    fn of(table: &[u8], question: &[u8]) -> Said {
+        let number = refusal(table, question);
+        if number != 0 {
+            return Said::Refused(number);
+        }
+        let mut filled = fill(table);
+        let asked = build(question, &filled.names);
+        let judged = run(&mut filled, &asked, true);
+        let inside = inside(table, &filled.names, &asked, &judged);
+        let diagnostics = diagnostics(&judged, &asked);
+        Said::Judged { judged: Box::new(judged), diagnostics, names: filled.names, inside }
+    }
+
+    /// The answer under a lent buffer, which is zero.
+    fn answer(&self, buffer: &mut [u8]) -> Answer {
+        match self {
+            Said::Refused(number) => Answer::refused(*number),
+            Said::Judged { judged, diagnostics, names, .. } => finish(judged, diagnostics, names, buffer),
+        }
+    }
+
+    /// The buffer lengths at which number 12 begins and ends.
+    fn limits(&self) -> Vec<usize> {
+        match self {
+            Said::Judged { diagnostics, .. } if !diagnostics.is_empty() => {
+                let need = 5 * diagnostics.len();
+                [need - 1, need, need + 4].into_iter().filter(|n| *n <= LONGEST).collect()
+            }
+            _ => Vec::new(),
+        }
+    }
+}
+
+/// Room for the slices of a call, kept from case to case.
+pub struct Space {
+    lent: Vec<u8>,
+    expected: Vec<u8>,
+    answer: Vec<u8>,
+}
+
+/// How a case came out.
+#[derive(Debug, Clone, Copy, PartialEq, Eq)]
+pub enum Outcome {
+    /// Every byte agrees; the number that the case's own buffer length draws, and how many calls were compared.
+    Agrees { number: u8, calls: u64 },
+    /// Outside the compared domain.
+    Outside,
+}
+
+impl Default for Space {
+    fn default() -> Space {
+        Space { lent: vec![POISON; LONGEST + 2 * GUARD], expected: vec![0; LONGEST], answer: Vec::new() }
+    }
+}
+
+impl Space {
+    /// Compares a case at its own buffer length and, where `limits` is set, at those around number 12. The error says
+    /// what differs.
+    pub fn compare(&mut self, case: &Case, limits: bool) -> Result<Outcome, String> {
+        let said = Said::of(&case.table, &case.question);
+        if let Said::Judged { inside: false, .. } = said {
+            self.call(case, case.buffer)?;
+            return Ok(Outcome::Outside);
+        }
+        let number = self.compare_at(case, &said, case.buffer)?;
+        let mut calls = 1;
+        if limits {
+            for length in said.limits() {
+                self.compare_at(case, &said, length)?;
+                calls += 1;
+            }
+        }
+        Ok(Outcome::Agrees { number, calls })
+    }
+
+    /// Calls the proved judge on poisoned slices; answers the number. The answer and the buffer stay in the room.
+    fn call(&mut self, case: &Case, length: usize) -> Result<u8, String> {
+        let lent = &mut self.lent[..length + 2 * GUARD];
+        lent.fill(POISON);
+        self.answer.clear();
+        self.answer.resize(ANSWER_SIZE + 2 * GUARD + length % 3, POISON);
+        let end = self.answer.len() - GUARD;
+        let answer = &mut self.answer[GUARD..end];
+        let number = proved::call(&case.table, &case.question, &mut lent[GUARD..GUARD + length], answer);
+        let around = [&lent[..GUARD], &lent[GUARD + length..], &self.answer[..GUARD], &self.answer[end..]];
+        if around.iter().any(|part| part.iter().any(|b| *b != POISON)) {
+            return Err(described(case, length, "bytes outside the lent slices were written"));
+        }
+        Ok(number)
+    }
+
+    fn compare_at(&mut self, case: &Case, said: &Said, length: usize) -> Result<u8, String> {
+        let number = self.call(case, length)?;
+        let expected = &mut self.expected[..length];
+        expected.fill(0);
+        let right = said.answer(expected);
+        let bytes = &self.answer[GUARD..self.answer.len() - GUARD];
+        let (answer, buffer) = (proved::read(bytes), &self.lent[GUARD..GUARD + length]);
+        let rest = &bytes[ANSWER_SIZE..];
+        if number == right.number && answer == right && rest.iter().all(|b| *b == 0) && buffer == &*expected {
+            return Ok(number);
+        }
+        let at = buffer.iter().zip(&*expected).position(|(a, b)| a != b);
+        let at = at.map_or(String::from("none"), |i| format!("{}: {} for {}", i, buffer[i], expected[i]));
+        let what = format!(
+            "number returned {}, first buffer byte that differs {}\nproved answer {}\nthe Rust's answer {}",
+            number,
+            at,
+            shown(&answer, buffer),
+            shown(&right, expected)
+        );
+        Err(described(case, length, &what))
+    }
+}
+
+fn described(case: &Case, length: usize, what: &str) -> String {
+    format!("table {}\nquestion {}\nbuffer of {} bytes\n{}", hex(&case.table), hex(&case.question), length, what)
+}
+
+/// An answer as the program prints it, where its numbers allow that.
+fn shown(answer: &Answer, buffer: &[u8]) -> String {
+    if answer.len > answer.ty.len() || answer.count > buffer.len() / 5 {
+        return format!("{:?}", answer);
+    }
+    let behind = hex(&answer.ty[answer.len..]);
+    format!("{}type bytes behind the length {}", print_answer(answer, buffer), behind)
+}

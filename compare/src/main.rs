@@ -1,0 +1,71 @@
+//! Runs the proved judge and the Rust's own methods over generated cases and compares every byte.
+//!
+//! compare [--profile P] [--seed S] [--count N] [--first I] [--threads T]
+//!
+//! P is a profile of oracle/src/gen, `mixed` (those without an end), `sweeps` (each whole) or `all` (the sweeps, then
+//! N mixed cases; the default). The first difference ends the run with status 1.
+
+use compare::run::{sweeps, Batch, Run};
+use oracle::gen::Profile;
+use std::sync::atomic::Ordering::Relaxed;
+use std::time::Duration;
+
+/// What CI runs beside the sweeps.
+const CI_COUNT: u64 = 300_000;
+
+fn stop(message: &str) -> ! {
+    eprintln!("compare: {}", message);
+    eprintln!("usage: compare [--profile P] [--seed S] [--count N] [--first I] [--threads T]");
+    std::process::exit(2)
+}
+
+fn batches(profile: &str, first: u64, count: Option<u64>) -> Vec<Batch> {
+    let mixed = Batch { profile: None, first, count: count.unwrap_or(CI_COUNT) };
+    match profile {
+        "all" => sweeps().into_iter().chain([mixed]).collect(),
+        "mixed" => vec![mixed],
+        "sweeps" => sweeps(),
+        name => match Profile::by_name(name) {
+            Some(profile) => {
+                let whole = profile.count().map(|n| n as u64).unwrap_or(CI_COUNT);
+                vec![Batch { profile: Some(profile), first, count: count.unwrap_or(whole) }]
+            }
+            None => stop(&format!("no profile {}", name)),
+        },
+    }
+}
+
+fn main() {
+    let (mut seed, mut first, mut count, mut threads) = (1, 0, None, 2);
+    let mut profile = String::from("all");
+    let args: Vec<String> = std::env::args().skip(1).collect();
+    for pair in args.chunks(2) {
+        let [option, value] = pair else { stop("an option without a value") };
+        let number = || value.parse::<u64>().unwrap_or_else(|_| stop(&format!("{} is no number", value)));
+        match option.as_str() {
+            "--profile" => profile = value.clone(),
+            "--seed" => seed = number(),
+            "--first" => first = number(),
+            "--count" => count = Some(number()),
+            "--threads" => threads = number().clamp(1, 64) as usize,
+            _ => stop(&format!("unknown option {}", option)),
+        }
+    }
+    let run = Run::new(seed, threads);
+    let result = run.compare(&batches(&profile, first, count), Some(Duration::from_secs(10)));
+    println!("compare: {} (profile {}, seed {}, {} threads)", run.said(), profile, seed, threads);
+    let numbers: Vec<String> = run.counts.numbers.iter().map(|n| n.load(Relaxed).to_string()).collect();
+    println!("compare: numbers 0 to 13 were drawn {} times", numbers.join(", "));
+    let (calls, outside) = (run.counts.calls.load(Relaxed), run.counts.outside.load(Relaxed));
+    println!(
+        "compare: {} calls compared; {} cases outside the compared domain, judged and not compared",
+        calls, outside
+    );
+    match result {
+        Ok(()) => println!("compare: no difference"),
+        Err(what) => {
+            println!("compare: DIFFERENCE\n{}", what);
+            std::process::exit(1);
+        }
+    }
+}

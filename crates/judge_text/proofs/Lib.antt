@@ -1,0 +1,3 @@
+pub mod Texts
+pub mod Whole
+pub mod Long

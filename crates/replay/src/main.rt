@@ -1,0 +1,142 @@
+// Runs the stored answers through the judge. Standard input has, for each case, table, question and the text that the program prints, each behind its length in 2
+// bytes, low byte first. Prints how many cases agree; at the first that does not it stops and says which that is, counted from 0.
+ghost use mathlib.Core.Path.{_≡_};
+ghost use Prim.Native.Nat.{_+_, _*_, _≤_};
+ghost use lib.ListN.{length};
+ghost use Rattle.console.specs.Buffer.{Counts};
+ghost use Rattle.judge_text.specs.Text.{answerText, programBuffer, longestText};
+ghost use Rattle.ty.specs.Bytes.{sameBytes};
+use judge_text::answer_text;
+use ty::byte_at;
+use ty::same_bytes;
+
+const END: u8 = 0;
+
+const AGREES: u8 = 1;
+
+const DIFFERS: u8 = 2;
+
+const BROKEN: u8 = 3;
+
+const NO_LENGTH: usize = 65536;
+
+// The judge's text is the expected one.
+fn agrees(
+    table: &[u8],
+    question: &[u8],
+    expected: &[u8],
+    diagnostics: &mut [u8],
+    out: &mut [u8],
+) -> bool
+    ensures { λ r. ⌜ (length (now (diagnostics .entry)) ≤ programBuffer → longestText ≤ length (now (out .entry)) → r ≡ sameBytes (answerText (now (table .entry)) (now (question .entry)) (length (now (diagnostics .entry)))) (now (expected .entry))) ⌝ }
+{
+    let n = answer_text(table, question, diagnostics, out);
+    same_bytes(&out[..n], expected)
+}
+
+// A 2-byte number.
+fn number(low: u8, high: u8) -> usize
+    ensures { λ r. ⌜ (r ≡ low + 256 * high) × (r ≤ 65535) ⌝ }
+{
+    low as usize + 256 * (high as usize)
+}
+
+// Reads a length; 65,536 where the input ends.
+fn read_length() -> usize
+    ensures { λ r. ⌜ r ≤ 65536 ⌝ }
+{
+    let mut head = [0u8; 2];
+    if io::read_full(0, &mut head) < 2 {
+        return NO_LENGTH;
+    }
+    number(byte_at(&head, 0), byte_at(&head, 1))
+}
+
+// Reads a length and as many bytes to the front of `space`; 65,536 where they are not all there or do not fit.
+fn read_part(space: &mut [u8]) -> usize
+    ensures { λ r. ⌜ (r ≤ 65535 → Counts r (now (space .exit))) ⌝ }
+{
+    let len = read_length();
+    if 65535 < len {
+        return NO_LENGTH;
+    }
+    if space.len() < len {
+        return NO_LENGTH;
+    }
+    if io::read_full(0, &mut space[..len]) < len {
+        return NO_LENGTH;
+    }
+    len
+}
+
+// Reads a case and judges it; the slices are room for it.
+fn read_case(
+    table: &mut [u8],
+    question: &mut [u8],
+    expected: &mut [u8],
+    diagnostics: &mut [u8],
+    out: &mut [u8],
+) -> u8 {
+    let t = read_part(table);
+    if 65535 < t {
+        return END;
+    }
+    let q = read_part(question);
+    if 65535 < q {
+        return BROKEN;
+    }
+    let e = read_part(expected);
+    if 65535 < e {
+        return BROKEN;
+    }
+    if agrees(
+        &table[..t],
+        &question[..q],
+        &expected[..e],
+        diagnostics,
+        out,
+    ) {
+        return AGREES;
+    }
+    DIFFERS
+}
+
+// Writes what the run was.
+fn tell(agree: u64, last: u8) {
+    io::print_decimal(1, agree);
+    io::write_all(1, b" cases agree");
+    if last == DIFFERS {
+        io::write_all(1, b", not case ");
+        io::print_decimal(1, agree);
+    }
+    if last == BROKEN {
+        io::write_all(1, b", then the input breaks off");
+    }
+    io::write_all(1, b"\n");
+}
+
+fn next() -> u8 {
+    let mut table = [0u8; 65535];
+    let mut question = [0u8; 65535];
+    let mut expected = [0u8; 65535];
+    let mut diagnostics = [0u8; 65535];
+    let mut out = [0u8; 210259];
+    read_case(
+        &mut table,
+        &mut question,
+        &mut expected,
+        &mut diagnostics,
+        &mut out,
+    )
+}
+
+// A loop has to end, and nothing says that the input does: the count ends it.
+fn main() {
+    let mut agree: u64 = 0;
+    let mut last = next();
+    while agree < u64::MAX && last == AGREES {
+        agree += 1;
+        last = next();
+    }
+    tell(agree, last);
+}
