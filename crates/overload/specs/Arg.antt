@@ -1,7 +1,7 @@
 -- A call's arguments, and what a call comes to.
 use Prim.Native.Nat.{ℕ}
 use mathlib.Core.List.{List, []}
-use mathlib.Core.Option.{Option, none, some}
+use mathlib.Core.Option.{Option}
 use Rattle.ty.specs.Bytes.{Ty}
 use Rattle.area.specs.Diagnostic.{Diag}
 

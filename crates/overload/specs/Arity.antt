@@ -1,7 +1,7 @@
 -- Which overloads a call looks at. Document 01, "Corners in checker.rs": builtins drop out beside any non-builtin. Those left are usable; those of them that
 -- fit in number are scored.
 use Prim.Native.Nat.{ℕ, suc}
-use mathlib.Core.Bool.{Bool, true, false, not, _&&_, _||_}
+use mathlib.Core.Bool.{Bool, false, not, _&&_, _||_}
 use mathlib.Core.List.{List, [], _∷_}
 use lib.ListN.{length}
 use lib.Dec.{leb}
@@ -25,7 +25,7 @@ unfoldable pub required : List Param → ℕ
 required [] = 0
 required (p ∷ ps) = choose (p .default || p .vararg) (required ps) (suc (required ps))
 
--- the last parameter is vararg; v: what stands before is
+-- the last parameter is vararg; v: the parameter before these is vararg
 unfoldable pub endsVararg : Bool → List Param → Bool
 endsVararg v [] = v
 endsVararg v (p ∷ ps) = endsVararg (p .vararg) ps

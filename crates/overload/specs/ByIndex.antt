@@ -1,7 +1,7 @@
 -- What is reported at single arguments: unknown names, and mismatches of the check by index. Document 01, "Corners in checker.rs": an unknown named argument
 -- is reported once per overload that fits in number; the check by index compares argument i with parameter i.
 use Prim.Native.Nat.{ℕ, suc}
-use mathlib.Core.Bool.{Bool, _||_}
+use mathlib.Core.Bool.{_||_}
 use mathlib.Core.List.{List, [], _∷_, _++_}
 use mathlib.Core.Option.{Option, none, some}
 use lib.Dec.{eqb}

@@ -1,6 +1,6 @@
 -- Access to a member. Document 01, "Corners in checker.rs": an empty owner blocks nothing, nor does Internal where either package is unknown.
 use Prim.Native.Nat.{ℕ}
-use mathlib.Core.Bool.{Bool, true, false, not, _&&_, _||_}
+use mathlib.Core.Bool.{Bool, false, not, _&&_, _||_}
 use mathlib.Core.List.{List, [], _∷_}
 use lib.Dec.{eqb}
 use Rattle.ty.specs.Choose.{choose}

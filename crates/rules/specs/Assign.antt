@@ -2,9 +2,9 @@
 use Prim.Native.Nat.{ℕ, zero, suc, _+_}
 use mathlib.Core.Bool.{Bool, true, false, _&&_, _||_}
 use lib.ListN.{length}
-use lib.Dec.{leb, eqb}
+use lib.Dec.{eqb}
 use Rattle.ty.specs.Choose.{choose}
-use Rattle.ty.specs.Kind.{doubleKind, anyKind, nothingKind, nullableKind, listKind, namedKind, errorKind}
+use Rattle.ty.specs.Kind.{anyKind, nothingKind, nullableKind, listKind, namedKind, errorKind}
 use Rattle.ty.specs.Name.{listId, arrayListId, mutableListId}
 use Rattle.ty.specs.Bytes.{Ty, kindOf, nameOf, isArray, innerOf, sameBytes}
 use Rattle.symbol.specs.Symbols.{Symbols}

@@ -1,7 +1,7 @@
 -- Binary nodes: `check_binary` of checker.rs, its checks in the source's order. Document 01, "Corners in checker.rs". `l` and `r` are the operands' types,
 -- `a` and `b` their kinds.
 use Prim.Native.Nat.{ℕ}
-use mathlib.Core.Bool.{Bool, true, false, not, _&&_, _||_}
+use mathlib.Core.Bool.{Bool, not, _&&_, _||_}
 use mathlib.Core.List.{_++_}
 use lib.Dec.{leb, eqb}
 use Rattle.ty.specs.Choose.{choose}
@@ -69,7 +69,7 @@ operatorOut op a b s t related same l r =
     (choose (eqb op toOp) (clean (namedTy pairId))
     (choose (eqb op isOp) (plain booleanKind) (clean r)))))))))
 
--- every other operator reports a nullable operand
+-- Every other operator reports a nullable operand. Document 01: "Assign, To, Is and As report nullable operands too."
 abbrev pub takesNullable : ℕ → Bool
 takesNullable op = (eqb op eqOp || eqb op neOp) || (eqb op andOp || eqb op orOp)
 
@@ -78,7 +78,7 @@ builtinBinary S op l r =
     choose (not (takesNullable op) && either nullableKind (kindOf l) (kindOf r)) (fails nullableOperandsDiag)
     (operatorOut op (kindOf l) (kindOf r) (isString l) (isString r) (assigns S l r || assigns S r l) (sameBytes l r) l r)
 
--- `check_binary`: Error first and silently, then an operator method, then the built-in operators
+-- `check_binary`. Document 01: "an Error operand gives Error silently, before operator methods; these come before the nullable check."
 unfoldable pub binaryOut : Symbols → ℕ → Ty → Ty → Out
 binaryOut S op l r =
     choose (either errorKind (kindOf l) (kindOf r)) (plain errorKind) (found (operatorReturn S op l) (builtinBinary S op l r))

@@ -73,7 +73,7 @@ mismatchDiag = 17
 abbrev pub noMatchDiag : ℕ
 noMatchDiag = 18
 
--- tie; the number is how many match
+-- tie; the number is how many have the highest score
 abbrev pub tieDiag : ℕ
 tieDiag = 19
 

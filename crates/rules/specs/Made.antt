@@ -1,6 +1,6 @@
 -- The types that a rule makes of an id or of another type. Document 01, "Types as bytes".
 use Prim.Native.Nat.{ℕ, _/_, _%_}
-use mathlib.Core.List.{List, [], _∷_}
+use mathlib.Core.List.{[], _∷_}
 use Rattle.ty.specs.Kind.{pointerKind, listKind, namedKind, functionKind}
 use Rattle.ty.specs.Bytes.{Ty}
 

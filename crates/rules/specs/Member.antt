@@ -79,7 +79,8 @@ fieldOr none f = f
 abbrev pub lookupVar : Symbols → ℕ → ℕ → Option Ty
 lookupVar S owner id = fieldOr (S .fieldOf owner id) (firstFunction (S .functionsOf owner id))
 
--- the members that the table gives a class: a field or function, a variant (which has the enum's type), none. Without a record in `types` none is silent.
+-- the members that the table gives a class: a field, else a function, else a variant (which has the enum's type). Any other name is unresolved where the class
+-- is in `types`, and Error without a report where it is not.
 unfoldable pub classMember : Symbols → ℕ → ℕ → Out
 classMember S owner id =
     found (lookupVar S owner id)

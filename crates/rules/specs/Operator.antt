@@ -1,4 +1,5 @@
 -- The operators. Document 01, "Table and question": a binary node's operator byte in `BinOp` order 0 to 22, a unary node's in `UnOp` order 0 to 6 (ast.rs).
+-- All of both enums, though not every one is named by a rule.
 use Prim.Native.Nat.{ℕ}
 
 abbrev pub addOp : ℕ

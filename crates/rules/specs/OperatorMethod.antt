@@ -1,7 +1,7 @@
 -- Operator methods: `operator_overload_return` of checker.rs. Document 01, "Corners in checker.rs": only a Named left type; the climb stops at a class
 -- without an operator set, even if its superclass has one; a method without a function gives Any.
 use Prim.Native.Nat.{ℕ, zero, suc, _+_, _/_, _%_, _^_}
-use mathlib.Core.Bool.{Bool, true, false, _&&_}
+use mathlib.Core.Bool.{Bool, _&&_}
 use mathlib.Core.List.{List, [], _∷_}
 use mathlib.Core.Option.{Option, none, some}
 use lib.Dec.{leb, eqb}

@@ -1,4 +1,5 @@
 -- The visibilities. Document 01, "Table and question": 0 Public, Protected, Internal, 3 Private (`Visibility` of ast.rs).
+-- All of the enum, though not every one is named by a rule.
 use Prim.Native.Nat.{ℕ}
 
 abbrev pub publicVis : ℕ

@@ -179,7 +179,8 @@ fn lookup_var_ty(table: &[u8], sections: Sections, owner: u16, id: u16) -> Varia
     }
 }
 
-// The members that the table gives a class: a field or function, a variant, none. Without a record in `types` none is silent.
+// The members that the table gives a class: a field, else a function, else a variant (which has the enum's type). Any other name is unresolved where the class
+// is in `types`, and Error without a report where it is not.
 fn class_member(table: &[u8], sections: Sections, owner: u16, id: u16) -> Single
     requires { ⌜ Accepted (now table) sections ⌝ }
     ensures { λ r. ⌜ ((x y : List ℕ) → singleOut (now (table .entry)) x y r ≡ classMember (symbolsOf (now (table .entry))) owner id) ⌝ }

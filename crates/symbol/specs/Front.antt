@@ -59,6 +59,9 @@ unfoldable pub among : ℕ → List ℕ → ℕ → Bool
 among zero ids id = false
 among (suc n) ids id = eqb (getD ids n 0) id || among n ids id
 
+-- A reading's state: 0 whole so far, 1 malformed or cut, 2 a type without end.
+
+-- a reading that meets malformed or cut bytes
 abbrev pub stopped : Reading → Reading
 stopped c = record { len = c .len; top = c .top; repeated = c .repeated; error = c .error; state = 1; count = c .count; names = c .names }
 

@@ -1,4 +1,4 @@
--- The one test of the definitions: x where it holds, else y. It is shut, so that two uses of it are compared by their arguments.
+-- x where the test holds, else y. A chain of these is a chain of tests in order. It is not an abbreviation, so that the check compares two chains part by part.
 use mathlib.Core.Bool.{Bool, true, false}
 
 module _ {A : Type 0} where
