@@ -1,0 +1,136 @@
+//! The type judge for Aura page scripts, proved in Rattle and linked as a static library.
+//!
+//! [`judge`] takes a symbol table and a question (one expression), both as the bytes of document 01, and a buffer for
+//! diagnostics. The [`Answer`] says the expression's [`Type`], whether it passes, and the [`Diagnostics`] in order; or
+//! the [`Refusal`], with whose doing it was.
+//!
+//! ```
+//! use aura_judge::{judge, Answer, DiagnosticKind, Type};
+//!
+//! // No table. The question: no current type, no package, not in suspend; then `!!` on an Int.
+//! let question = [0xff, 0xff, 0xff, 0xff, 0, 2, 6, 0, 0];
+//! let mut buffer = [0; 320];
+//! match judge(&[], &question, &mut buffer) {
+//!     Answer::Judged { passed, ty, diagnostics } => {
+//!         assert!(!passed);
+//!         assert_eq!(ty, Type::Error);
+//!         let all: Vec<_> = diagnostics.collect();
+//!         assert_eq!(all.len(), 1);
+//!         assert_eq!((all[0].kind, all[0].node, all[0].number), (DiagnosticKind::NotNull, 0, 0));
+//!         assert_eq!(all[0].to_string(), "node 0: not-null");
+//!     }
+//!     Answer::Refused(refusal) => panic!("{refusal}"),
+//! }
+//! ```
+//!
+//! A refused question:
+//!
+//! ```
+//! use aura_judge::{judge, Doer, Refusal};
+//!
+//! let answer = judge(&[], &[], &mut []);
+//! assert_eq!(answer.refusal(), Some(Refusal::MalformedQuestion));
+//! assert_eq!(answer.refusal().unwrap().by(), Doer::ScriptAuthor);
+//! assert!(!answer.passed());
+//! ```
+//!
+//! The judge uses the caller's stack and no heap; what this crate allocates is the [`Type`]. [`raw::judge`] allocates
+//! nothing.
+
+mod diagnostic;
+mod names;
+pub mod raw;
+mod refusal;
+mod ty;
+
+pub use diagnostic::{Diagnostic, DiagnosticKind, Diagnostics};
+pub use names::{Names, BUILT_IN};
+pub use refusal::{Doer, Refusal};
+pub use ty::{NameId, Shown, Type, TypeError};
+
+use raw::{Fields, ANSWER_SIZE, DIAGNOSTIC_SIZE};
+
+/// What the judge says of a question.
+#[derive(Debug, Clone)]
+pub enum Answer<'d> {
+    Judged {
+        /// The pass mark: nothing was reported, warnings included, and no visited node has type Error.
+        passed: bool,
+        /// The root's type.
+        ty: Type,
+        /// What was reported, read from the lent buffer.
+        diagnostics: Diagnostics<'d>,
+    },
+    Refused(Refusal),
+}
+
+impl<'d> Answer<'d> {
+    /// Document 01's number: 0, or the refusal's.
+    pub fn number(&self) -> u8 {
+        self.refusal().map_or(0, Refusal::number)
+    }
+
+    /// The pass mark; false where refused.
+    pub fn passed(&self) -> bool {
+        matches!(self, Answer::Judged { passed: true, .. })
+    }
+
+    /// The root's type; none where refused.
+    pub fn ty(&self) -> Option<&Type> {
+        match self {
+            Answer::Judged { ty, .. } => Some(ty),
+            Answer::Refused(_) => None,
+        }
+    }
+
+    pub fn refusal(&self) -> Option<Refusal> {
+        match self {
+            Answer::Judged { .. } => None,
+            Answer::Refused(refusal) => Some(*refusal),
+        }
+    }
+
+    /// The diagnostics in order; none where refused.
+    pub fn diagnostics(&self) -> Diagnostics<'d> {
+        match self {
+            Answer::Judged { diagnostics, .. } => diagnostics.clone(),
+            Answer::Refused(_) => Diagnostics::of(&[]),
+        }
+    }
+}
+
+/// Judges a question under a table.
+///
+/// The whole of `diagnostics` is written: 5 bytes for each diagnostic and zeros behind them, or zeros alone where the
+/// answer is a refusal. With fewer than 5 bytes for each the answer is [`Refusal::BufferTooShort`].
+///
+/// ```
+/// use aura_judge::{judge, Refusal, Type};
+///
+/// let question = [0xff, 0xff, 0xff, 0xff, 0, 2, 6, 0, 0];
+/// assert_eq!(judge(&[], &question, &mut [0; 5]).ty(), Some(&Type::Error));
+/// assert_eq!(judge(&[], &question, &mut [0; 4]).refusal(), Some(Refusal::BufferTooShort));
+/// ```
+///
+/// # Panics
+///
+/// Where the linked library's answer is none of document 01's, as one of another layout would be.
+pub fn judge<'d>(table: &[u8], question: &[u8], diagnostics: &'d mut [u8]) -> Answer<'d> {
+    let mut answer = [0; ANSWER_SIZE];
+    raw::judge(table, question, diagnostics, &mut answer);
+    let fields = Fields::of(&answer);
+    if fields.number != 0 {
+        let refusal = Refusal::from_number(fields.number);
+        return Answer::Refused(refusal.expect("the library's numbers are 0 to 13"));
+    }
+    let ty = fields.ty.get(..fields.len as usize).map(Type::from_bytes);
+    let reported = usize::try_from(fields.count).ok().and_then(|count| count.checked_mul(DIAGNOSTIC_SIZE));
+    let diagnostics: &'d [u8] = diagnostics;
+    Answer::Judged {
+        passed: fields.pass == 1,
+        ty: ty.expect("the library's type has at most 256 bytes").expect("the library's type is well-formed"),
+        diagnostics: Diagnostics::of(
+            reported.and_then(|len| diagnostics.get(..len)).expect("the library's diagnostics are in the buffer"),
+        ),
+    }
+}

@@ -1,0 +1,87 @@
+//! The functions that Rattle exports (crates/aura_c), that the header declares and that `src/raw.rs` declares are the
+//! same, parameter by parameter.
+
+use std::collections::BTreeMap;
+
+fn read(path: &str) -> String {
+    let path = format!("{}/../{}", env!("CARGO_MANIFEST_DIR"), path);
+    let text = std::fs::read_to_string(&path).unwrap_or_else(|e| panic!("{path}: {e}"));
+    text.lines().map(|line| line.split("//").next().unwrap_or("")).collect::<Vec<_>>().join(" ")
+}
+
+/// The functions by name: their parameters and the result, as C types with the parameters' names.
+type Functions = BTreeMap<String, String>;
+
+/// `NAME(PARAMETERS) -> RESULT` for each `fn` of the text, each parameter put into C's words by `parameter`.
+fn functions(text: &str, mark: &str, parameter: impl Fn(&str, &str) -> String) -> Functions {
+    let mut all = Functions::new();
+    for piece in text.split(mark).skip(1) {
+        let (name, rest) = piece.split_once('(').expect("a function has parameters");
+        let (parameters, rest) = rest.split_once(')').expect("parameters end");
+        let result = rest.trim_start().strip_prefix("->").expect("each exported function has a result");
+        let result = result.split([';', '{']).next().unwrap_or("").split_whitespace().next().unwrap_or("");
+        let parameters = parameters.split(',').filter(|p| !p.trim().is_empty()).map(|p| {
+            let (name, ty) = p.split_once(':').expect("a parameter has a type");
+            parameter(name.trim(), ty.trim())
+        });
+        let parameters = parameters.collect::<Vec<_>>().join(", ");
+        all.insert(name.trim().to_string(), format!("({parameters}) -> {}", c_number(result)));
+    }
+    all
+}
+
+fn c_number(ty: &str) -> &str {
+    match ty {
+        "u8" => "uint8_t",
+        "usize" => "size_t",
+        other => panic!("{other} has no place in the interface"),
+    }
+}
+
+fn exported() -> Functions {
+    functions(&read("crates/aura_c/src/lib.rt"), "pub extern \"C\" fn ", |name, ty| match ty {
+        "&[u8]" => format!("const uint8_t *{name}, size_t {name}_length"),
+        "&mut [u8]" => format!("uint8_t *{name}, size_t {name}_length"),
+        number => format!("{} {name}", c_number(number)),
+    })
+}
+
+fn declared_in_rust() -> Functions {
+    let text = read("aura-judge/src/raw.rs");
+    let block = text.split("extern \"C\" {").nth(1).and_then(|rest| rest.split('}').next()).expect("a block");
+    functions(block, "fn ", |name, ty| match ty {
+        "*const u8" => format!("const uint8_t *{name}"),
+        "*mut u8" => format!("uint8_t *{name}"),
+        number => format!("{} {name}", c_number(number)),
+    })
+}
+
+#[test]
+fn rust_declares_what_rattle_exports() {
+    let exported = exported();
+    assert!(exported.contains_key("aura_judge"), "{exported:?}");
+    assert_eq!(declared_in_rust(), exported);
+}
+
+#[test]
+fn the_header_declares_what_rattle_exports() {
+    let header = read("include/aura_judge.h").split_whitespace().collect::<Vec<_>>().join(" ");
+    for (name, signature) in exported() {
+        let (parameters, result) = signature.split_once(" -> ").expect("a result");
+        let parameters = if parameters == "()" { "(void)" } else { parameters };
+        let declaration = format!("{result} {name}{parameters};");
+        assert!(header.contains(&declaration), "the header lacks: {declaration}");
+    }
+}
+
+#[test]
+fn the_sizes_are_those_of_the_code_and_the_header() {
+    let (code, header) = (read("crates/aura_c/src/lib.rt"), read("include/aura_judge.h"));
+    for (size, code_has, header_has) in [
+        (aura_judge::raw::ANSWER_SIZE, "const ANSWER_SIZE: usize = ", "#define AURA_JUDGE_ANSWER_SIZE "),
+        (aura_judge::raw::TOO_SHORT as usize, "const TOO_SHORT: u8 = ", "#define AURA_JUDGE_TOO_SHORT "),
+    ] {
+        assert!(code.contains(&format!("{code_has}{size};")), "{code_has}{size};");
+        assert!(header.contains(&format!("{header_has}{size} ")), "{header_has}{size}");
+    }
+}

@@ -1,0 +1,247 @@
+//! What this crate declares, held against what the linked library does: sizes, every field, an answer of each number,
+//! an answer slice of every length, and all lent bytes.
+
+use aura_judge::raw::{self, field, Fields, ANSWER_SIZE, DIAGNOSTIC_SIZE, TOO_SHORT};
+use aura_judge::{judge, Answer, Diagnostic, DiagnosticKind, Doer, Refusal, Type};
+
+const NO_HEADER: [u8; 5] = [0xff, 0xff, 0xff, 0xff, 0];
+const FILL: u8 = 0xa5;
+
+/// A question with no current type, no package, not in suspend.
+fn question(tree: &[u8]) -> Vec<u8> {
+    [&NO_HEADER, tree].concat()
+}
+
+fn name(name: &str) -> Vec<u8> {
+    let mut record = vec![1, name.len() as u8];
+    record.extend_from_slice(name.as_bytes());
+    record.resize(26, 0);
+    record
+}
+
+/// For each number that an input can draw: table, question, length of the diagnostics buffer. Number 13 is drawn by none.
+fn refused() -> Vec<(u8, Vec<u8>, Vec<u8>, usize)> {
+    let int = question(&[0, 0]);
+    let mut nodes = question(&[]);
+    nodes.extend([2, 0].repeat(64));
+    nodes.extend([0, 0]);
+    let mut endless = question(&[0]);
+    endless.extend([12; 192]);
+    let mut wide = vec![5, 0, 0, 1, 0];
+    wide.extend([12; 192]);
+    wide.push(0);
+    vec![
+        (1, vec![0; 60_001], int.clone(), 20),
+        (2, vec![9], int.clone(), 20),
+        (3, [vec![2, 0, 0, 255, 255, 255, 255, 0], name("Page")].concat(), int.clone(), 20),
+        (4, vec![2, 40, 0, 255, 255, 255, 255, 0], int.clone(), 20),
+        (5, [name("Page"), name("Page")].concat(), int.clone(), 20),
+        (5, name("Pair"), int.clone(), 20),
+        (6, vec![2, 0, 0, 1, 0, 255, 255, 0, 2, 1, 0, 255, 255, 255, 255, 0], int.clone(), 20),
+        (7, vec![5, 0, 0, 1, 0, 21], int.clone(), 20),
+        (7, wide, int.clone(), 20),
+        (8, vec![], vec![], 20),
+        (8, vec![], question(&[0, 0, 0]), 20),
+        (9, vec![], nodes, 20),
+        (10, vec![], question(&[0, 17, 40, 0]), 20),
+        (11, vec![], endless, 20),
+        (12, vec![], question(&[2, 6, 0, 0]), 4),
+    ]
+}
+
+/// The raw call on slices that hold something before.
+fn call(table: &[u8], question: &[u8], diagnostics_len: usize, answer_len: usize) -> (u8, Vec<u8>, Vec<u8>) {
+    let mut diagnostics = vec![FILL; diagnostics_len];
+    let mut answer = vec![FILL; answer_len];
+    let number = raw::judge(table, question, &mut diagnostics, &mut answer);
+    (number, diagnostics, answer)
+}
+
+/// An answer's bytes, written here.
+fn answer_bytes(number: u8, pass: u8, ty: &[u8], count: u64) -> Vec<u8> {
+    let mut bytes = vec![number, pass];
+    bytes.extend((ty.len() as u16).to_le_bytes());
+    bytes.extend(count.to_le_bytes());
+    bytes.extend(ty);
+    bytes.resize(268, 0);
+    bytes
+}
+
+#[test]
+fn sizes() {
+    assert_eq!(raw::answer_size(), 268);
+    assert_eq!(raw::answer_size(), ANSWER_SIZE);
+    assert_eq!(DIAGNOSTIC_SIZE, 5);
+    let fields =
+        [field::NUMBER..field::NUMBER + 1, field::PASS..field::PASS + 1, field::LEN, field::COUNT, field::TYPE];
+    let mut at = 0;
+    for field in fields {
+        assert_eq!(field.start, at, "fields follow each other without a gap");
+        at = field.end;
+    }
+    assert_eq!(at, ANSWER_SIZE);
+}
+
+#[test]
+fn every_field_of_a_judged_answer() {
+    // A passed type of three bytes, whose bytes differ.
+    let (number, diagnostics, answer) = call(&name("Page"), &question(&[0, 17, 40, 0]), 20, ANSWER_SIZE);
+    assert_eq!(number, 0);
+    assert_eq!(answer, answer_bytes(0, 1, &[17, 40, 0], 0));
+    assert_eq!(diagnostics, [0; 20]);
+
+    // A type of 192 bytes, the longest that a leaf has.
+    let (_, _, answer) = call(&[], &question(&[&[0][..], &[12; 191], &[0]].concat()), 0, ANSWER_SIZE);
+    assert_eq!(answer, answer_bytes(0, 1, &[&[12; 191][..], &[0]].concat(), 0));
+
+    // Two diagnostics with numbers, at a node above 0: `!(Int && Int)`.
+    let (_, diagnostics, answer) = call(&[], &question(&[2, 1, 1, 11, 0, 0, 0, 0]), 12, ANSWER_SIZE);
+    assert_eq!(answer, answer_bytes(0, 0, &[6], 2));
+    assert_eq!(diagnostics, [6, 1, 0, 1, 0, 6, 1, 0, 2, 0, 0, 0]);
+    let array: &[u8; ANSWER_SIZE] = answer.as_slice().try_into().unwrap();
+    let fields = Fields::of(array);
+    assert_eq!((fields.number, fields.pass, fields.len, fields.count), (0, 0, 1, 2));
+    assert_eq!((fields.ty[0], fields.ty[1..].iter().any(|&byte| byte != 0)), (6, false));
+}
+
+#[test]
+fn an_answer_of_each_number() {
+    let mut met = [false; 14];
+    for (number, table, question, room) in refused() {
+        met[number as usize] = true;
+        let (returned, diagnostics, answer) = call(&table, &question, room, ANSWER_SIZE);
+        assert_eq!(returned, number);
+        assert_eq!(answer, answer_bytes(number, 0, &[], 0), "number {number}");
+        assert_eq!(diagnostics, vec![0; room]);
+
+        let mut buffer = vec![FILL; room];
+        let safe = judge(&table, &question, &mut buffer);
+        assert_eq!(safe.number(), number);
+        assert_eq!(safe.refusal().map(Refusal::number), Some(number));
+        assert!(!safe.passed());
+        assert_eq!(safe.ty(), None);
+        assert_eq!(safe.diagnostics().len(), 0);
+    }
+    assert_eq!(met[1..=12], [true; 12]);
+    assert_eq!(judge(&[], &question(&[0, 0]), &mut []).number(), 0);
+}
+
+#[test]
+fn an_answer_slice_of_every_length() {
+    let asked = question(&[2, 6, 0, 0]);
+    for len in 0..ANSWER_SIZE {
+        let (number, diagnostics, answer) = call(&[], &asked, 7, len);
+        assert_eq!(number, TOO_SHORT);
+        assert_eq!(answer, vec![0; len]);
+        assert_eq!(diagnostics, [0; 7]);
+    }
+    for len in [ANSWER_SIZE, ANSWER_SIZE + 1, ANSWER_SIZE + 500] {
+        let (number, diagnostics, answer) = call(&[], &asked, 7, len);
+        assert_eq!(number, 0);
+        let mut expected = answer_bytes(0, 0, &[21], 1);
+        expected.resize(len, 0);
+        assert_eq!(answer, expected);
+        assert_eq!(diagnostics, [13, 0, 0, 0, 0, 0, 0]);
+    }
+    // A faulty table is not looked at where there is no room.
+    assert_eq!(call(&[9], &asked, 7, 267).0, TOO_SHORT);
+}
+
+#[test]
+fn a_diagnostics_buffer_of_every_length() {
+    let asked = question(&[2, 6, 0, 0]);
+    for len in 0..40 {
+        let (number, diagnostics, answer) = call(&[], &asked, len, ANSWER_SIZE);
+        let mut expected = vec![0; len];
+        if len < 5 {
+            assert_eq!((number, answer), (12, answer_bytes(12, 0, &[], 0)));
+        } else {
+            assert_eq!((number, answer), (0, answer_bytes(0, 0, &[21], 1)));
+            expected[0] = 13;
+        }
+        assert_eq!(diagnostics, expected);
+    }
+}
+
+/// Hex, `-` for none, `xx*N` for N times xx, `.` between such runs.
+fn unhex(text: &str) -> Vec<u8> {
+    let mut out = Vec::new();
+    for part in text.split('.').filter(|part| *part != "-") {
+        let (digits, times) = part.split_once('*').unwrap_or((part, "1"));
+        let byte = |at: usize| u8::from_str_radix(&digits[at..at + 2], 16).unwrap();
+        let bytes: Vec<u8> = (0..digits.len()).step_by(2).map(byte).collect();
+        out.extend(bytes.repeat(times.parse().unwrap()));
+    }
+    out
+}
+
+/// The stored cases: table, question, what the program prints.
+fn stored() -> Vec<(Vec<u8>, Vec<u8>, String)> {
+    let text = std::fs::read_to_string(concat!(env!("CARGO_MANIFEST_DIR"), "/../samples/answers.txt")).unwrap();
+    let lines = text.lines().filter(|line| !line.starts_with('#'));
+    let case = |line: &str| {
+        let parts: Vec<&str> = line.splitn(4, ' ').collect();
+        (unhex(parts[1]), unhex(parts[2]), parts[3].replace('/', "\n") + "\n")
+    };
+    lines.map(case).collect()
+}
+
+/// What the program prints of an answer as Rust values.
+fn print(answer: &Answer) -> String {
+    let ty = answer.ty().map(Type::to_bytes).unwrap_or_default();
+    let hex: String = ty.iter().map(|byte| format!("{byte:02x}")).collect();
+    let hex = if ty.is_empty() { "-".to_string() } else { hex };
+    let diagnostics: Vec<Diagnostic> = answer.diagnostics().collect();
+    let mut out = format!("{} {} {} {} {}\n", answer.number(), answer.passed() as u8, ty.len(), hex, diagnostics.len());
+    for d in diagnostics {
+        out += &format!("{} {} {}\n", d.kind.number(), d.node, d.number);
+    }
+    out
+}
+
+#[test]
+fn the_stored_answers() {
+    let cases = stored();
+    assert!(cases.len() > 3000);
+    let mut kinds = [0; 24];
+    for (table, question, printed) in &cases {
+        let mut buffer = vec![FILL; 4000];
+        let answer = judge(table, question, &mut buffer);
+        assert_eq!(print(&answer), *printed, "{table:02x?} {question:02x?}");
+        answer.diagnostics().for_each(|d| kinds[d.kind.number() as usize] += 1);
+        let used = 5 * answer.diagnostics().len();
+        assert!(buffer[used..].iter().all(|&byte| byte == 0), "zeros behind the diagnostics");
+    }
+    assert!(kinds[1..].iter().all(|&count| count > 0), "a kind of diagnostic is not among them: {kinds:?}");
+}
+
+#[test]
+fn refusals_by_number() {
+    for (i, refusal) in Refusal::ALL.into_iter().enumerate() {
+        assert_eq!(refusal.number() as usize, i + 1);
+        assert_eq!(Refusal::from_number(refusal.number()), Some(refusal));
+    }
+    assert_eq!((Refusal::from_number(0), Refusal::from_number(14)), (None, None));
+    let by = |number| Refusal::from_number(number).unwrap().by();
+    for number in 1..=13 {
+        let expected = match number {
+            1..=7 => Doer::TableWriter,
+            8..=11 => Doer::ScriptAuthor,
+            12 => Doer::Caller,
+            _ => Doer::Judge,
+        };
+        assert_eq!(by(number), expected);
+    }
+}
+
+#[test]
+fn diagnostic_kinds_by_number() {
+    for (i, kind) in DiagnosticKind::ALL.into_iter().enumerate() {
+        assert_eq!(kind.number() as usize, i + 1);
+        assert_eq!(DiagnosticKind::from_number(kind.number()), Some(kind));
+        assert_eq!(kind.is_warning(), kind.number() == 4);
+    }
+    assert_eq!((DiagnosticKind::from_number(0), DiagnosticKind::from_number(24)), (None, None));
+    let bytes = [19, 2, 1, 4, 3];
+    assert_eq!(Diagnostic::from_bytes(bytes), Some(Diagnostic { kind: DiagnosticKind::Tie, node: 258, number: 772 }));
+}

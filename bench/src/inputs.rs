@@ -1,0 +1,355 @@
+//! The inputs: tables by make and size, questions by node count and depth, inputs that are refused.
+
+use oracle::bytes::*;
+use oracle::name::{BUILT_IN, NONE};
+use oracle::rng::Rng;
+use std::collections::BTreeMap;
+
+/// What a table is made of.
+#[derive(Debug, Clone, Copy, PartialEq, Eq)]
+pub enum Make {
+    Nothing,
+    Names,
+    Fields,
+    /// Functions in lists of hundreds of overloads.
+    Many,
+    /// Functions in lists of two.
+    Few,
+    /// Names that all have one bucket.
+    CollidingNames,
+    /// Fields, visibilities, suspend functions and variants whose owners and names share few buckets.
+    CollidingFields,
+}
+
+impl Make {
+    pub fn words(self) -> &'static str {
+        match self {
+            Make::Nothing => "no table",
+            Make::Names => "names",
+            Make::Fields => "fields",
+            Make::Many => "functions, many overloads",
+            Make::Few => "functions, few overloads",
+            Make::CollidingNames => "colliding names",
+            Make::CollidingFields => "colliding fields",
+        }
+    }
+}
+
+pub const MAKES: [Make; 4] = [Make::Names, Make::Fields, Make::Many, Make::Few];
+pub const ALL_MAKES: [Make; 6] =
+    [Make::Names, Make::Fields, Make::Many, Make::Few, Make::CollidingNames, Make::CollidingFields];
+pub const SIZES: [usize; 3] = [2048, 16_384, 60_000];
+
+/// The first name of a table: the class and the function that questions use.
+const FIRST: u16 = BUILT_IN.len() as u16;
+const NAME_RECORD: usize = 26;
+
+/// A table that grows while it has room.
+struct Filler {
+    table: Table,
+    left: usize,
+}
+
+impl Filler {
+    fn new(size: usize) -> Filler {
+        Filler { table: Table::new(), left: size }
+    }
+
+    /// Adds what `add` adds, if there is room.
+    fn put(&mut self, add: impl Fn(&mut Table)) -> bool {
+        let mut alone = Table::new();
+        add(&mut alone);
+        let len = alone.bytes().len();
+        if self.left < len {
+            return false;
+        }
+        self.left -= len;
+        add(&mut self.table);
+        true
+    }
+
+    fn names(&mut self, count: usize) -> u16 {
+        for i in 0..count {
+            self.put(|t| {
+                t.name(&format!("pageName{}", i));
+            });
+        }
+        FIRST + count as u16
+    }
+}
+
+/// A table of at most `size` bytes; less than one record stays free.
+pub fn table(make: Make, size: usize) -> Vec<u8> {
+    let mut f = Filler::new(size);
+    match make {
+        Make::Nothing => {}
+        Make::Names => {
+            f.names(size / NAME_RECORD);
+        }
+        Make::Fields => fields(&mut f, size),
+        Make::Many => many(&mut f),
+        Make::Few => few(&mut f),
+        Make::CollidingNames => colliding_names(&mut f),
+        Make::CollidingFields => colliding_fields(&mut f, size),
+    }
+    f.table.bytes()
+}
+
+fn some_type(i: usize, ids: u16) -> Bytes {
+    match i % 5 {
+        0 => vec![INT],
+        1 => vec![STRING],
+        2 => list(&[DOUBLE]),
+        3 => nullable(&named(i as u16 % ids)),
+        _ => map(&[STRING], &[BOOLEAN]),
+    }
+}
+
+/// The field that questions ask for is the last.
+fn fields(f: &mut Filler, size: usize) {
+    const ASKED: usize = 6;
+    let ids = f.names((size / 1000).max(2));
+    f.left -= ASKED;
+    for i in 0.. {
+        let (owner, name) = ((i / ids as usize) as u16, (i % ids as usize) as u16);
+        let asked = owner == FIRST && name == FIRST;
+        if owner >= ids || (!asked && !f.put(|t| t.field(owner, name, &some_type(i, ids)))) {
+            break;
+        }
+    }
+    f.left += ASKED;
+    f.put(|t| t.field(FIRST, FIRST, &[INT]));
+}
+
+/// Overload i of a list: an odd one takes an Int, so that a call chooses it; an even one fits in number and takes a name.
+fn function(t: &mut Table, owner: u16, name: u16, i: usize, ids: u16) {
+    if i % 2 == 1 {
+        t.function(owner, name, 0, false, &[INT], &[(20, 0, vec![INT])]);
+    } else {
+        let other = named(i as u16 / 2 % ids);
+        t.function(owner, name, 0, false, &other, &[(20, 0, other.clone()), (21, DEFAULT, list(&[INT]))]);
+    }
+}
+
+fn many(f: &mut Filler) {
+    let ids = f.names(8);
+    for i in 0.. {
+        // One overload with an Int in each list; the others take names.
+        let name = FIRST + (i % 8) as u16;
+        let step = if i / 8 == 1 { 1 } else { 2 * (i / 8) };
+        if !f.put(|t| function(t, NONE, name, step, ids)) {
+            break;
+        }
+    }
+}
+
+fn few(f: &mut Filler) {
+    let ids = f.names(16);
+    for i in 0.. {
+        // Without an owner first, from the name that questions call on.
+        let key = i / 2;
+        let owner = match key / ids as usize {
+            0 => NONE,
+            n => n as u16 - 1,
+        };
+        let name = ((key + FIRST as usize) % ids as usize) as u16;
+        if owner == ids || !f.put(|t| function(t, owner, name, i, ids)) {
+            break;
+        }
+    }
+}
+
+/// `Aa` and `BB` have the same sum under 31 * first + second, so all rows of twelve of them have one bucket
+/// (crates/symbol/specs/Bucket.antt).
+fn colliding_names(f: &mut Filler) {
+    for i in 0..4096 {
+        let name: String = (0..12).map(|bit| if i >> bit & 1 == 0 { "Aa" } else { "BB" }).collect();
+        if !f.put(|t| {
+            t.name(&name);
+        }) {
+            break;
+        }
+    }
+}
+
+/// The bucket of two ids, as the check has it.
+fn bucket(owner: u16, name: u16) -> u16 {
+    owner.wrapping_mul(509).wrapping_add(name)
+}
+
+/// Three quarters of the bytes are names; the rest are records of kinds 5 to 8 from the fullest buckets on.
+fn colliding_fields(f: &mut Filler, size: usize) {
+    let ids = f.names(size * 3 / 4 / NAME_RECORD);
+    let mut buckets: BTreeMap<u16, Vec<(u16, u16)>> = BTreeMap::new();
+    for owner in 0..ids {
+        for name in 0..ids {
+            buckets.entry(bucket(owner, name)).or_default().push((owner, name));
+        }
+    }
+    let mut fullest: Vec<_> = buckets.into_values().collect();
+    fullest.sort_by_key(|pairs| usize::MAX - pairs.len());
+    for (owner, name) in fullest.into_iter().flatten() {
+        let done = !f.put(|t| {
+            t.field(owner, name, &[INT]);
+            t.visibility(owner, name, 0);
+            t.suspend(owner, name);
+            t.variant(owner, name);
+        });
+        if done {
+            break;
+        }
+    }
+}
+
+/// What a question asks for under a table: two nodes.
+fn unit(make: Make) -> Bytes {
+    match make {
+        Make::Nothing | Make::Names | Make::CollidingNames | Make::CollidingFields => unary(MINUS, &leaf(&[INT])),
+        Make::Fields => member(FIRST, &leaf(&named(FIRST))),
+        Make::Many | Make::Few => call(FIRST, &[leaf(&[INT])]),
+    }
+}
+
+fn tree(nodes: usize, make: Make) -> Bytes {
+    match nodes {
+        1 => leaf(&[INT]),
+        2 => unit(make),
+        3 => binary(ADD, &leaf(&[INT]), &leaf(&[INT])),
+        n => binary(ADD, &tree(n - 3, make), &unit(make)),
+    }
+}
+
+/// A question of this many nodes that uses what the table has.
+pub fn nodes(count: usize, make: Make) -> Vec<u8> {
+    question(&tree(count, make))
+}
+
+/// Calls in calls: of the table's function where it has functions, else method calls on an Any.
+pub fn nested(depth: usize, make: Make) -> Vec<u8> {
+    let mut tree = leaf(&[INT]);
+    for _ in 0..depth {
+        tree = match make {
+            Make::Many | Make::Few => call(FIRST, &[tree]),
+            _ => method(20, &tree, &[]),
+        };
+    }
+    question(&tree)
+}
+
+/// One timed input.
+pub struct Input {
+    pub make: Make,
+    /// What the question is.
+    pub asked: String,
+    pub table: Vec<u8>,
+    pub question: Vec<u8>,
+}
+
+/// Every table with every question.
+pub fn all() -> Vec<Input> {
+    let mut tables = vec![(Make::Nothing, 0)];
+    for make in MAKES {
+        tables.extend(SIZES.map(|size| (make, size)));
+    }
+    let mut inputs = Vec::new();
+    for (make, size) in tables {
+        let table = table(make, size);
+        let mut add = |asked: String, question| inputs.push(Input { make, asked, table: table.clone(), question });
+        for count in [1, 8, 32, 64] {
+            add(format!("{} node{}", count, if count == 1 { "" } else { "s" }), nodes(count, make));
+        }
+        for depth in [1, 30] {
+            add(format!("calls {} deep", depth), nested(depth, make));
+        }
+    }
+    inputs
+}
+
+/// One input that is refused.
+pub struct Refused {
+    pub what: &'static str,
+    pub number: u8,
+    pub table: Vec<u8>,
+    pub question: Vec<u8>,
+}
+
+impl Refused {
+    /// The bytes that may have to be read.
+    pub fn bytes(&self) -> usize {
+        self.table.len() + self.question.len()
+    }
+}
+
+pub fn refused() -> Vec<Refused> {
+    let int = nodes(1, Make::Nothing);
+    let mut all = Vec::new();
+    let mut add = |number, what, table: Vec<u8>, question: Vec<u8>| all.push(Refused { what, number, table, question });
+
+    add(1, "60,001 bytes of table", vec![1; 60_001], int.clone());
+    add(2, "a malformed record behind 60,000 bytes of names, less one", tail(Make::Names, &[9]), int.clone());
+    let mut rng = Rng::new(1, 1, 1);
+    add(2, "60,000 random bytes", (0..60_000).map(|_| rng.byte()).collect(), int.clone());
+    add(3, "a name behind fields", tail(Make::Fields, &[&[1, 1, 65][..], &[0; 23]].concat()), int.clone());
+    add(4, "an undefined id behind functions", tail(Make::Few, &[7, 255, 255, 255, 255]), int.clone());
+    add(5, "a repeated name behind names", tail(Make::Names, &name_again("pageName0")), int.clone());
+    add(
+        5,
+        "a repeated name behind colliding names",
+        tail(Make::CollidingNames, &name_again(&"Aa".repeat(12))),
+        int.clone(),
+    );
+    add(5, "a repeated field behind fields", tail(Make::Fields, &[5, 0, 0, 0, 0, 0]), int.clone());
+    add(6, "a superclass behind its class, behind names", tail(Make::Names, &superclass_behind()), int.clone());
+    add(7, "Error in a type, behind fields of 192-byte types", wide_fields(), int.clone());
+    add(8, "16,385 bytes of question", vec![], vec![0; 16_385]);
+    add(8, "no question, behind 60,000 bytes of names", table(Make::Names, 60_000), vec![]);
+    add(8, "a cut leaf behind 59 leaves with 192-byte types", vec![], wide_leaves(&[12]));
+    add(9, "a 65th node", vec![], question(&[[2, 0].repeat(64), vec![0, 0]].concat()));
+    add(10, "an undefined id behind 59 leaves with 192-byte types", vec![], wide_leaves(&[17, 40, 0]));
+    add(11, "a type without end behind 59 leaves with 192-byte types", vec![], wide_leaves(&[12; 192]));
+    all
+}
+
+/// A table of 60,000 bytes at most that ends with these.
+fn tail(make: Make, end: &[u8]) -> Vec<u8> {
+    let mut bytes = table(make, 60_000 - end.len());
+    bytes.extend_from_slice(end);
+    bytes
+}
+
+fn name_again(name: &str) -> Vec<u8> {
+    let mut t = Table::new();
+    t.name(name);
+    t.bytes()
+}
+
+fn superclass_behind() -> Vec<u8> {
+    let mut t = Table::new();
+    t.class(0, 1, NONE, false);
+    t.class(1, NONE, NONE, false);
+    t.bytes()
+}
+
+fn wide_fields() -> Vec<u8> {
+    let wide = nullables(191, &[INT]);
+    let mut t = Table::new();
+    for i in 0..60_000 / 197 - 1 {
+        t.field(i / 40, i % 40, &wide);
+    }
+    t.field(39, 39, &[ERROR]);
+    t.bytes()
+}
+
+/// Four calls in each other with 59 leaves of 192-byte types, then a leaf with this type: 64 nodes.
+fn wide_leaves(last: &[u8]) -> Vec<u8> {
+    let wide = leaf(&nullables(191, &[INT]));
+    let mut tree = Vec::new();
+    let calls = [(16, 15), (16, 15), (16, 15), (15, 14)];
+    for (count, leaves) in calls {
+        tree.extend_from_slice(&[5, 20, 0, count]);
+        tree.extend(wide.repeat(leaves));
+    }
+    tree.push(0);
+    tree.extend_from_slice(last);
+    question(&tree)
+}

@@ -1,0 +1,161 @@
+//! The judge's speed beside the Rust's.
+//!
+//!     cargo run --release               measures and prints the page
+//!     cargo run --release -- --write    also writes docs/SPEED.md and docs/speed.svg
+//!     cargo run --release -- --quick    a short run, to see that it works
+
+mod inputs;
+mod measure;
+mod plot;
+mod report;
+mod stack;
+
+use inputs::{Input, Make, ALL_MAKES};
+use measure::{judging, least, parts, same_answer, Effort, Times, BUFFER};
+use plot::{Panel, Series};
+use report::{Growth, NodeGrowth, RefusedRow, Report, Row};
+use std::time::Duration;
+
+const DOCS: &str = concat!(env!("CARGO_MANIFEST_DIR"), "/../docs");
+const COMMAND: &str = "rt staticlib aura_c && cd bench && cargo run --release -- --write";
+/// The part of the page that is written by hand begins so.
+const BY_HAND: &str = "\n## What was tried";
+
+fn times(input: &Input, effort: Effort) -> Times {
+    same_answer(input);
+    parts(&input.table, &input.question, effort)
+}
+
+fn rows(effort: Effort) -> Vec<Row> {
+    let row = |input: Input| {
+        let times = times(&input, effort);
+        Row { make: input.make, bytes: input.table.len(), asked: input.asked, times }
+    };
+    inputs::all().into_iter().map(row).collect()
+}
+
+fn growth(effort: Effort) -> Vec<Growth> {
+    let of = |make: Make| {
+        let step = |size: usize| {
+            let question = inputs::nodes(8, make);
+            let input = Input { make, asked: "8 nodes".to_string(), table: inputs::table(make, size), question };
+            (input.table.len(), times(&input, effort))
+        };
+        Growth { make, steps: [1875, 3750, 7500, 15_000, 30_000, 60_000].map(step).to_vec() }
+    };
+    ALL_MAKES.map(of).into_iter().collect()
+}
+
+fn nodes(effort: Effort) -> Vec<NodeGrowth> {
+    let of = |make: Make, size: usize| {
+        let step = |count: usize| {
+            let (table, question) = (inputs::table(make, size), inputs::nodes(count, make));
+            (count, times(&Input { make, asked: format!("{count} nodes"), table, question }, effort))
+        };
+        let bytes = if size == 0 { "".to_string() } else { format!(", {size} bytes") };
+        let name = format!("{}{bytes}", make.words());
+        NodeGrowth { name, steps: [1, 2, 4, 8, 16, 32, 64].map(step).to_vec() }
+    };
+    vec![
+        of(Make::Nothing, 0),
+        of(Make::Fields, 2048),
+        of(Make::Many, 2048),
+        of(Make::Few, 2048),
+        of(Make::Many, 60_000),
+        of(Make::Few, 60_000),
+    ]
+}
+
+fn refused(effort: Effort) -> Vec<RefusedRow> {
+    let row = |input: inputs::Refused| {
+        let mut buffer = [0; BUFFER];
+        let found = aura_judge::judge(&input.table, &input.question, &mut buffer).number();
+        assert_eq!(found, input.number, "{}", input.what);
+        let time = least(&mut [judging(&input.table, &input.question, BUFFER)], effort)[0];
+        RefusedRow { what: input.what, number: input.number, bytes: input.bytes(), time }
+    };
+    inputs::refused().into_iter().map(row).collect()
+}
+
+fn buffers(effort: Effort) -> Vec<(usize, f64)> {
+    let question = inputs::nodes(1, Make::Nothing);
+    let time = |bytes: usize| (bytes, least(&mut [judging(&[], &question, bytes)], effort)[0]);
+    [0, BUFFER, 4096, 65_535].map(time).to_vec()
+}
+
+/// The machine and the compiler, as far as they can be told.
+fn machine() -> String {
+    let read = |path: &str| std::fs::read_to_string(path).unwrap_or_default();
+    let info = read("/proc/cpuinfo");
+    let field = |key: &str| {
+        let line = info.lines().find(|line| line.starts_with(key));
+        line.and_then(|line| line.split(':').nth(1)).map_or("unknown", str::trim).to_string()
+    };
+    let cores = std::thread::available_parallelism().map_or(0, usize::from);
+    let rustc = std::process::Command::new("rustc").arg("--version").output();
+    let rustc = rustc.map_or("rustc unknown".to_string(), |o| String::from_utf8_lossy(&o.stdout).trim().to_string());
+    format!(
+        "Machine: {} ({} MHz, cache {}, {} processors), {}; {}.",
+        field("model name"),
+        field("cpu MHz").split('.').next().unwrap_or("unknown"),
+        field("cache size"),
+        cores,
+        std::env::consts::OS,
+        rustc
+    )
+}
+
+fn panels(report: &Report) -> [Panel; 2] {
+    let points = |steps: &[(usize, Times)]| {
+        steps.iter().map(|(x, t)| (*x as f64, t.whole / 1000.0, t.rust() / 1000.0)).collect()
+    };
+    let tables = report.growth.iter().map(|g| Series { name: g.make.words().to_string(), points: points(&g.steps) });
+    let nodes = report.nodes.iter().map(|g| Series { name: g.name.clone(), points: points(&g.steps) });
+    [
+        Panel { title: "By table size, 8 nodes", axis: "bytes of table", series: tables.collect() },
+        Panel { title: "By nodes", axis: "nodes", series: nodes.collect() },
+    ]
+}
+
+fn main() {
+    let arguments: Vec<String> = std::env::args().skip(1).collect();
+    if let [mark, kib] = arguments.as_slice() {
+        if mark == stack::CHILD {
+            return stack::child(kib.parse().expect("a number of KiB"));
+        }
+    }
+    let (mut write, mut quick) = (false, false);
+    for argument in &arguments {
+        match argument.as_str() {
+            "--write" => write = true,
+            "--quick" => quick = true,
+            other => {
+                eprintln!("{other} is none of: --write --quick");
+                std::process::exit(2);
+            }
+        }
+    }
+    let effort = match quick {
+        true => Effort { time: Duration::from_millis(5), wanted: 3 },
+        false => Effort { time: Duration::from_millis(400), wanted: 100 },
+    };
+    let report = Report {
+        machine: machine(),
+        command: COMMAND.to_string(),
+        rows: rows(effort),
+        growth: growth(effort),
+        nodes: nodes(effort),
+        refused: refused(effort),
+        buffers: buffers(effort),
+        stack: stack::smallest(),
+    };
+    let place = format!("{DOCS}/SPEED.md");
+    let before = std::fs::read_to_string(&place).unwrap_or_default();
+    let by_hand = before.find(BY_HAND).map_or("", |at| &before[at..]);
+    let page = report::page(&report, by_hand);
+    print!("{page}");
+    if write {
+        std::fs::write(&place, &page).expect("docs/SPEED.md is written");
+        std::fs::write(format!("{DOCS}/speed.svg"), plot::svg(&panels(&report))).expect("docs/speed.svg is written");
+    }
+}

@@ -1,0 +1,244 @@
+//! The measured numbers as a page.
+
+use crate::inputs::Make;
+use crate::measure::Times;
+use std::fmt::Write;
+
+/// Microseconds with three digits that count.
+pub fn us(nanoseconds: f64) -> String {
+    let value = nanoseconds / 1000.0;
+    match value {
+        v if v >= 100.0 => format!("{v:.0}"),
+        v if v >= 10.0 => format!("{v:.1}"),
+        v => format!("{v:.2}"),
+    }
+}
+
+/// One measured input.
+pub struct Row {
+    pub make: Make,
+    pub bytes: usize,
+    pub asked: String,
+    pub times: Times,
+}
+
+/// One table, then the table of twice its size, and so on.
+pub struct Growth {
+    pub make: Make,
+    /// Bytes, and the times with a question of 8 nodes.
+    pub steps: Vec<(usize, Times)>,
+}
+
+impl Growth {
+    /// The largest factor between a table and one of twice its size.
+    pub fn worst(&self) -> f64 {
+        self.steps.windows(2).map(|pair| pair[1].1.whole / pair[0].1.whole).fold(0.0, f64::max)
+    }
+}
+
+/// Times by node count under one table.
+pub struct NodeGrowth {
+    pub name: String,
+    pub steps: Vec<(usize, Times)>,
+}
+
+pub struct RefusedRow {
+    pub what: &'static str,
+    pub number: u8,
+    pub bytes: usize,
+    pub time: f64,
+}
+
+pub struct Report {
+    pub machine: String,
+    pub command: String,
+    pub rows: Vec<Row>,
+    pub growth: Vec<Growth>,
+    pub nodes: Vec<NodeGrowth>,
+    pub refused: Vec<RefusedRow>,
+    /// The lent buffer's length, and the time of a question of one node without a table.
+    pub buffers: Vec<(usize, f64)>,
+    pub stack: Option<usize>,
+}
+
+fn median(mut values: Vec<f64>) -> f64 {
+    values.sort_by(f64::total_cmp);
+    let middle = values.len() / 2;
+    if values.len() % 2 == 1 {
+        values[middle]
+    } else {
+        (values[middle - 1] + values[middle]) / 2.0
+    }
+}
+
+fn verdict(out: &mut String, bar: &str, found: String, met: bool) {
+    let _ = writeln!(out, "| {bar} | {found} | {} |", if met { "met" } else { "**not met**" });
+}
+
+fn bars(report: &Report) -> String {
+    let mut out = "| Bar | Measured | |\n|---|---|---|\n".to_string();
+    let ratios: Vec<f64> = report.rows.iter().map(|row| row.times.ratio()).collect();
+    let worst = ratios.iter().copied().fold(0.0, f64::max);
+    let over = ratios.iter().filter(|ratio| **ratio > 1.0).count();
+    let found = format!("at most {worst:.2}; above 1 on {over} of {}", ratios.len());
+    verdict(&mut out, "check and judgement, at most the Rust's filling and methods on every input", found, over == 0);
+    let middle = median(ratios);
+    verdict(&mut out, "at most half of it on the median", format!("{middle:.2}"), middle <= 0.5);
+    let bare = || report.rows.iter().filter(|row| row.make == Make::Nothing);
+    let worst = bare().map(|row| row.times.ratio()).fold(0.0, f64::max);
+    verdict(&mut out, "a fifth where there is no table", format!("at most {worst:.2}"), worst <= 0.2);
+    let worst = bare().map(|row| row.times.judgement() / row.times.run).fold(0.0, f64::max);
+    let bar = "the judgement alone, at most 3 times the Rust's methods where the table is empty";
+    verdict(&mut out, bar, format!("at most {worst:.2}"), worst <= 3.0);
+    for growth in &report.growth {
+        let worst = growth.worst();
+        let bar = format!("twice the table, at most 2.3 times the time: {}", growth.make.words());
+        verdict(&mut out, &bar, format!("at most {worst:.2}"), worst <= 2.3);
+    }
+    out
+}
+
+fn rows(report: &Report) -> String {
+    let mut out = String::from(
+        "| Table | Bytes | Question | Check | Judgement | Together | Filling | Methods | Tree | Together / (filling + methods) |\n\
+         |---|--:|---|--:|--:|--:|--:|--:|--:|--:|\n",
+    );
+    for row in &report.rows {
+        let t = &row.times;
+        let _ = writeln!(
+            out,
+            "| {} | {} | {} | {} | {} | {} | {} | {} | {} | {:.2} |",
+            row.make.words(),
+            row.bytes,
+            row.asked,
+            us(t.check),
+            us(t.judgement()),
+            us(t.whole),
+            us(t.fill),
+            us(t.run),
+            us(t.build),
+            t.ratio()
+        );
+    }
+    out
+}
+
+fn growth(report: &Report) -> String {
+    let mut out = String::from(
+        "| Table | Bytes | Check | Together | Times the half | Filling and methods |\n|---|--:|--:|--:|--:|--:|\n",
+    );
+    for growth in &report.growth {
+        let mut before: Option<f64> = None;
+        for (bytes, times) in &growth.steps {
+            let factor = before.map_or("".to_string(), |before| format!("{:.2}", times.whole / before));
+            let _ = writeln!(
+                out,
+                "| {} | {bytes} | {} | {} | {factor} | {} |",
+                growth.make.words(),
+                us(times.check),
+                us(times.whole),
+                us(times.rust())
+            );
+            before = Some(times.whole);
+        }
+    }
+    out
+}
+
+fn nodes(report: &Report) -> String {
+    let mut out = String::from(
+        "| Table | Nodes | Judgement | Together | Methods | Filling and methods |\n|---|--:|--:|--:|--:|--:|\n",
+    );
+    for growth in &report.nodes {
+        for (count, times) in &growth.steps {
+            let _ = writeln!(
+                out,
+                "| {} | {count} | {} | {} | {} | {} |",
+                growth.name,
+                us(times.judgement()),
+                us(times.whole),
+                us(times.run),
+                us(times.rust())
+            );
+        }
+    }
+    out
+}
+
+fn refused(report: &Report) -> String {
+    let mut out = String::from("| Number | Input | Bytes | Time | Nanoseconds a byte |\n|--:|---|--:|--:|--:|\n");
+    for row in &report.refused {
+        let each = row.time / row.bytes as f64;
+        let _ = writeln!(out, "| {} | {} | {} | {} | {each:.2} |", row.number, row.what, row.bytes, us(row.time));
+    }
+    out
+}
+
+/// The page; what is written by hand at its end is kept.
+pub fn page(report: &Report, by_hand: &str) -> String {
+    let buffers: Vec<String> =
+        report.buffers.iter().map(|(bytes, time)| format!("{bytes} bytes {} µs", us(*time))).collect();
+    let stack = match report.stack {
+        Some(kib) => format!(
+            "The questions of 64 nodes that go deepest (unary, member, named argument, call and method call, 63 in each \
+             other) run under full tables on a thread with a stack of {kib} KiB, which is the least in steps of 4 KiB; the \
+             thread's own start is in it. The judge uses no heap."
+        ),
+        None => "Not measured in this run.".to_string(),
+    };
+    format!(
+        "# Speed
+
+The judge beside the Rust's own methods (`oracle/`), both built for release, in one process on the same inputs. The
+program stops where an answer differs from the Rust's.
+
+    {}
+
+{}
+
+Times are in microseconds: the minimum of many runs, in which the parts take turns. `bench/src/measure.rs` has the parts:
+
+- **Check**: the judge on the table with an empty question. Number 8 comes behind the table's check, so this is the check
+  and what every call does.
+- **Together**: the judge on the table and the question. **Judgement** is the difference, with the question's own check in it.
+- **Filling**: the plainest filling of `Checker`'s maps from the same bytes, without any check (`table::fill`). **Methods**:
+  `answer::run`. **Tree**: the question's tree (`question::build`), which the ratio leaves out. What they allocate is
+  dropped outside the time.
+- Buffers: the judge clears the lent buffer (320 bytes here) and the answer itself, inside the time. The Rust has
+  none. No caches are cleared between runs. With longer buffers, one node and no table: {}.
+
+## Bars
+
+{}
+## Every input
+
+{}
+## Growth
+
+![Time by table size and by nodes](speed.svg)
+
+With a question of 8 nodes. In the colliding tables all keys share one bucket of the check, or as few as ids allow.
+
+{}
+By nodes:
+
+{}
+## Refused inputs
+
+The judge alone.
+
+{}
+## Stack
+
+{stack}
+{by_hand}",
+        report.command,
+        report.machine,
+        buffers.join(", "),
+        bars(report),
+        rows(report),
+        growth(report),
+        nodes(report),
+        refused(report),
+    )
+}
