@@ -94,12 +94,14 @@ fn machine() -> String {
     let cores = std::thread::available_parallelism().map_or(0, usize::from);
     let rustc = std::process::Command::new("rustc").arg("--version").output();
     let rustc = rustc.map_or("rustc unknown".to_string(), |o| String::from_utf8_lossy(&o.stdout).trim().to_string());
+    let load = read("/proc/loadavg").split(' ').next().unwrap_or("").to_string();
     format!(
-        "Machine: {} ({} MHz, cache {}, {} processors), {}; {}.",
+        "Machine: {} ({} MHz, cache {}, {} processors; load average {} at the start), {}; {}.",
         field("model name"),
         field("cpu MHz").split('.').next().unwrap_or("unknown"),
         field("cache size"),
         cores,
+        if load.is_empty() { "unknown" } else { &load },
         std::env::consts::OS,
         rustc
     )
