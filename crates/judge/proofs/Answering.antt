@@ -5,7 +5,7 @@ use lib.Dec.{eqb, ltb}
 use lib.ListN.{length, getD, length-take, length-replicate}
 use mathlib.Core.Bool.{Bool, true, false, _&&_}
 use mathlib.Core.List.{List, [], _∷_}
-use mathlib.Core.Path.{_≡_, refl, sym, ap, _∙_}
+use mathlib.Core.Path.{_≡_, refl, sym, ap, subst, _∙_}
 use native.Mathlib.Omega.{arith}
 use Rattle.area.proofs.Diagnostics.{putAll-length, put-padded}
 use Rattle.area.specs.Diagnostic.{Diag, recordLength, records, putAll}
@@ -239,6 +239,16 @@ module _ (t q : List ℕ) (lent : ℕ) where
               buffer = w .buffer ∙ buffer-is lent s j a l b (root-node .top) cnt ok (root-node .reached .buffer)
                   ∙ ap (λ (z : of.Answer). choose (eqb (z .number) 0) (padded lent (records (j .diags))) (zeros lent)) (sym ans);
             }
+
+-- ---- a buffer that is all zero
+pub zeros-length : (b : List ℕ) (n : ℕ) → b ≡ zeros n → length b ≡ n
+zeros-length b n e = ap (λ (w : List ℕ). length w) e ∙ length-replicate n 0
+
+pub zeros-own : (b : List ℕ) (n : ℕ) → b ≡ zeros n → b ≡ zeros (length b)
+zeros-own b n e = e ∙ ap zeros (sym (zeros-length b n e))
+
+pub answered-as : (t q : List ℕ) (m n : ℕ) → m ≡ n → (r : Answer) (b : List ℕ) → Answered t q m r b → Answered t q n r b
+answered-as t q m n e r b w = subst (λ (k : ℕ). Answered t q k r b) e w
 
 -- ---- demands 1 and 3 of this very answer
 module _ {t q : List ℕ} {lent : ℕ} {r : Answer} {b : List ℕ} (w : Answered t q lent r b) where

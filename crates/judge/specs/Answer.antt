@@ -10,6 +10,9 @@ use Rattle.area.specs.Padding.{padded}
 use Rattle.area.specs.Slot.{slotOf}
 use Rattle.judge.specs.declared.Answer.{Answer}
 use Rattle.judge.specs.declared.progress.State.{State}
+use Rattle.question.specs.Refused.{questionFault}
+use Rattle.symbol.specs.Sections.{checkedOf}
+use Rattle.symbol.specs.declared.checks.Checked.{Checked}
 use Rattle.ty.specs.Bytes.{Ty}
 use Rattle.ty.specs.Choose.{choose}
 use Rattle.typing.specs.Answer as of
@@ -23,6 +26,13 @@ answerIs r = record { number = r .number; pass = r .pass; ty = r .ty; len = r .l
 pub record Answered (t q : List ℕ) (lent : ℕ) (r : Answer) (b : List ℕ) : Type 0 where
   pub answer : answerIs r ≡ answerOf t q lent
   pub buffer : b ≡ bufferOf t q lent
+
+-- the table and the question are accepted, and the buffer is all zero
+pub record Ready (t q : List ℕ) (c : Checked) (b : List ℕ) : Type 0 where
+  pub checked : c ≡ checkedOf t
+  pub table : c .number ≡ 0
+  pub question : questionFault (record { count = c .names }) q ≡ 0
+  pub clear : b ≡ zeros (length b)
 
 -- the pass mark of a whole judgement
 unfoldable pub markIs : State → ℕ

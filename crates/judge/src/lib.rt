@@ -13,6 +13,7 @@ use progress::State;
 use question::Names;
 use question::check_question;
 use question::read_header;
+use symbol::checks::Checked;
 use symbol::checks::check_table;
 ghost use mathlib.Core.Path.{_≡_};
 ghost use Prim.Native.Nat.{_≤_};
@@ -23,7 +24,7 @@ ghost use Rattle.symbol.specs.Refused.{tableFault};
 ghost use Rattle.typing.specs.Answer.{namesOf, refused as refusedAs};
 ghost use Rattle.typing.specs.Demand1.{Demand1};
 ghost use Rattle.typing.specs.Demand3.{Demand3};
-ghost use Rattle.judge.specs.Answer.{answerIs, Answered, markIs, rootNumber, RootIs};
+ghost use Rattle.judge.specs.Answer.{answerIs, Answered, Ready, markIs, rootNumber, RootIs};
 
 // The answer: refusal number (0 for none), pass mark, the type in 256 bytes with zeros behind its length, that length, and how many diagnostics there are.
 pub struct Answer {
@@ -92,16 +93,46 @@ fn answer_root(s: State, area: &[u8], lens: &[usize], diagnostics: &mut [u8]) ->
     refused(number)
 }
 
-// Judges in an area that is lent.
+// Judges an accepted question in an area that is lent.
 fn judge_in(
     table: &[u8],
     question: &[u8],
+    checked: Checked,
     area: &mut [u8],
     lens: &mut [usize],
     diagnostics: &mut [u8],
 ) -> Answer
-    requires { ⌜ Lent (now area) (now lens) ⌝ }
+    requires { ⌜ Lent (now area) (now lens) × Ready (now table) (now question) checked (now diagnostics) ⌝ }
     ensures { λ r. ⌜ Answered (now (table .entry)) (now (question .entry)) (length (now (diagnostics .entry))) r (now (diagnostics .exit)) ⌝ }
+{
+    let sections = checked.sections;
+    let header = read_header(question);
+    let known = Known { sections, header };
+    let start = State {
+        at: 5,
+        node: 0,
+        count: 0,
+        fine: true,
+    };
+    let s = judge_node(table, question, known, start, area, lens, diagnostics);
+    answer_root(s, area, lens, diagnostics)
+}
+
+// Judges an accepted question; the area is made once the table's check has given back its own memory.
+fn judge_accepted(table: &[u8], question: &[u8], checked: Checked, diagnostics: &mut [u8]) -> Answer
+    requires { ⌜ Ready (now table) (now question) checked (now diagnostics) ⌝ }
+    ensures { λ r. ⌜ Answered (now (table .entry)) (now (question .entry)) (length (now (diagnostics .entry))) r (now (diagnostics .exit)) ⌝ }
+{
+    let mut area = [0u8; 16384];
+    let mut lens = [0usize; 64];
+    judge_in(table, question, checked, &mut area, &mut lens, diagnostics)
+}
+
+// Judges a question against a table: the answer, and the diagnostics in the lent buffer.
+pub fn judge(table: &[u8], question: &[u8], diagnostics: &mut [u8]) -> Answer
+    ensures { λ r. ⌜ Answered (now (table .entry)) (now (question .entry)) (length (now (diagnostics .entry))) r (now (diagnostics .exit)) ⌝ }
+    ensures { λ r. ⌜ Demand1 (now (table .entry)) (now (question .entry)) (length (now (diagnostics .entry))) (answerIs r) (now (diagnostics .exit)) ⌝ }
+    ensures { λ r. ⌜ (tableFault (now (table .entry)) ≡ 0 → questionFault (namesOf (now (table .entry))) (now (question .entry)) ≡ 0 → Demand3 (now (table .entry)) (now (question .entry)) (length (now (diagnostics .entry))) (answerIs r) (now (diagnostics .exit))) ⌝ }
 {
     clear(diagnostics);
     let checked = check_table(table);
@@ -117,26 +148,5 @@ fn judge_in(
     if number != 0 {
         return refused(number);
     }
-    let sections = checked.sections;
-    let header = read_header(question);
-    let known = Known { sections, header };
-    let start = State {
-        at: 5,
-        node: 0,
-        count: 0,
-        fine: true,
-    };
-    let s = judge_node(table, question, known, start, area, lens, diagnostics);
-    answer_root(s, area, lens, diagnostics)
-}
-
-// Judges a question against a table: the answer, and the diagnostics in the lent buffer.
-pub fn judge(table: &[u8], question: &[u8], diagnostics: &mut [u8]) -> Answer
-    ensures { λ r. ⌜ Answered (now (table .entry)) (now (question .entry)) (length (now (diagnostics .entry))) r (now (diagnostics .exit)) ⌝ }
-    ensures { λ r. ⌜ Demand1 (now (table .entry)) (now (question .entry)) (length (now (diagnostics .entry))) (answerIs r) (now (diagnostics .exit)) ⌝ }
-    ensures { λ r. ⌜ (tableFault (now (table .entry)) ≡ 0 → questionFault (namesOf (now (table .entry))) (now (question .entry)) ≡ 0 → Demand3 (now (table .entry)) (now (question .entry)) (length (now (diagnostics .entry))) (answerIs r) (now (diagnostics .exit))) ⌝ }
-{
-    let mut area = [0u8; 16384];
-    let mut lens = [0usize; 64];
-    judge_in(table, question, &mut area, &mut lens, diagnostics)
+    judge_accepted(table, question, checked, diagnostics)
 }
