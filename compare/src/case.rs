@@ -20,13 +20,20 @@ const GUARD: usize = 64;
 const LONGEST: usize = 66_000;
 
 /// What the Rust says of a table and a question.
-enum Said {
+pub enum Said {
     Refused(u8),
     Judged { judged: Box<Judged>, diagnostics: Vec<Diagnostic>, names: Vec<String>, inside: bool },
 }
 
+/// What a call of the proved judge left behind: the number that it answered, the answer slice, the lent buffer.
+pub struct Given<'a> {
+    pub number: u8,
+    pub answer: &'a [u8],
+    pub buffer: &'a [u8],
+}
+
 impl Said {
-    fn of(table: &[u8], question: &[u8]) -> Said {
+    pub fn of(table: &[u8], question: &[u8]) -> Said {
         let number = refusal(table, question);
         if number != 0 {
             return Said::Refused(number);
@@ -39,6 +46,11 @@ impl Said {
         Said::Judged { judged: Box::new(judged), diagnostics, names: filled.names, inside }
     }
 
+    /// Whether the case is inside the compared domain.
+    pub fn inside(&self) -> bool {
+        !matches!(self, Said::Judged { inside: false, .. })
+    }
+
     /// The answer under a lent buffer, which is zero.
     fn answer(&self, buffer: &mut [u8]) -> Answer {
         match self {
@@ -48,7 +60,7 @@ impl Said {
     }
 
     /// The buffer lengths at which number 12 begins and ends.
-    fn limits(&self) -> Vec<usize> {
+    pub fn limits(&self) -> Vec<usize> {
         match self {
             Said::Judged { diagnostics, .. } if !diagnostics.is_empty() => {
                 let need = 5 * diagnostics.len();
@@ -56,6 +68,28 @@ impl Said {
             }
             _ => Vec::new(),
         }
+    }
+
+    /// Compares every byte that a call left with the Rust's; answers the number. The error says what differs.
+    /// `expected` is room as long as the lent buffer.
+    pub fn agrees(&self, given: &Given, expected: &mut [u8]) -> Result<u8, String> {
+        let Given { number, answer: bytes, buffer } = given;
+        expected.fill(0);
+        let right = self.answer(expected);
+        let answer = proved::read(bytes);
+        let rest = &bytes[ANSWER_SIZE..];
+        if *number == right.number && answer == right && rest.iter().all(|b| *b == 0) && *buffer == &*expected {
+            return Ok(*number);
+        }
+        let at = buffer.iter().zip(&*expected).position(|(a, b)| a != b);
+        let at = at.map_or(String::from("none"), |i| format!("{}: {} for {}", i, buffer[i], expected[i]));
+        Err(format!(
+            "number returned {}, first buffer byte that differs {}\nproved answer {}\nthe Rust's answer {}",
+            number,
+            at,
+            shown(&answer, buffer),
+            shown(&right, expected)
+        ))
     }
 }
 
@@ -86,7 +120,7 @@ impl Space {
     /// what differs.
     pub fn compare(&mut self, case: &Case, limits: bool) -> Result<Outcome, String> {
         let said = Said::of(&case.table, &case.question);
-        if let Said::Judged { inside: false, .. } = said {
+        if !said.inside() {
             self.call(case, case.buffer)?;
             return Ok(Outcome::Outside);
         }
@@ -119,29 +153,14 @@ impl Space {
 
     fn compare_at(&mut self, case: &Case, said: &Said, length: usize) -> Result<u8, String> {
         let number = self.call(case, length)?;
-        let expected = &mut self.expected[..length];
-        expected.fill(0);
-        let right = said.answer(expected);
-        let bytes = &self.answer[GUARD..self.answer.len() - GUARD];
-        let (answer, buffer) = (proved::read(bytes), &self.lent[GUARD..GUARD + length]);
-        let rest = &bytes[ANSWER_SIZE..];
-        if number == right.number && answer == right && rest.iter().all(|b| *b == 0) && buffer == &*expected {
-            return Ok(number);
-        }
-        let at = buffer.iter().zip(&*expected).position(|(a, b)| a != b);
-        let at = at.map_or(String::from("none"), |i| format!("{}: {} for {}", i, buffer[i], expected[i]));
-        let what = format!(
-            "number returned {}, first buffer byte that differs {}\nproved answer {}\nthe Rust's answer {}",
-            number,
-            at,
-            shown(&answer, buffer),
-            shown(&right, expected)
-        );
-        Err(described(case, length, &what))
+        let answer = &self.answer[GUARD..self.answer.len() - GUARD];
+        let given = Given { number, answer, buffer: &self.lent[GUARD..GUARD + length] };
+        said.agrees(&given, &mut self.expected[..length]).map_err(|what| described(case, length, &what))
     }
 }
 
-fn described(case: &Case, length: usize, what: &str) -> String {
+/// What differs, with the case's bytes before it.
+pub fn described(case: &Case, length: usize, what: &str) -> String {
     format!("table {}\nquestion {}\nbuffer of {} bytes\n{}", hex(&case.table), hex(&case.question), length, what)
 }
 

@@ -95,8 +95,8 @@ fn damage_records(rng: &mut Rng, table: &[u8]) -> Bytes {
     records.concat()
 }
 
-pub fn damaged(rng: &mut Rng) -> Pair {
-    let (mut table, mut question) = an_accepted(rng);
+/// One or two damages to a table or a question.
+pub fn damage(rng: &mut Rng, (mut table, mut question): Pair) -> Pair {
     for _ in 0..1 + rng.below(2) {
         match rng.below(8) {
             0..=2 => table = damage_records(rng, &table),
@@ -105,6 +105,11 @@ pub fn damaged(rng: &mut Rng) -> Pair {
         }
     }
     (table, question)
+}
+
+pub fn damaged(rng: &mut Rng) -> Pair {
+    let accepted = an_accepted(rng);
+    damage(rng, accepted)
 }
 
 /// Random bytes, mostly small ones, sometimes behind a good start.
