@@ -9,7 +9,7 @@ pub const LIMIT: usize = 16_384;
 pub const NODES: usize = 64;
 
 /// One node's own bytes: their length and the number of its children, or its number.
-fn read_node(bytes: &[u8], names: usize, nodes_before: usize) -> Result<(usize, usize), u8> {
+pub fn read_node(bytes: &[u8], names: usize, nodes_before: usize) -> Result<(usize, usize), u8> {
     let mut numbers: Vec<u8> = Vec::new();
     let mut len = 0;
     let mut children = 0;

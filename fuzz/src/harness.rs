@@ -1,0 +1,122 @@
+//! One input: document 01's program's, so that what is found can be given to the program as it is.
+
+use crate::counts;
+use crate::fault::Fault;
+use crate::pages::{At, Pages, POISON};
+use compare::case::{described, Given, Said};
+use compare::proved::ANSWER_SIZE;
+use oracle::answer::BUFFER;
+use oracle::gen::Case;
+use oracle::sample::hex;
+use oracle::split_input;
+use std::cell::RefCell;
+use std::ffi::c_int;
+
+/// The longest input that is made: a table of 65,535 bytes, and a question one byte over its limit.
+pub const LONGEST: usize = 2 + 65_535 + 16_385;
+
+struct Harness {
+    table: Pages,
+    question: Pages,
+    buffer: Pages,
+    answer: Pages,
+    expected: Vec<u8>,
+    fault: Fault,
+}
+
+thread_local! {
+    static HARNESS: RefCell<Harness> = RefCell::new(Harness::new());
+}
+
+/// Aborts where the two differ, with the input on standard error.
+#[no_mangle]
+pub extern "C" fn LLVMFuzzerTestOneInput(data: *const u8, size: usize) -> c_int {
+    let input = match size {
+        0 => &[],
+        // SAFETY: libFuzzer's input.
+        _ => unsafe { std::slice::from_raw_parts(data, size) },
+    };
+    let outcome = HARNESS.with(|harness| harness.borrow_mut().one(input));
+    if let Err(what) = outcome {
+        eprintln!("fuzz: DIFFERENCE\ninput {}\n{}", hex(input), what);
+        counts::print_totals();
+        std::process::abort();
+    }
+    0
+}
+
+impl Harness {
+    fn new() -> Harness {
+        Harness {
+            table: Pages::new(LONGEST),
+            question: Pages::new(LONGEST),
+            buffer: Pages::new(BUFFER + 1),
+            answer: Pages::new(2 * ANSWER_SIZE),
+            expected: vec![0; BUFFER + 1],
+            fault: Fault::wanted(),
+        }
+    }
+
+    fn one(&mut self, input: &[u8]) -> Result<(), String> {
+        let (table, question) = split_input(input);
+        // Copies, so that each is a heap block of just its length.
+        let case = Case { table: table.to_vec(), question: question.to_vec(), buffer: BUFFER };
+        let said = Said::of(table, question);
+        self.on_heap(&case, &said)?;
+        let mut lengths = said.limits();
+        if lengths.is_empty() {
+            lengths.push(input.len() % 11);
+        }
+        for (i, length) in lengths.into_iter().enumerate() {
+            let at = if (i + input.len()) % 2 == 0 { At::End } else { At::Start };
+            self.on_pages(&case, &said, length, at).map_err(|what| described(&case, length, &what))?;
+        }
+        if case.table != table || case.question != question {
+            return Err(String::from("the table or the question was written"));
+        }
+        counts::input(said.inside());
+        Ok(())
+    }
+
+    /// The program's buffer; the four slices are heap blocks of just their lengths.
+    fn on_heap(&mut self, case: &Case, said: &Said) -> Result<(), String> {
+        let mut buffer = vec![POISON; case.buffer];
+        let mut answer = vec![POISON; ANSWER_SIZE];
+        let number = self.fault.judge(&case.table, &case.question, &mut buffer, &mut answer);
+        let given = Given { number, answer: &answer, buffer: &buffer };
+        let agrees = compared(said, &given, &mut self.expected);
+        agrees.map_err(|what| described(case, case.buffer, &what))
+    }
+
+    /// Each of the four slices touches a forbidden page.
+    fn on_pages(&mut self, case: &Case, said: &Said, length: usize, at: At) -> Result<(), String> {
+        // Longer answers sometimes: the bytes behind the answer are to be zero.
+        let room = ANSWER_SIZE + length % 3;
+        let table = self.table.copy(&case.table, at);
+        let question = self.question.copy(&case.question, at);
+        let (buffer, answer) = (self.buffer.lend(length, at), self.answer.lend(room, at));
+        let number = self.fault.judge(table, question, buffer, answer);
+        compared(said, &Given { number, answer, buffer }, &mut self.expected)?;
+        if table != case.table || question != case.question {
+            return Err(String::from("the table or the question was written"));
+        }
+        let around = [
+            self.table.untouched(case.table.len(), at),
+            self.question.untouched(case.question.len(), at),
+            self.buffer.untouched(length, at),
+            self.answer.untouched(room, at),
+        ];
+        if around.contains(&false) {
+            return Err(String::from("bytes outside the lent slices were written"));
+        }
+        Ok(())
+    }
+}
+
+/// Outside the compared domain there is nothing to compare with.
+fn compared(said: &Said, given: &Given, expected: &mut [u8]) -> Result<(), String> {
+    if said.inside() {
+        counts::call(said.agrees(given, &mut expected[..given.buffer.len()])?);
+    }
+    Ok(())
+}
