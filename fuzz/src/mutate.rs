@@ -24,7 +24,7 @@ pub extern "C" fn LLVMFuzzerCustomMutator(data: *mut u8, size: usize, most: usiz
     let mut rng = Rng::new(seed as u64, 0, 0);
     // SAFETY: libFuzzer's input, with room for `most` bytes; the slice ends before the pointer is used again.
     let input = unsafe { std::slice::from_raw_parts(data, size) };
-    let made = if rng.chance(10) { None } else { mutated(&mut rng, input) };
+    let made = if rng.chance(5) { None } else { mutated(&mut rng, input) };
     match made {
         Some(made) if made.len() <= most => put(&made, data),
         // SAFETY: libFuzzer's own arguments.
@@ -68,16 +68,16 @@ fn put(made: &[u8], out: *mut u8) -> usize {
     made.len()
 }
 
-/// One to three mutations of the parts of an input.
+/// One mutation of the parts of an input, or two.
 fn mutated(rng: &mut Rng, input: &[u8]) -> Option<Bytes> {
     let (table, question) = split_input(input);
     let (mut table, mut question) = (table.to_vec(), question.to_vec());
-    for _ in 0..1 + rng.below(3) {
+    for _ in 0..1 + rng.chance(35) as usize {
         match rng.below(100) {
-            0..=11 => own(&mut table),
-            12..=27 => own(&mut question),
-            28..=37 => (table, question) = damage(rng, (table, question)),
-            38..=54 => change_field(rng, &mut table),
+            0..=9 => own(&mut table),
+            10..=23 => own(&mut question),
+            24..=31 => (table, question) = damage(rng, (table, question)),
+            32..=54 => change_field(rng, &mut table),
             55..=69 => {
                 let parts = subtrees(&question);
                 if !parts.is_empty() {
@@ -185,8 +185,10 @@ fn some_id(rng: &mut Rng, table: &[u8]) -> u16 {
 }
 
 fn some_type(rng: &mut Rng, table: &[u8]) -> Bytes {
-    let types: Vec<u16> = (0..4).map(|_| rng.below(name_count(table)) as u16).collect();
-    match rng.chance(50) {
+    let names = name_count(table);
+    let types: Vec<u16> = (0..4).map(|_| rng.below(names) as u16).collect();
+    // The list's types name up to four names of the table.
+    match names >= 44 && rng.chance(50) {
         true => rng.pick(type_list()).clone(),
         false => random_type(rng, 3, &types, true),
     }
