@@ -68,7 +68,7 @@ impl Harness {
             lengths.push(input.len() % 11);
         }
         for (i, length) in lengths.into_iter().enumerate() {
-            let at = if (i + input.len()) % 2 == 0 { At::End } else { At::Start };
+            let at = [At::End, At::Start][(i + input.len()) % 2];
             self.on_pages(&case, &said, length, at).map_err(|what| described(&case, length, &what))?;
         }
         if case.table != table || case.question != question {
