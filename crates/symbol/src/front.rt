@@ -88,13 +88,11 @@ fn plain(s: &[u8], n: usize, bad: bool, kind: u8, one: u16, two: u16, top: u16) 
     }
 }
 
+// Without a branch, so that good_bytes can take many bytes at a time: a byte inside the name is not zero, one behind it is.
 fn good_byte(n: usize, i: usize, b: u8) -> bool
     ensures { λ r. ⌜ r ≡ goodByte n i b ⌝ }
 {
-    if i < n {
-        return (33 <= b) & ((b <= 126) & (!(b == 46)));
-    }
-    b == 0
+    ((i < n) ^ (b == 0)) & ((b == 0) | ((33 <= b) & ((b <= 126) & (!(b == 46)))))
 }
 
 fn good_bytes(s: &[u8], n: usize) -> bool
@@ -112,6 +110,9 @@ fn good_bytes(s: &[u8], n: usize) -> bool
 fn read_name(s: &[u8]) -> Head
     ensures { λ r. ⌜ r ≡ nameHead (now (s .entry)) ⌝ }
 {
+    if s.len() < 26 {
+        return broken(s);
+    }
     let n = byte_at(s, 1);
     let good = good_bytes(s, n as usize);
     plain(s, 26, (n < 1) | ((24 < n) | (!good)), 1, 0, 0, 0)
