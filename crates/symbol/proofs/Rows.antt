@@ -2,12 +2,14 @@
 use Prim.Native.Nat.{ℕ, zero, suc, _+_, _-_, _*_, _≤_, _<_}
 use lib.ListN.{take, drop}
 use lib.Seq.{drop-drop}
-use mathlib.Core.Bool.{Bool, true, false}
-use mathlib.Core.List.{List}
+use mathlib.Core.Bool.{Bool, true, false, not, _&&_, false≢true}
+use mathlib.Core.List.{List, [], _∷_}
 use mathlib.Core.Path.{_≡_, refl, sym, ap, _∙_}
 use native.Mathlib.Omega.{arith}
+use Rattle.ty.proofs.Choice.{and-left, and-right, or-cases}
+use Rattle.ty.proofs.Same.{same-eq}
 use Rattle.ty.specs.Bytes.{sameBytes}
-use Rattle.symbol.specs.Spelling.{rowsOf, spelled}
+use Rattle.symbol.specs.Spelling.{builtinNames, rowsOf, spelled, mixOf, hasBit, mayBeBuiltin}
 
 module _ (name rows : List ℕ) (i : ℕ) where
   abbrev from : List ℕ
@@ -33,3 +35,35 @@ module _ (name rows : List ℕ) (i : ℕ) where
   pub rows-end : 40 ≤ i → spelled name (rowsOf (40 - i) from) ≡ false
   unfolding rowsOf spelled
   rows-end h = let n : 40 - i ≡ 0 = omega arith in rw n
+
+-- ---- the test before the search
+
+-- each of some spellings passes
+unfoldable allMay : List (List ℕ) → Bool
+allMay [] = true
+allMay (x ∷ xs) = mayBeBuiltin x && allMay xs
+
+builtins-may : allMay builtinNames ≡ true
+unfolding allMay builtinNames mayBeBuiltin hasBit mixOf
+builtins-may = refl
+
+module _ (name : List ℕ) where
+  spelled-may : (xs : List (List ℕ)) → allMay xs ≡ true → spelled name xs ≡ true → mayBeBuiltin name ≡ true
+  unfolding spelled allMay
+  spelled-may [] p e = absurd (false≢true e)
+  spelled-may (x ∷ xs) p e =
+      or-cases
+      (sameBytes name x)
+      (spelled name xs)
+      e
+      (λ s. rw (same-eq name x s) (and-left (mayBeBuiltin x) (allMay xs) p))
+      (λ s. spelled-may xs (and-right (mayBeBuiltin x) (allMay xs) p) s)
+
+  -- what does not pass is none of the built-in spellings
+  pub not-spelled : (r : Bool) → r ≡ mayBeBuiltin name → not r ≡ true → false ≡ spelled name builtinNames
+  not-spelled true e h = absurd (false≢true h)
+  not-spelled false e h = go (spelled name builtinNames) refl
+    where
+      go : (v : Bool) → spelled name builtinNames ≡ v → false ≡ v
+      go true s = absurd (false≢true (e ∙ spelled-may builtinNames builtins-may s))
+      go false s = refl

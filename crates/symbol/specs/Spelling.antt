@@ -1,8 +1,9 @@
 -- The spellings of the built-in names, in the order of their ids. Document 01, "Types as bytes": the built-in names have fixed numbers.
-use Prim.Native.Nat.{ℕ, zero, suc}
-use mathlib.Core.Bool.{Bool, false, _||_}
+use Prim.Native.Nat.{ℕ, zero, suc, _+_, _*_, _/_, _%_, _^_}
+use mathlib.Core.Bool.{Bool, false, _&&_, _||_}
 use mathlib.Core.List.{List, [], _∷_, _++_}
-use lib.ListN.{take, drop, replicate}
+use lib.ListN.{getD, take, drop, replicate}
+use lib.Dec.{eqb}
 use Rattle.ty.specs.Bytes.{sameBytes}
 
 -- a name as a record has it: 24 bytes, zero-padded
@@ -63,3 +64,21 @@ rowsOf (suc n) s = take 24 s ∷ rowsOf n (drop 24 s)
 unfoldable pub spelled : List ℕ → List (List ℕ) → Bool
 spelled name [] = false
 spelled name (x ∷ xs) = sameBytes name x || spelled name xs
+
+-- ---- a test that each built-in spelling passes: nothing but the speed of the search depends on it
+
+-- a number for six of a name's bytes
+unfoldable pub mixOf : List ℕ → ℕ
+mixOf name =
+    9947 * getD name 0 0 + 29707 * getD name 1 0
+    + (19595 * getD name 2 0 + 31359 * getD name 3 0)
+    + (39627 * getD name 5 0 + 48515 * getD name 8 0)
+
+-- a mask has the bit n modulo 64
+unfoldable pub hasBit : ℕ → ℕ → Bool
+hasBit mask n = eqb (mask / 2 ^ (n % 64) % 2) 1
+
+unfoldable pub mayBeBuiltin : List ℕ → Bool
+mayBeBuiltin name =
+    (hasBit 12183240034444089300 (mixOf name) && hasBit 1956214469538365958 (mixOf name / 64))
+    && (hasBit 10955430332744839178 (mixOf name / 4096) && hasBit 24911053012042128 (mixOf name / 262144))

@@ -1,9 +1,10 @@
 // The spellings of the built-in names.
+use ty::byte_at;
 use ty::same_bytes;
 ghost use mathlib.Core.Path.{_≡_};
 ghost use Prim.Native.Nat.{_≤_, _*_};
 ghost use lib.ListN.{length};
-ghost use Rattle.symbol.specs.Spelling.{builtinNames, rowsOf, spelled};
+ghost use Rattle.symbol.specs.Spelling.{builtinNames, rowsOf, spelled, mixOf, hasBit, mayBeBuiltin};
 
 // A name's 24 bytes are one of the 40 rows.
 fn in_rows(name: &[u8], rows: &[u8]) -> bool
@@ -22,10 +23,40 @@ fn in_rows(name: &[u8], rows: &[u8]) -> bool
     false
 }
 
+// A number for six of a name's bytes.
+fn mix(name: &[u8]) -> u64
+    ensures { λ r. ⌜ r ≡ mixOf (now (name .entry)) ⌝ }
+{
+    let one = 9947 * (byte_at(name, 0) as u64) + 29707 * (byte_at(name, 1) as u64);
+    let two = 19595 * (byte_at(name, 2) as u64) + 31359 * (byte_at(name, 3) as u64);
+    let three = 39627 * (byte_at(name, 5) as u64) + 48515 * (byte_at(name, 8) as u64);
+    one + two + three
+}
+
+// A mask has the bit n modulo 64.
+fn has_bit(mask: u64, n: u64) -> bool
+    ensures { λ r. ⌜ r ≡ hasBit mask n ⌝ }
+{
+    (mask >> (n % 64)) % 2 == 1
+}
+
+// Each built-in spelling has four bits by the number of its bytes; few other names do, so that few are compared with the spellings.
+fn may_be_builtin(name: &[u8]) -> bool
+    ensures { λ r. ⌜ r ≡ mayBeBuiltin (now (name .entry)) ⌝ }
+{
+    let n = mix(name);
+    let low = has_bit(12183240034444089300, n) & has_bit(1956214469538365958, n / 64);
+    let high = has_bit(10955430332744839178, n / 4096) & has_bit(24911053012042128, n / 262144);
+    low & high
+}
+
 // A name's 24 bytes are a built-in spelling: Pair to keys in the order of their ids, 24 bytes each, zero-padded.
 pub fn is_builtin(name: &[u8]) -> bool
     ensures { λ r. ⌜ r ≡ spelled (now (name .entry)) builtinNames ⌝ }
 {
+    if !may_be_builtin(name) {
+        return false;
+    }
     in_rows(
         name,
         b"Pair\0\0\0\0\0\0\0\0\0\0\0\0\0\0\0\0\0\0\0\0\
