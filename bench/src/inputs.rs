@@ -159,11 +159,34 @@ fn few(f: &mut Filler) {
     }
 }
 
-/// `Aa` and `BB` have the same sum under 31 * first + second, so all rows of twelve of them have one bucket
-/// (crates/symbol/specs/Bucket.antt).
+/// The weights of a name's first bytes in the check's hash (crates/symbol/specs/Bucket.antt).
+fn weights() -> [usize; 18] {
+    let mut weights = [173; 18];
+    for k in 1..weights.len() {
+        weights[k] = (weights[k - 1] * 463 + 7) % 32_749;
+    }
+    weights
+}
+
+/// Four rows of three letters, or more, that add the same to the hash where these are the weights.
+fn same_sums(weights: &[usize]) -> Vec<String> {
+    let letters = || ('A'..='Z').chain('a'..='z');
+    let mut sums: BTreeMap<usize, Vec<String>> = BTreeMap::new();
+    for (a, b, c) in letters().flat_map(|a| letters().flat_map(move |b| letters().map(move |c| (a, b, c)))) {
+        let sum = a as usize * weights[0] + b as usize * weights[1] + c as usize * weights[2];
+        sums.entry(sum % 65_536).or_default().push([a, b, c].iter().collect());
+    }
+    sums.into_values().find(|rows| rows.len() >= 4).unwrap()
+}
+
+/// 4096 names with one hash: six rows of three letters, each one of four.
+fn same_hashes() -> Vec<String> {
+    let rows: Vec<_> = weights().chunks(3).map(same_sums).collect();
+    (0..4096).map(|i| rows.iter().enumerate().map(|(k, row)| row[i >> (2 * k) & 3].as_str()).collect()).collect()
+}
+
 fn colliding_names(f: &mut Filler) {
-    for i in 0..4096 {
-        let name: String = (0..12).map(|bit| if i >> bit & 1 == 0 { "Aa" } else { "BB" }).collect();
+    for name in same_hashes() {
         if !f.put(|t| {
             t.name(&name);
         }) {
@@ -295,7 +318,7 @@ pub fn refused() -> Vec<Refused> {
     add(
         5,
         "a repeated name behind colliding names",
-        tail(Make::CollidingNames, &name_again(&"Aa".repeat(12))),
+        tail(Make::CollidingNames, &name_again(&same_hashes()[0])),
         int.clone(),
     );
     add(5, "a repeated field behind fields", tail(Make::Fields, &[5, 0, 0, 0, 0, 0]), int.clone());

@@ -9,10 +9,19 @@ use Rattle.symbol.specs.Front.{headOf}
 use Rattle.symbol.specs.Table.{Record}
 use Rattle.symbol.specs.Refused.{nameBytes}
 
+-- the weight of byte k of a name
+unfoldable pub weightOf : ℕ → ℕ
+weightOf zero = 173
+weightOf (suc k) = (weightOf k * 463 + 7) % 32749
+
+-- the first k bytes of a name, each times its weight
+unfoldable pub weighedOf : ℕ → List ℕ → ℕ
+weighedOf zero name = 0
+weighedOf (suc k) name = weighedOf k name + getD name k 0 * weightOf k
+
 -- of the first k bytes of a name
 unfoldable pub hashOf : ℕ → List ℕ → ℕ
-hashOf zero name = 0
-hashOf (suc k) name = (hashOf k name * 31 + getD name k 0) % 65536
+hashOf k name = weighedOf k name % 65536
 
 -- of two ids
 abbrev pub pairOf : ℕ → ℕ → ℕ
