@@ -50,13 +50,11 @@ fn may_be_builtin(name: &[u8]) -> bool
     low & high
 }
 
-// A name's 24 bytes are a built-in spelling: Pair to keys in the order of their ids, 24 bytes each, zero-padded.
-pub fn is_builtin(name: &[u8]) -> bool
+// A name's 24 bytes are a built-in spelling: Pair to keys in the order of their ids, 24 bytes each, zero-padded. Compiled code
+// stores the rows anew at each call.
+fn in_builtins(name: &[u8]) -> bool
     ensures { λ r. ⌜ r ≡ spelled (now (name .entry)) builtinNames ⌝ }
 {
-    if !may_be_builtin(name) {
-        return false;
-    }
     in_rows(
         name,
         b"Pair\0\0\0\0\0\0\0\0\0\0\0\0\0\0\0\0\0\0\0\0\
@@ -100,4 +98,14 @@ pub fn is_builtin(name: &[u8]) -> bool
           uppercase\0\0\0\0\0\0\0\0\0\0\0\0\0\0\0\
           keys\0\0\0\0\0\0\0\0\0\0\0\0\0\0\0\0\0\0\0\0",
     )
+}
+
+// A name's 24 bytes are a built-in spelling. Few names need the rows.
+pub fn is_builtin(name: &[u8]) -> bool
+    ensures { λ r. ⌜ r ≡ spelled (now (name .entry)) builtinNames ⌝ }
+{
+    if !may_be_builtin(name) {
+        return false;
+    }
+    in_builtins(name)
 }
