@@ -33,12 +33,12 @@ module _ (a l : List ℕ) (lent : Lent a l) (node m : ℕ) (s : Slot l node m) w
   slot-length = part-length a (256 * m) (getD l m 0) slot-in
 
 -- ---- a store
-pub held-here : (a l : List ℕ) (m : ℕ) (t : Ty) → Lent a l → m < 64 → length t ≤ 256 → Held (store a m t) (storeLen l m t) m t
+pub held-here : (a l : List ℕ) (m : ℕ) (t : Ty) → Lent a l → m < length l → length t ≤ 256 → Held (store a m t) (storeLen l m t) m t
 unfolding store storeLen slotOf
 held-here a l m t lent h small =
     let p : ℕ = 256 * m in
     let n : ℕ = length t in
-    let e : getD (set l m n) m 0 ≡ n = getD-set-same l m n 0 (omega (arith, lent .long)) in
+    let e : getD (set l m n) m 0 ≡ n = getD-set-same l m n 0 h in
     let room : p + n ≤ length a = omega (arith, lent .wide) in
     let r : List ℕ = drop (p + n) a in
     record {
@@ -48,7 +48,7 @@ held-here a l m t lent h small =
           ∙ take-at t r n refl;
       len = e;
       small = small;
-      inside = h;
+      inside = rw (length-set l m n) h;
     }
 
 -- a store at n leaves every slot before n
@@ -61,27 +61,23 @@ held-under a l m n t u h w =
           ∙ part-sets t a (256 * m) (getD l m 0) (256 * n) (omega (arith, w .len, w .small)) ∙ w .is;
       len = e ∙ w .len;
       small = w .small;
-      inside = w .inside;
+      inside = rw (length-set l n (length t)) (w .inside);
     }
 
-pub held-stored : (a a′ l l′ : List ℕ) (m : ℕ) (t : Ty) → Stored a a′ l l′ m t → Lent a l → m < 64 → length t ≤ 256 → Held a′ l′ m t
+pub held-stored : (a a′ l l′ : List ℕ) (m : ℕ) (t : Ty) → Stored a a′ l l′ m t → Lent a l → m < length l → length t ≤ 256 → Held a′ l′ m t
 held-stored a a′ l l′ m t s lent h small = rw (s .area, s .lens) (held-here a l m t lent h small)
 
 pub under-stored : (a a′ l l′ : List ℕ) (n : ℕ) (t : Ty) → Stored a a′ l l′ n t → (m : ℕ) (u : Ty) → m < n → Held a l m u → Held a′ l′ m u
 under-stored a a′ l l′ n t s m u h w = rw (s .area, s .lens) (held-under a l m n t u h w)
 
--- what is lent stays lent
+-- what is lent stays lent: by the lengths alone
+pub lent-still : (a a′ l l′ : List ℕ) → length a′ ≡ length a → length l′ ≡ length l → Lent a l → Lent a′ l′
+lent-still a a′ l l′ e f lent = record { wide = omega (arith, lent .wide); long = omega (arith, lent .long) }
+
 pub lent-stored : (a a′ l l′ : List ℕ) (n : ℕ) (t : Ty) → Stored a a′ l l′ n t → Lent a l → Lent a′ l′
 unfolding store storeLen
-lent-stored a a′ l l′ n t s lent =
-    record {
-      wide = ap (λ (w : List ℕ). length w) (s .area) ∙ length-sets a (256 * n) t ∙ lent .wide;
-      long = ap (λ (w : List ℕ). length w) (s .lens) ∙ length-set l n (length t) ∙ lent .long;
-    }
-
--- by the lengths alone
-pub lent-still : (a a′ l l′ : List ℕ) → length a′ ≡ length a → length l′ ≡ length l → Lent a l → Lent a′ l′
-lent-still a a′ l l′ e f lent = record { wide = e ∙ lent .wide; long = f ∙ lent .long }
+lent-stored a a′ l l′ n t s =
+    lent-still a a′ l l′ (ap (λ (w : List ℕ). length w) (s .area) ∙ length-sets a (256 * n) t) (ap (λ (w : List ℕ). length w) (s .lens) ∙ length-set l n (length t))
 
 pub stored-as : {a a′ l l′ : List ℕ} {node : ℕ} {t u : Ty} → u ≡ t → Stored a a′ l l′ node t → Stored a a′ l l′ node u
 stored-as {a} {a′} {l} {l′} {node} e w = subst (λ (u : Ty). Stored a a′ l l′ node u) (sym e) w

@@ -35,7 +35,7 @@ unfolding Reads
 reads-part l node first second start len = tt
 
 -- the children's types are x and y
-pub storable : (table a l : List ℕ) (node first second : ℕ) (x y : Ty) (s : Source) → node < 64 → Reads l node first second s → slotOf a l first ≡ x → slotOf a l second ≡ y
+pub storable : (table a l : List ℕ) (node first second : ℕ) (x y : Ty) (s : Source) → node < length l → Reads l node first second s → slotOf a l first ≡ x → slotOf a l second ≡ y
     → length (typeFrom table x y s) ≤ 256 → Storable table a l node first second s
 storable table a l node first second x y s h r e f short = record { room = h; reads = r; short = rw (e, f) short }
 
@@ -70,11 +70,11 @@ module _ (table a l : List ℕ) (node first second : ℕ) (s : Source) (lent : L
       let w : Slot l node first = reads-as Pointer e in
       (lent, w, omega (arith, short-as Pointer e, slot-length a l lent node first w))
 
-  pub asks-part : (start len : ℕ) → s ≡ Part start len → Lent a l × (node < 64) × (length (take len (drop start table)) ≤ 256)
+  pub asks-part : (start len : ℕ) → s ≡ Part start len → Lent a l × (node < length l) × (length (take len (drop start table)) ≤ 256)
   unfolding typeFrom
   asks-part start len e = (lent, h .room, short-as (Part start len) e)
 
-  pub asks-function : (start len : ℕ) → s ≡ Function start len → Lent a l × (node < 64) × (length (take len (drop start table)) + 2 ≤ 256)
+  pub asks-function : (start len : ℕ) → s ≡ Function start len → Lent a l × (node < length l) × (length (take len (drop start table)) + 2 ≤ 256)
   unfolding typeFrom
   asks-function start len e = (lent, h .room, omega (arith, short-as (Function start len) e))
 

@@ -87,7 +87,7 @@ stored-part a a′ l node t u s e =
     stored-bytes a a′ l node t (length u) (e ∙ ap (λ (w : List ℕ). sets a (256 * node) w) s) (ap (λ (w : List ℕ). length w) s)
 
 -- a slot has room for them
-pub slot-room : (a l : List ℕ) (node k : ℕ) (t u : Ty) → Lent a l → node < 64 → u ≡ t → length t + k ≤ 256 → (256 * node + k) + length u ≤ length a
+pub slot-room : (a l : List ℕ) (node k : ℕ) (t u : Ty) → Lent a l → node < length l → u ≡ t → length t + k ≤ 256 → (256 * node + k) + length u ≤ length a
 slot-room a l node k t u lent h s short =
     let e : length u ≡ length t = ap (λ (w : List ℕ). length w) s in
     omega (arith, lent .wide)

@@ -1,4 +1,4 @@
--- Where the types of a question's nodes are kept while it is judged: an area of 64 slots of 256 bytes, and the 64 lengths of what lies in them.
+-- Where the types of a question's nodes are kept while it is judged: an area of slots of 256 bytes, and the lengths of what lies in them.
 -- Node n's type is in slot n. Document 01: at most 64 nodes ("Table and question"), a type in 256 bytes ("Answer").
 use Prim.Native.Nat.{ℕ, _+_, _*_, _≤_, _<_}
 use mathlib.Core.Path.{_≡_}
@@ -13,10 +13,10 @@ slotSize = 256
 abbrev pub slotCount : ℕ
 slotCount = 64
 
--- the area a, of 64 slots of 256 bytes, and the lengths l that are lent
+-- the area a and the lengths l that are lent: 256 bytes for each length, and at most 64 of them
 pub record Lent (a l : List ℕ) : Type 0 where
-  pub wide : length a ≡ 16384
-  pub long : length l ≡ slotCount
+  pub wide : length a ≡ slotSize * length l
+  pub long : length l ≤ slotCount
 
 -- the type in slot m
 unfoldable pub slotOf : List ℕ → List ℕ → ℕ → Ty
@@ -43,7 +43,7 @@ pub record Held (a l : List ℕ) (m : ℕ) (t : Ty) : Type 0 where
   pub is : slotOf a l m ≡ t
   pub len : getD l m 0 ≡ length t
   pub small : length t ≤ slotSize
-  pub inside : m < slotCount
+  pub inside : m < length l
 
 -- slots ms hold ts, and none of them is before lo
 unfoldable pub Helds : List ℕ → List ℕ → ℕ → List ℕ → List Ty → Type 0
@@ -55,7 +55,7 @@ Helds a l lo (m ∷ ms) (t ∷ ts) = (lo ≤ m) × Held a l m t × Helds a l lo 
 -- slot m can be read, and is behind slot `node`: a child's number is higher than its parent's
 pub record Slot (l : List ℕ) (node m : ℕ) : Type 0 where
   pub past : node < m
-  pub inside : m < slotCount
+  pub inside : m < length l
   pub small : getD l m 0 ≤ slotSize
 
 -- the first n numbers are such slots; a call has at most 16 arguments

@@ -7,7 +7,7 @@ use Rattle.ty.specs.Kind.{pointerKind, listKind, namedKind, functionKind}
 use Rattle.ty.specs.Bytes.{Ty, plainTy, innerOf}
 use Rattle.area.specs.declared.Source.{Source}
 use Rattle.area.specs.declared.Source.the-variants.{Kind, ListOf, Name, First, Second, Inner, Pointer, Part, Function}
-use Rattle.area.specs.Slot.{Slot, slotOf, slotSize, slotCount}
+use Rattle.area.specs.Slot.{Slot, slotOf, slotSize}
 
 -- The type that a source stands for, with the table's bytes, the first child's type x and the second's y:
 -- a kind without body; a List of one (a Map's `keys`); a Named (`To` gives a Pair, a variant its enum); the type of a child; what it holds ("Dereference
@@ -38,6 +38,6 @@ Reads l node first second (Function start len) = Unit {0}
 
 -- what a store of a source into slot `node` asks
 pub record Storable (table a l : List ℕ) (node first second : ℕ) (source : Source) : Type 0 where
-  pub room : node < slotCount
+  pub room : node < length l
   pub reads : Reads l node first second source
   pub short : length (typeFrom table (slotOf a l first) (slotOf a l second) source) ≤ slotSize

@@ -1,4 +1,4 @@
-// Where types and diagnostics are kept while a question is judged: an area of 64 slots of 256 bytes with their lengths, and a lent buffer.
+// Where types and diagnostics are kept while a question is judged: an area of at most 64 slots of 256 bytes with their lengths, and a lent buffer.
 ghost use mathlib.Core.Path.{_≡_};
 ghost use mathlib.Core.List.{[], _∷_};
 ghost use Prim.Native.Nat.{_+_, _-_, _*_, _/_, _%_, _≤_, _<_};
@@ -8,7 +8,7 @@ ghost use Rattle.ty.specs.Kind.{errorKind, pointerKind, listKind, namedKind, fu
 ghost use Rattle.ty.specs.Bytes.{plainTy, innerOf, sameBytes};
 ghost use Rattle.area.specs.Diagnostic.{putOne, countLimit};
 ghost use Rattle.area.specs.Padding.{padded};
-ghost use Rattle.area.specs.Slot.{Lent, Slot, Stored, slotOf, slotSize, slotCount};
+ghost use Rattle.area.specs.Slot.{Lent, Slot, Stored, slotOf, slotSize};
 ghost use Rattle.area.specs.Source.{typeFrom, Storable};
 use ty::Kind;
 
@@ -125,7 +125,7 @@ fn move_down(area: &mut [u8], from: usize, to: usize, n: usize)
 
 // A type without body becomes the type of node.
 fn store_kind(area: &mut [u8], lens: &mut [usize], node: usize, kind: u8)
-    requires { ⌜ Lent (now area) (now lens) × (node < slotCount) ⌝ }
+    requires { ⌜ Lent (now area) (now lens) × (node < length (now lens)) ⌝ }
     ensures { λ _. ⌜ Stored (now (area .entry)) (now (area .exit)) (now (lens .entry)) (now (lens .exit)) node (plainTy kind) ⌝ }
 {
     area[256 * node] = kind;
@@ -134,7 +134,7 @@ fn store_kind(area: &mut [u8], lens: &mut [usize], node: usize, kind: u8)
 
 // A List of a type without body becomes the type of node.
 fn store_list(area: &mut [u8], lens: &mut [usize], node: usize, kind: u8)
-    requires { ⌜ Lent (now area) (now lens) × (node < slotCount) ⌝ }
+    requires { ⌜ Lent (now area) (now lens) × (node < length (now lens)) ⌝ }
     ensures { λ _. ⌜ Stored (now (area .entry)) (now (area .exit)) (now (lens .entry)) (now (lens .exit)) node (listKind ∷ plainTy kind) ⌝ }
 {
     let p = 256 * node;
@@ -145,7 +145,7 @@ fn store_list(area: &mut [u8], lens: &mut [usize], node: usize, kind: u8)
 
 // A Named becomes the type of node.
 fn store_name(area: &mut [u8], lens: &mut [usize], node: usize, id: u16)
-    requires { ⌜ Lent (now area) (now lens) × (node < slotCount) ⌝ }
+    requires { ⌜ Lent (now area) (now lens) × (node < length (now lens)) ⌝ }
     ensures { λ _. ⌜ Stored (now (area .entry)) (now (area .exit)) (now (lens .entry)) (now (lens .exit)) node (namedKind ∷ id % 256 ∷ id / 256 % 256 ∷ []) ⌝ }
 {
     let p = 256 * node;
@@ -164,7 +164,7 @@ pub fn store_part(
     start: usize,
     len: usize,
 )
-    requires { ⌜ Lent (now area) (now lens) × (node < slotCount) × (length (take len (drop start (now source))) ≤ slotSize) ⌝ }
+    requires { ⌜ Lent (now area) (now lens) × (node < length (now lens)) × (length (take len (drop start (now source))) ≤ slotSize) ⌝ }
     ensures { λ _. ⌜ Stored (now (area .entry)) (now (area .exit)) (now (lens .entry)) (now (lens .exit)) node (take len (drop start (now (source .entry)))) ⌝ }
 {
     let t = part(source, start, len);
@@ -181,7 +181,7 @@ fn store_function(
     start: usize,
     len: usize,
 )
-    requires { ⌜ Lent (now area) (now lens) × (node < slotCount) × (length (take len (drop start (now table))) + 2 ≤ slotSize) ⌝ }
+    requires { ⌜ Lent (now area) (now lens) × (node < length (now lens)) × (length (take len (drop start (now table))) + 2 ≤ slotSize) ⌝ }
     ensures { λ _. ⌜ Stored (now (area .entry)) (now (area .exit)) (now (lens .entry)) (now (lens .exit)) node (functionKind ∷ 0 ∷ take len (drop start (now (table .entry)))) ⌝ }
 {
     let t = part(table, start, len);

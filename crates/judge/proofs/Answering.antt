@@ -11,6 +11,7 @@ use Rattle.area.proofs.Diagnostics.{putAll-length, put-padded}
 use Rattle.area.specs.Diagnostic.{Diag, recordLength, records, putAll}
 use Rattle.area.specs.Padding.{padded}
 use Rattle.area.specs.Slot.{Held, slotOf}
+use Rattle.judge.proofs.Spaces.{tree-room}
 use Rattle.judge.specs.Answer.{answerIs, Answered, markIs, rootNumber, rootAnswer, RootIs}
 use Rattle.judge.specs.Contract.{NodeAsked, NodeIs}
 use Rattle.judge.specs.declared.Answer.{Answer}
@@ -209,7 +210,7 @@ module _ (t q : List ℕ) (lent : ℕ) where
             names = namesOf t;
             stands = w .tree .stands;
             legal = w .tree .legal;
-            room = omega (arith, w .tree .few);
+            room = omega (arith, tree-room q (treeOf q) 5 (w .tree .stands) (w .tree .ends) (w .tree .few));
             within = record { long = w .short; known = names-known t table-ok; few = omega arith };
           }
 

@@ -7,13 +7,14 @@ use mathlib.Core.Option.{Option, none, some}
 use mathlib.Core.Path.{_≡_, refl, sym, ap, _∙_}
 use native.Mathlib.Omega.{arith}
 use Rattle.area.specs.Diagnostic.{Diag, countLimit}
-use Rattle.area.specs.Slot.{Lent, Held, slotOf}
+use Rattle.area.specs.Slot.{Held, slotOf}
 use Rattle.judge.proofs.Reaching.{state-path, reached-here, reached-join, reached-inside, reached-as}
 use Rattle.judge.proofs.Rows.{row-args, row-many, row-count}
-use Rattle.judge.proofs.Steps.{node-room, asked-inside, ChildIs, child, close}
+use Rattle.judge.proofs.Spaces.{slots-few}
+use Rattle.judge.proofs.Steps.{slot-room, asked-inside, ChildIs, child, close}
 use Rattle.judge.proofs.Working.{at-length}
 use Rattle.judge.specs.Call.{ListIs, NoList, BegunIs, CallAsked}
-use Rattle.judge.specs.Contract.{mostAtNode, NodeAsked, NodeIs, RowAsked, RowIs}
+use Rattle.judge.specs.Contract.{mostAtNode, slotsFor, Space, NodeAsked, NodeIs, RowAsked, RowIs}
 use Rattle.judge.specs.Progress.{insideOf, passedOver, Reached, Finished}
 use Rattle.judge.specs.declared.calls.Begun.{Begun}
 use Rattle.judge.specs.declared.calls.RowJudged.{RowJudged}
@@ -71,7 +72,7 @@ module _ (S : Symbols) (id node : ℕ) (s : State) (b b′ : List ℕ) (r : Begu
 
 -- ---- what a row is asked, behind what was judged since
 pub asked-row : {q : List ℕ} {s : State} (x : NodeAsked q s) {r : State} {p n : ℕ} {g : List Given} {d : List Diag} {b b₁ : List ℕ} → Reached s p n g d b b₁ r → (rs : Row) (many : ℕ)
-    → Ats q rs p → RowLegal (x .names) rs → count rs ≡ many → many ≤ 16 → n + sizes rs ≤ 64 → s .count + length d ≤ mostAtNode * n → RowAsked q r 0 many
+    → Ats q rs p → RowLegal (x .names) rs → count rs ≡ many → many ≤ 16 → n + sizes rs ≤ slotsFor (length q) → s .count + length d ≤ mostAtNode * n → RowAsked q r 0 many
 asked-row {s = s} x {r} {p} {n} {d = d} w rs many st lg counted fits room few =
     let at : r .at ≡ p = ap (λ (z : State). z .at) (w .result) in
     let node : r .node ≡ n = ap (λ (z : State). z .node) (w .result) in
@@ -122,7 +123,7 @@ passed-over q {s} {e} {p} {n} many w rs st small counted =
 -- ---- a call that finds a list, behind what was judged since
 module _ {t : List ℕ} {sections : Sections} (ok : Accepted t sections) (H : Header) {q : List ℕ} {s : State} (x : NodeAsked q s) {e : State} {p n : ℕ} {g : List Given} {d : List Diag}
     {b b₁ b₂ : List ℕ} (w : Reached s p n g d b b₁ e) (id : ℕ) (c : Callee) {begun : Begun} (list : ListIs (symbolsOf t) id (s .node) c e b₁ b₂ begun) (rs : Row) (many : ℕ)
-    (st : Ats q rs p) (lg : RowLegal (x .names) rs) (counted : count rs ≡ many) (fits : many ≤ 16) (later : s .node < n) (room : n + sizes rs ≤ 64) (few : s .count + length d + 2 ≤ mostAtNode * n) where
+    (st : Ats q rs p) (lg : RowLegal (x .names) rs) (counted : count rs ≡ many) (fits : many ≤ 16) (later : s .node < n) (room : n + sizes rs ≤ slotsFor (length q)) (few : s .count + length d + 2 ≤ mostAtNode * n) where
   before : Reached s p n g (d ++ atNode (s .node) (c .before)) b b₂ (begun .state)
   before =
       reached-as (ap (λ (z : State). z .at) (w .result)) (ap (λ (z : State). z .node) (w .result)) (append-nil g) refl (reached-join w (list .reached))
@@ -138,7 +139,7 @@ module _ {t : List ℕ} {sections : Sections} (ok : Accepted t sections) (H : He
       let at : begun .state .at ≡ p = ap (λ (z : State). z .at) (before .result) in
       omega arith
 
-  module _ {a a₁ l l₁ b₃ : List ℕ} {row : RowJudged} (lent : Lent a₁ l₁)
+  module _ {a a₁ l l₁ b₃ : List ℕ} {row : RowJudged} (lent : Space q a₁ l₁)
       (is : (y : RowAsked q (begun .state) 0 many) → RowIs t H (begun .state) 0 many (replicate 16 0) (replicate 16 0) a a₁ l l₁ b₂ b₃ row (y .trees))
       (short : (xs : List Arg) → length (resolve (symbolsOf t) (c .overloads) (s .node) xs .ty) ≤ 192)
       (most : (xs : List Arg) → length xs ≤ 16 → length (resolve (symbolsOf t) (c .overloads) (s .node) xs .diags) ≤ mostDiagnostics) where
@@ -160,16 +161,16 @@ module _ {t : List ℕ} {sections : Sections} (ok : Accepted t sections) (H : He
     row-later : LaterRow t H s p n g (d ++ atNode (s .node) (c .before)) a a₁ l l₁ b b₃ (row .state) rs
     row-later = later-row before row-is
 
-    pub call-ready : CallAsked (s .node) row (resolve (symbolsOf t) (symbolsOf t .functionsOf (begun .owner) id) (s .node) (argsIn a₁ l₁ (row .args)))
+    pub call-ready : CallAsked l₁ (s .node) row (resolve (symbolsOf t) (symbolsOf t .functionsOf (begun .owner) id) (s .node) (argsIn a₁ l₁ (row .args)))
     call-ready =
         let J : Judgements = judges (symbolsOf t) H rs n in
         let D : List Diag = d ++ atNode (s .node) (c .before) in
         let cnt : row .state .count ≡ s .count + length (D ++ J .diags) = ap (λ (z : State). z .count) (row-later .reached .result) in
         let v = argsIn a₁ l₁ (row .args) in
         record {
-          room = node-room x;
+          room = slot-room x lent;
           fits = omega (arith, row-many row-asked (is row-asked));
-          few = omega (arith, length-append D (J .diags), before-few, row-later .few);
+          few = omega (arith, length-append D (J .diags), before-few, row-later .few, slots-few (length q));
           short = rw (list .list) (omega (arith, short v));
           most = rw (list .list) (most v args-few);
         }
@@ -209,7 +210,7 @@ module _ {t : List ℕ} {sections : Sections} (ok : Accepted t sections) (fit : 
         let (rs, e, counted, st) = is-call q (s .at) (x .tree) id many (x .stands) h in
         let sz : size (x .tree) ≡ suc (sizes rs) = ap size e in
         let (f, n) = begun-none _ _ _ _ _ _ _ _ is no in
-        rw (n .state) (passed-over q many inside-call rs st (omega (arith, x .room)) counted)
+        rw (n .state) (passed-over q many inside-call rs st (omega (arith, x .room, slots-few (length q))) counted)
 
     pub call-passed : passedOver q (begun .state) many .node ≤ 64
     unfolding size
@@ -217,9 +218,9 @@ module _ {t : List ℕ} {sections : Sections} (ok : Accepted t sections) (fit : 
         let (rs, e, counted, st) = is-call q (s .at) (x .tree) id many (x .stands) h in
         let sz : size (x .tree) ≡ suc (sizes rs) = ap size e in
         let node : passedOver q (begun .state) many .node ≡ afters rs (suc (s .node)) = ap (λ (z : State). z .node) (over-call .result) in
-        omega (arith, afters-sizes rs (suc (s .node)), x .room)
+        omega (arith, afters-sizes rs (suc (s .node)), x .room, slots-few (length q))
 
-    pub ret-call-none : {a a′ l l′ : List ℕ} {r : State} → Lent a l → ((b : List ℕ) → Finished (passedOver q (begun .state) many) (s .node) (plainTy errorKind) [] a a′ l l′ b b r)
+    pub ret-call-none : {a a′ l l′ : List ℕ} {r : State} → Space q a l → ((b : List ℕ) → Finished (passedOver q (begun .state) many) (s .node) (plainTy errorKind) [] a a′ l l′ b b r)
         → NodeIs t H s a a′ l l′ b b₁ r (x .tree)
     unfolding judge size bytes after callStep
     ret-call-none lent f =
@@ -252,9 +253,9 @@ module _ {t : List ℕ} {sections : Sections} (ok : Accepted t sections) (fit : 
         let room = room-of q (s .at) _ h in
         row-falls ok H x inside-call id c list rs many st (lg .1) counted (room .1) (omega arith) (omega (arith, x .room)) (omega (arith, x .within .few)) (omega arith) (omega (arith, room .0))
 
-    module _ {a a₁ l l₁ b₂ : List ℕ} {row : RowJudged} (lent : Lent a₁ l₁)
+    module _ {a a₁ l l₁ b₂ : List ℕ} {row : RowJudged} (lent : Space q a₁ l₁)
         (js : (y : RowAsked q (begun .state) 0 many) → RowIs t H (begun .state) 0 many (replicate 16 0) (replicate 16 0) a a₁ l l₁ b₁ b₂ row (y .trees)) where
-      pub args-ready : CallAsked (s .node) row (resolve (symbolsOf t) (symbolsOf t .functionsOf (begun .owner) id) (s .node) (argsIn a₁ l₁ (row .args)))
+      pub args-ready : CallAsked l₁ (s .node) row (resolve (symbolsOf t) (symbolsOf t .functionsOf (begun .owner) id) (s .node) (argsIn a₁ l₁ (row .args)))
       unfolding size Legal
       args-ready =
           let (rs, e, counted, st) = is-call q (s .at) (x .tree) id many (x .stands) h in
@@ -302,7 +303,7 @@ module _ {t : List ℕ} {sections : Sections} (ok : Accepted t sections) (fit : 
         let (c, rs, e, counted, sc, st) = is-method q (s .at) (x .tree) id many (x .stands) h in
         let sz : size (x .tree) ≡ suc (size c + sizes rs) = ap size e in
         let n : r₁ .count ≡ s .count + length (judge (symbolsOf t) H c (suc (s .node)) .diags) = ap (λ (z : State). z .count) (object-is .reached .result) in
-        omega (arith, object-is .few, x .within .few, x .room)
+        omega (arith, object-is .few, x .within .few, x .room, slots-few (length q))
 
     module _ (b₁ : List ℕ) (begun : Begun) (bs : BegunIs (symbolsOf t) id (s .node) (methodOf (symbolsOf t) H id (slotOf a l (s .node + 1))) r₁ b b₁ begun) where
       begun-is : let c = is-method q (s .at) (x .tree) id many (x .stands) h .0 in
@@ -318,7 +319,7 @@ module _ {t : List ℕ} {sections : Sections} (ok : Accepted t sections) (fit : 
             let (c, rs, e, counted, sc, st) = is-method q (s .at) (x .tree) id many (x .stands) h in
             let sz : size (x .tree) ≡ suc (size c + sizes rs) = ap size e in
             let (f, n) = begun-none _ _ _ _ _ _ _ _ begun-is no in
-            rw (n .state) (passed-over q many (object-is .reached) rs st (omega (arith, x .room)) counted)
+            rw (n .state) (passed-over q many (object-is .reached) rs st (omega (arith, x .room, slots-few (length q))) counted)
 
         pub method-passed : passedOver q (begun .state) many .node ≤ 64
         unfolding size
@@ -326,9 +327,9 @@ module _ {t : List ℕ} {sections : Sections} (ok : Accepted t sections) (fit : 
             let (c, rs, e, counted, sc, st) = is-method q (s .at) (x .tree) id many (x .stands) h in
             let sz : size (x .tree) ≡ suc (size c + sizes rs) = ap size e in
             let node : passedOver q (begun .state) many .node ≡ afters rs (after c (suc (s .node))) = ap (λ (z : State). z .node) (over-method .result) in
-            omega (arith, afters-sizes rs (after c (suc (s .node))), after-size c (suc (s .node)), x .room)
+            omega (arith, afters-sizes rs (after c (suc (s .node))), after-size c (suc (s .node)), x .room, slots-few (length q))
 
-        pub ret-method-none : {a′ l′ : List ℕ} {r : State} → Lent a l → ((b : List ℕ) → Finished (passedOver q (begun .state) many) (s .node) (plainTy anyKind) [] a a′ l l′ b b r)
+        pub ret-method-none : {a′ l′ : List ℕ} {r : State} → Space q a l → ((b : List ℕ) → Finished (passedOver q (begun .state) many) (s .node) (plainTy anyKind) [] a a′ l l′ b b r)
             → NodeIs t H s a₀ a′ l₀ l′ b₀ b₁ r (x .tree)
         unfolding judge size bytes after methodStep
         ret-method-none lent f =
@@ -364,9 +365,9 @@ module _ {t : List ℕ} {sections : Sections} (ok : Accepted t sections) (fit : 
             row-falls ok H x (object-is .reached) id f list rs many st (lg .2) counted (room-of q (s .at) _ h .1) (omega arith) (omega (arith, x .room)) (omega (arith, x .within .few, object-is .few, some-size c))
             (omega arith) (omega (arith, at-ends q c (s .at + 4) sc))
 
-        module _ {a₁ l₁ b₂ : List ℕ} {row : RowJudged} (lent : Lent a₁ l₁)
+        module _ {a₁ l₁ b₂ : List ℕ} {row : RowJudged} (lent : Space q a₁ l₁)
             (js : (y : RowAsked q (begun .state) 0 many) → RowIs t H (begun .state) 0 many (replicate 16 0) (replicate 16 0) a a₁ l l₁ b₁ b₂ row (y .trees)) where
-          pub method-ready : CallAsked (s .node) row (resolve (symbolsOf t) (symbolsOf t .functionsOf (begun .owner) id) (s .node) (argsIn a₁ l₁ (row .args)))
+          pub method-ready : CallAsked l₁ (s .node) row (resolve (symbolsOf t) (symbolsOf t .functionsOf (begun .owner) id) (s .node) (argsIn a₁ l₁ (row .args)))
           unfolding size Legal
           method-ready =
               let (c, rs, e, counted, sc, st) = is-method q (s .at) (x .tree) id many (x .stands) h in

@@ -7,9 +7,10 @@ use native.Mathlib.Numerals.{add-one}
 use native.Mathlib.Omega.{arith}
 use Rattle.area.proofs.Slots.{held-stored, under-stored, held-slot}
 use Rattle.area.specs.Diagnostic.{Diag, countLimit}
-use Rattle.area.specs.Slot.{Lent, Slot, Stored, Held, slotOf}
+use Rattle.area.specs.Slot.{Slot, Stored, Held, slotOf}
 use Rattle.judge.proofs.Reaching.{reached-here, reached-join, reached-inside, reached-as}
-use Rattle.judge.specs.Contract.{mostAtNode, NodeAsked, NodeIs}
+use Rattle.judge.proofs.Spaces.{slots-few}
+use Rattle.judge.specs.Contract.{mostAtNode, slotsFor, Space, NodeAsked, NodeIs}
 use Rattle.judge.specs.Progress.{insideOf, Reached, Finished}
 use Rattle.judge.specs.Rule.{LeafAsked, RuleAsked}
 use Rattle.judge.specs.declared.progress.State.{State}
@@ -38,7 +39,13 @@ use Rattle.typing.specs.Judge.{Given, Judged, done, closed, judge}
 -- ---- what a call of the node judge is asked
 module _ {q : List ℕ} {s : State} (x : NodeAsked q s) where
   pub node-room : s .node < 64
-  node-room = omega (arith, x .room, some-size (x .tree))
+  node-room = omega (arith, x .room, some-size (x .tree), slots-few (length q))
+
+  pub slot-room : {a l : List ℕ} → Space q a l → s .node < length l
+  slot-room w = omega (arith, x .room, some-size (x .tree), w .enough)
+
+  pub slot-still : {a l : List ℕ} {n : ℕ} → Space q a l → n ≡ length l → s .node < n
+  slot-still w e = omega (arith, slot-room w)
 
   pub inside-fits : (own : ℕ) → s .at + own ≤ length q → (s .at + own ≤ 65536) × (s .node < 64)
   inside-fits own h = (omega (arith, x .within .long), node-room)
@@ -49,10 +56,10 @@ module _ {q : List ℕ} {s : State} (x : NodeAsked q s) where
       let at : s₁ .at ≡ s .at + own = ap (λ (z : State). z .at) e in
       omega arith
 
-  pub leaf-asked : (len top : ℕ) → nodeAt q (s .at) ≡ Leaf len top → LeafAsked q len s
-  leaf-asked len top h =
+  pub leaf-asked : {a l : List ℕ} → Space q a l → (len top : ℕ) → nodeAt q (s .at) ≡ Leaf len top → LeafAsked q l len s
+  leaf-asked lent len top h =
       let w = room-of q (s .at) _ h in
-      record { room = node-room; short = w .2; there = omega (arith, w .0); long = x .within .long }
+      record { room = slot-room lent; short = w .2; there = omega (arith, w .0); long = x .within .long }
 
   pub inside-few : {s₁ : State} (own : ℕ) → s₁ ≡ insideOf s own → s₁ .count < countLimit
   inside-few {s₁} own e =
@@ -77,7 +84,7 @@ module _ {q : List ℕ} {s : State} (x : NodeAsked q s) where
 
   -- a tree behind what was judged since
   pub asked-later : {r : State} {p n : ℕ} {g : List Given} {d : List Diag} {b b₁ : List ℕ} → Reached s p n g d b b₁ r → (c : Node) → At q c p → Legal (x .names) c
-      → n + size c ≤ 64 → s .count + length d ≤ mostAtNode * n → NodeAsked q r
+      → n + size c ≤ slotsFor (length q) → s .count + length d ≤ mostAtNode * n → NodeAsked q r
   asked-later {r} {p} {n} {d = d} w c st lg room few =
       let at : r .at ≡ p = ap (λ (z : State). z .at) (w .result) in
       let node : r .node ≡ n = ap (λ (z : State). z .node) (w .result) in
@@ -137,17 +144,17 @@ later {t} {H} {r = r} {p = p} {n = n} {c = c} w z =
 module _ {t : List ℕ} {sections : Sections} (ok : Accepted t sections) (H : Header) {q : List ℕ} {s : State} (x : NodeAsked q s) where
   pub type-fits : length (judge (symbolsOf t) H (x .tree) (s .node) .ty) ≤ 256
   type-fits =
-      omega (arith, type-short (symbolsOf t) (symbols-fit t (ok .clean)) H (x .tree) (s .node) (at-fits q (x .tree) (s .at) (x .stands)), x .room)
+      omega (arith, type-short (symbolsOf t) (symbols-fit t (ok .clean)) H (x .tree) (s .node) (at-fits q (x .tree) (s .at) (x .stands)), x .room, slots-few (length q))
 
   pub node-is : (j : Judged) → judge (symbolsOf t) H (x .tree) (s .node) ≡ j → {at node : ℕ} {a a₁ a′ l l₁ l′ b b′ : List ℕ} {r : State}
       → Reached s at node (j .typed) (j .diags) b b′ r → at ≡ s .at + bytes (x .tree) → node ≡ after (x .tree) (s .node)
-      → Stored a₁ a′ l₁ l′ (s .node) (j .ty) → Lent a₁ l₁ → ((m : ℕ) (u : Ty) → m < s .node → Held a l m u → Held a₁ l₁ m u)
+      → Stored a₁ a′ l₁ l′ (s .node) (j .ty) → Space q a₁ l₁ → ((m : ℕ) (u : Ty) → m < s .node → Held a l m u → Held a₁ l₁ m u)
       → length (j .diags) ≤ mostAtNode * size (x .tree) → NodeIs t H s a a′ l l′ b b′ r (x .tree)
   node-is j e {a₁ = a₁} {a′ = a′} {l₁ = l₁} {l′ = l′} re ea en st lent under few =
       let short : length (j .ty) ≤ 256 = rw e at type-fits in
       record {
         reached = rw e (reached-as ea en refl refl re);
-        top = rw e (held-stored a₁ a′ l₁ l′ (s .node) (j .ty) st lent (node-room x) short);
+        top = rw e (held-stored a₁ a′ l₁ l′ (s .node) (j .ty) st (lent .lent) (slot-room x lent) short);
         under = λ m u h v. under-stored a₁ a′ l₁ l′ (s .node) (j .ty) st m u h (under m u h v);
         few = rw e few;
       }
@@ -161,7 +168,7 @@ module _ {t : List ℕ} {sections : Sections} (ok : Accepted t sections) (H : He
   -- by the finished node behind its children, which reported at most so many
   pub close : (j : Judged) → judge (symbolsOf t) H (x .tree) (s .node) ≡ j → {p m : ℕ} {g : List Given} {d ds : List Diag} {a a₁ a′ l l₁ l′ b b₁ b′ : List ℕ} {r₁ r : State}
       → Reached s p m g d b b₁ r₁ → Finished r₁ (s .node) (j .ty) ds a₁ a′ l₁ l′ b₁ b′ r → g ++ (record { node = s .node; ty = j .ty } ∷ []) ≡ j .typed → d ++ ds ≡ j .diags
-      → p ≡ s .at + bytes (x .tree) → m ≡ after (x .tree) (s .node) → Lent a₁ l₁ → ((m : ℕ) (u : Ty) → m < s .node → Held a l m u → Held a₁ l₁ m u)
+      → p ≡ s .at + bytes (x .tree) → m ≡ after (x .tree) (s .node) → Space q a₁ l₁ → ((m : ℕ) (u : Ty) → m < s .node → Held a l m u → Held a₁ l₁ m u)
       → length d + mostAtNode ≤ mostAtNode * size (x .tree) + 2 → NodeIs t H s a a′ l l′ b b′ r (x .tree)
   close j e {p} {m} {d = d} {ds = ds} {r₁ = r₁} w f eg ed ep em lent under few =
       let at : r₁ .at ≡ p = ap (λ (z : State). z .at) (w .result) in
@@ -169,7 +176,7 @@ module _ {t : List ℕ} {sections : Sections} (ok : Accepted t sections) (H : He
       let len : length (j .diags) ≡ length d + length ds = ap (λ (z : List Diag). length z) (sym ed) ∙ length-append d ds in
       node-is j e (reached-as at node eg ed (reached-join w (f .reached))) ep em (f .stored) lent under (omega (arith, f .few))
 
-  pub ret-leaf : (len top : ℕ) → nodeAt q (s .at) ≡ Leaf len top → {a a′ l l′ : List ℕ} {r : State} → Lent a l
+  pub ret-leaf : (len top : ℕ) → nodeAt q (s .at) ≡ Leaf len top → {a a′ l l′ : List ℕ} {r : State} → Space q a l
       → ((b : List ℕ) → Finished (insideOf s (len + 1)) (s .node) (take len (drop (s .at + 1) q)) [] a a′ l l′ b b r)
       → (b : List ℕ) → NodeIs t H s a a′ l l′ b b r (x .tree)
   unfolding judge size bytes after
@@ -183,7 +190,7 @@ module _ {t : List ℕ} {sections : Sections} (ok : Accepted t sections) (H : He
 
   -- ---- one child
   module _ (own : ℕ) {s₁ : State} (i : s₁ ≡ insideOf s own) (c : Node) (st : At q c (s .at + own)) (lg : Legal (x .names) c) (sz : size (x .tree) ≡ suc (size c))
-      {a a₁ l l₁ b b₁ : List ℕ} {r₁ : State} (lent : Lent a₁ l₁) (is : (y : NodeAsked q s₁) → NodeIs t H s₁ a a₁ l l₁ b b₁ r₁ (y .tree)) where
+      {a a₁ l l₁ b b₁ : List ℕ} {r₁ : State} (lent : Space q a₁ l₁) (is : (y : NodeAsked q s₁) → NodeIs t H s₁ a a₁ l l₁ b b₁ r₁ (y .tree)) where
     only-asked : NodeAsked q s₁
     only-asked = asked-inside x own i c st lg (omega arith)
 
@@ -197,13 +204,13 @@ module _ {t : List ℕ} {sections : Sections} (ok : Accepted t sections) (H : He
     pub only-few : r₁ .count + 2 ≤ countLimit
     only-few =
         let n : r₁ .count ≡ s .count + length (judge (symbolsOf t) H c (suc (s .node)) .diags) = ap (λ (z : State). z .count) (only-child .reached .result) in
-        omega (arith, only-child .few, x .within .few, x .room)
+        omega (arith, only-child .few, x .within .few, x .room, slots-few (length q))
 
     pub only-rule : (o : Ty → Out) → (judge (symbolsOf t) H (x .tree) (s .node) .ty ≡ o (judge (symbolsOf t) H c (suc (s .node)) .ty) .ty)
         → RuleAsked a₁ l₁ (s .node) (s .node + 1) r₁ (o (slotOf a₁ l₁ (s .node + 1)))
     only-rule o e =
         let short : length (o (judge (symbolsOf t) H c (suc (s .node)) .ty) .ty) ≤ 256 = rw e at type-fits in
-        record { lent = lent; left = only-slot; right = only-slot; short = rw (only-child .top .is) short; few = only-few }
+        record { lent = lent .lent; left = only-slot; right = only-slot; short = rw (only-child .top .is) short; few = only-few }
 
     pub only-ruled : (o : Ty → Out) → {a′ l′ b′ : List ℕ} {r : State}
         → judge (symbolsOf t) H (x .tree) (s .node) ≡ closed (s .node) (o (judge (symbolsOf t) H c (suc (s .node)) .ty)) (judge (symbolsOf t) H c (suc (s .node)) .typed) (judge (symbolsOf t) H c (suc (s .node)) .diags)
@@ -230,7 +237,7 @@ module _ {t : List ℕ} {sections : Sections} (ok : Accepted t sections) (H : He
         let lg : Legal (x .names) (unary op c) = rw e at (x .legal) in
         asked-inside x 2 i c st lg (omega arith)
 
-    module _ {a a₁ l l₁ b b₁ : List ℕ} {r₁ : State} (lent : Lent a₁ l₁) (is : (y : NodeAsked q s₁) → NodeIs t H s₁ a a₁ l l₁ b b₁ r₁ (y .tree)) where
+    module _ {a a₁ l l₁ b b₁ : List ℕ} {r₁ : State} (lent : Space q a₁ l₁) (is : (y : NodeAsked q s₁) → NodeIs t H s₁ a a₁ l l₁ b b₁ r₁ (y .tree)) where
       pub unary-ready : RuleAsked a₁ l₁ (s .node) (s .node + 1) r₁ (unaryOut op (slotOf a₁ l₁ (s .node + 1)))
       unfolding judge size Legal
       unary-ready =
@@ -256,7 +263,7 @@ module _ {t : List ℕ} {sections : Sections} (ok : Accepted t sections) (H : He
         let lg : Legal (x .names) (named id c) = rw e at (x .legal) in
         asked-inside x 3 i c st (lg .1) (omega arith)
 
-    module _ {a a₁ l l₁ b b₁ : List ℕ} {r₁ : State} (lent : Lent a₁ l₁) (is : (y : NodeAsked q s₁) → NodeIs t H s₁ a a₁ l l₁ b b₁ r₁ (y .tree)) where
+    module _ {a a₁ l l₁ b b₁ : List ℕ} {r₁ : State} (lent : Space q a₁ l₁) (is : (y : NodeAsked q s₁) → NodeIs t H s₁ a a₁ l l₁ b b₁ r₁ (y .tree)) where
       pub named-ready : Slot l₁ (s .node) (s .node + 1)
       unfolding size Legal
       named-ready =
@@ -281,7 +288,7 @@ module _ {t : List ℕ} {sections : Sections} (ok : Accepted t sections) (H : He
         let lg : Legal (x .names) (member id c) = rw e at (x .legal) in
         asked-inside x 3 i c st (lg .1) (omega arith)
 
-    module _ {a a₁ l l₁ b b₁ : List ℕ} {r₁ : State} (lent : Lent a₁ l₁) (is : (y : NodeAsked q s₁) → NodeIs t H s₁ a a₁ l l₁ b b₁ r₁ (y .tree)) where
+    module _ {a a₁ l l₁ b b₁ : List ℕ} {r₁ : State} (lent : Space q a₁ l₁) (is : (y : NodeAsked q s₁) → NodeIs t H s₁ a a₁ l l₁ b b₁ r₁ (y .tree)) where
       pub member-ready : RuleAsked a₁ l₁ (s .node) (s .node + 1) r₁ (memberOut (symbolsOf t) H id (slotOf a₁ l₁ (s .node + 1)))
       unfolding judge size Legal
       member-ready =
@@ -328,7 +335,7 @@ module _ {t : List ℕ} {sections : Sections} (ok : Accepted t sections) (H : He
           let at : r₁ .at ≡ s .at + 2 + bytes c = ap (λ (z : State). z .at) (left-child .reached .result) in
           omega (arith, at-ends q c (s .at + 2) st)
 
-      module _ {a₂ l₂ b₂ : List ℕ} {r₂ : State} (lent : Lent a₂ l₂) (js : (y : NodeAsked q r₁) → NodeIs t H r₁ a₁ a₂ l₁ l₂ b₁ b₂ r₂ (y .tree)) where
+      module _ {a₂ l₂ b₂ : List ℕ} {r₂ : State} (lent : Space q a₂ l₂) (js : (y : NodeAsked q r₁) → NodeIs t H r₁ a₁ a₂ l₁ l₂ b₁ b₂ r₂ (y .tree)) where
         right-child : let (c, o, e, st, su) = is-binary q (s .at) (x .tree) op (x .stands) h in
             LaterIs t H s (s .at + 2 + bytes c) (after c (suc (s .node))) (judge (symbolsOf t) H c (suc (s .node)) .typed) (judge (symbolsOf t) H c (suc (s .node)) .diags) a₁ a₂ l₁ l₂ b b₂ r₂ o
         unfolding asked-right asked-later
@@ -354,11 +361,11 @@ module _ {t : List ℕ} {sections : Sections} (ok : Accepted t sections) (H : He
             let ty : length (binaryOut (symbolsOf t) op (judge (symbolsOf t) H c n .ty) (judge (symbolsOf t) H o (after c n) .ty) .ty) ≤ 256
             = rw (ap (λ (z : Node). judge (symbolsOf t) H z (s .node) .ty) e) at type-fits in
             record {
-              lent = lent;
+              lent = lent .lent;
               left = held-slot a₂ l₂ (s .node) (s .node + 1) _ (omega arith) left-held;
               right = held-slot a₂ l₂ (s .node) (r₁ .node) _ (omega (arith, after-size c n)) right-held;
               short = rw (left-held .is, right-held .is) ty;
-              few = omega (arith, left-child .few, right-child .few, x .within .few, x .room);
+              few = omega (arith, left-child .few, right-child .few, x .within .few, x .room, slots-few (length q));
             }
 
         pub ret-binary : {a′ l′ b′ : List ℕ} {r : State}

@@ -98,7 +98,7 @@ reported-join {b} {n = n} {m = m} {ds = ds} {es = es} x y =
 
 -- ---- a node is finished
 module _ {a a′ l l′ b b′ : List ℕ} {n count : ℕ} {t : Ty} {ds : List Diag} {s r : State} where
-  pub finish : Lent a l → n < 64 → length t ≤ 256 → length ds ≤ mostDiagnostics → Stored a a′ l l′ n t → Reported b (s .count) b′ count ds
+  pub finish : Lent a l → n < length l → length t ≤ 256 → length ds ≤ mostDiagnostics → Stored a a′ l l′ n t → Reported b (s .count) b′ count ds
       → r ≡ finishedAs s count (slotOf a′ l′ n) → Finished s n t ds a a′ l l′ b b′ r
   unfolding noError
   finish lent room short few st rep e =
@@ -116,7 +116,7 @@ pub leaf-short : (q : List ℕ) (len p : ℕ) → len ≤ 192 → length (take l
 leaf-short q len p h = simp length-take (omega arith)
 
 module _ {q a a′ l l′ : List ℕ} {len : ℕ} {s e r : State} where
-  pub finish-leaf : LeafAsked q len s → Lent a l → e ≡ insideOf s (len + 1) → Stored a a′ l l′ (s .node) (take len (drop (s .at + 1) q))
+  pub finish-leaf : LeafAsked q l len s → Lent a l → e ≡ insideOf s (len + 1) → Stored a a′ l l′ (s .node) (take len (drop (s .at + 1) q))
       → r ≡ finishedAs e (s .count) (slotOf a′ l′ (s .node))
       → (b : List ℕ) → Finished (insideOf s (len + 1)) (s .node) (take len (drop (s .at + 1) q)) [] a a′ l l′ b b r
   finish-leaf x lent i st f b =
@@ -133,12 +133,12 @@ module _ (table : List ℕ) {a l : List ℕ} (node : ℕ) where
   finish-named {s = s} lent h st f b =
       finish lent (omega (arith, h .past, h .inside)) (omega (arith, slot-length a l lent node (node + 1) h, h .small)) (omega arith) st (none-reported b (s .count)) f
 
-pub kind-store : (table a l : List ℕ) (node kind : ℕ) → Lent a l → node < 64 → Lent a l × Storable table a l node node node (Kind kind)
+pub kind-store : (table a l : List ℕ) (node kind : ℕ) → Lent a l → node < length l → Lent a l × Storable table a l node node node (Kind kind)
 unfolding Reads typeFrom
 kind-store table a l node kind lent h = (lent, record { room = h; reads = tt; short = omega arith })
 
 module _ (q table : List ℕ) {a a′ l l′ : List ℕ} (n node kind : ℕ) (s : State) {r : State} {p : Skipped} where
-  pub finish-unlisted : Lent a l → node < 64 → p ≡ skipAt q (s .at) n → Stored a a′ l l′ node (typeFrom table (slotOf a l node) (slotOf a l node) (Kind kind))
+  pub finish-unlisted : Lent a l → node < length l → p ≡ skipAt q (s .at) n → Stored a a′ l l′ node (typeFrom table (slotOf a l node) (slotOf a l node) (Kind kind))
       → r ≡ finishedAs (record { at = p .at; node = s .node + p .nodes; count = s .count; fine = s .fine }) (s .count) (slotOf a′ l′ node)
       → (b : List ℕ) → Finished (passedOver q s n) node (plainTy kind) [] a a′ l l′ b b r
   unfolding typeFrom
@@ -250,11 +250,11 @@ module _ (S : Symbols) (H : Header) (id node : ℕ) (s : State) (r : Begun) wher
       rw k x
 
 module _ {table a l : List ℕ} {node : ℕ} {row : RowJudged} {v : Verdict} {b b₁ : List ℕ} {called : Called} where
-  pub call-store : Lent a l → CallAsked node row v → CalledIs table b (row .state .count) b₁ v called → Lent a l × Storable table a l node node node (called .source)
+  pub call-store : Lent a l → CallAsked l node row v → CalledIs table b (row .state .count) b₁ v called → Lent a l × Storable table a l node node node (called .source)
   call-store lent x y =
       (lent, record { room = x .room; reads = y .reads l node node node; short = rw (y .ty (slotOf a l node) (slotOf a l node)) (x .short) })
 
-  pub finish-called : {a′ l′ : List ℕ} {r : State} → Lent a l → CallAsked node row v → CalledIs table b (row .state .count) b₁ v called
+  pub finish-called : {a′ l′ : List ℕ} {r : State} → Lent a l → CallAsked l node row v → CalledIs table b (row .state .count) b₁ v called
       → Stored a a′ l l′ node (typeFrom table (slotOf a l node) (slotOf a l node) (called .source)) → r ≡ finishedAs (row .state) (called .count) (slotOf a′ l′ node)
       → Finished (row .state) node (v .ty) (v .diags) a a′ l l′ b b₁ r
   finish-called lent x y st f = finish lent (x .room) (x .short) (x .most) (rw (y .ty (slotOf a l node) (slotOf a l node)) at st) (y .reported) f

@@ -6,7 +6,7 @@ use mathlib.Core.List.{List, []}
 use mathlib.Core.Option.{Option, none, some}
 use mathlib.Core.Path.{_≡_}
 use Rattle.area.specs.Diagnostic.{countLimit}
-use Rattle.area.specs.Slot.{slotSize, slotCount}
+use Rattle.area.specs.Slot.{slotSize}
 use Rattle.judge.specs.Progress.{Reached}
 use Rattle.judge.specs.declared.calls.Begun.{Begun}
 use Rattle.judge.specs.declared.calls.Owner.{Owner}
@@ -40,8 +40,8 @@ BegunIs S id node none s b b′ r = NoList s b b′ r
 BegunIs S id node (some c) s b b′ r = ListIs S id node c s b b′ r
 
 -- there is room for what a call gives and reports
-pub record CallAsked (node : ℕ) (row : RowJudged) (v : Verdict) : Type 0 where
-  pub room : node < slotCount
+pub record CallAsked (l : List ℕ) (node : ℕ) (row : RowJudged) (v : Verdict) : Type 0 where
+  pub room : node < length l
   pub fits : row .args .count ≤ 16
   pub few : row .state .count + mostDiagnostics ≤ countLimit
   pub short : length (v .ty) ≤ slotSize

@@ -1,10 +1,11 @@
 -- What the node judge and the argument-row judge ask, and what they leave.
 use Prim.Native.Nat.{ℕ, _+_, _*_, _≤_, _<_}
+use lib.Dec.{leb}
 use lib.ListN.{length}
 use lib.Seq.{sets}
 use mathlib.Core.List.{List}
 use mathlib.Core.Path.{_≡_}
-use Rattle.area.specs.Slot.{Held, Helds, slotCount}
+use Rattle.area.specs.Slot.{Lent, Held, Helds, slotCount}
 use Rattle.judge.specs.Progress.{Reached}
 use Rattle.judge.specs.Row.{nodesOf, idsOf, tysOf}
 use Rattle.judge.specs.declared.calls.RowJudged.{RowJudged}
@@ -19,6 +20,7 @@ use Rattle.question.specs.declared.Header.{Header}
 use Rattle.question.specs.declared.Names.{Names}
 use Rattle.symbol.specs.Lookup.{symbolsOf}
 use Rattle.ty.specs.Bytes.{Ty}
+use Rattle.ty.specs.Choose.{choose}
 use Rattle.ty.specs.Name.{noId, firstTableId}
 use Rattle.typing.specs.Judge.{judge, judges}
 
@@ -32,13 +34,29 @@ pub record Within (q : List ℕ) (names : Names) (s : State) : Type 0 where
   pub known : firstTableId + names .count ≤ noId
   pub few : s .count ≤ mostAtNode * s .node
 
+-- A question of at most 21 bytes has at most 8 nodes: 5 bytes are its header's, and each node has at least 2.
+abbrev pub shortQuestion : ℕ
+shortQuestion = 21
+
+abbrev pub fewSlots : ℕ
+fewSlots = 8
+
+-- how many slots are enough for a question of n bytes
+unfoldable pub slotsFor : ℕ → ℕ
+slotsFor n = choose (leb n shortQuestion) fewSlots slotCount
+
+-- an area and lengths are lent, and they are enough for the question q
+pub record Space (q a l : List ℕ) : Type 0 where
+  pub lent : Lent a l
+  pub enough : slotsFor (length q) ≤ length l
+
 -- a tree stands at s, and there are slots for its nodes
 pub record NodeAsked (q : List ℕ) (s : State) : Type 0 where
   pub tree : Node
   pub names : Names
   pub stands : At q tree (s .at)
   pub legal : Legal names tree
-  pub room : s .node + size tree ≤ slotCount
+  pub room : s .node + size tree ≤ slotsFor (length q)
   pub within : Within q names s
 
 -- The tree is judged: the judgement is behind it, its type lies in its root's slot, and the slots before that are as they were.
@@ -56,7 +74,7 @@ pub record RowAsked (q : List ℕ) (s : State) (k left : ℕ) : Type 0 where
   pub legal : RowLegal names trees
   pub counted : count trees ≡ left
   pub fits : k + left ≤ mostArguments
-  pub room : s .node + sizes trees ≤ slotCount
+  pub room : s .node + sizes trees ≤ slotsFor (length q)
   pub within : Within q names s
 
 -- They are judged: the judgement is behind them, their types lie in their slots, and their nodes and names are handed on from place k on.

@@ -3,15 +3,15 @@ use Prim.Native.Nat.{ℕ, _+_, _≤_, _<_}
 use lib.ListN.{length}
 use mathlib.Core.List.{List}
 use Rattle.area.specs.Diagnostic.{countLimit}
-use Rattle.area.specs.Slot.{Lent, Slot, slotSize, slotCount}
+use Rattle.area.specs.Slot.{Lent, Slot, slotSize}
 use Rattle.judge.specs.declared.progress.State.{State}
 use Rattle.question.specs.Refused.{longestQuestion}
 use Rattle.rules.specs.Out.{Out}
 use Rattle.ty.specs.Read.{longestType}
 
--- a leaf whose type has so many bytes stands at s
-pub record LeafAsked (q : List ℕ) (len : ℕ) (s : State) : Type 0 where
-  pub room : s .node < slotCount
+-- a leaf whose type has so many bytes stands at s, and there is a slot for it
+pub record LeafAsked (q l : List ℕ) (len : ℕ) (s : State) : Type 0 where
+  pub room : s .node < length l
   pub short : len ≤ longestType
   pub there : s .at + 1 + len ≤ length q
   pub long : length q ≤ longestQuestion

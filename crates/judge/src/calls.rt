@@ -18,6 +18,7 @@ use ty::NameId;
 ghost use Prim.Native.Nat.{ℕ, _+_, _≤_, _<_};
 ghost use mathlib.Core.Path.{_≡_};
 ghost use mathlib.Core.List.{List, []};
+ghost use lib.ListN.{length};
 ghost use Rattle.area.specs.Diagnostic.{countLimit};
 ghost use Rattle.area.specs.Slot.{Lent, slotOf, slotCount};
 ghost use Rattle.overload.specs.Args.{argsIn};
@@ -181,7 +182,7 @@ pub fn unlisted(
     area: &mut [u8],
     lens: &mut [usize],
 ) -> State
-    requires { ⌜ Lent (now area) (now lens) × (node < slotCount) × (passedOver (now q) s n .node ≤ slotCount) ⌝ }
+    requires { ⌜ Lent (now area) (now lens) × (node < length (now lens)) × (passedOver (now q) s n .node ≤ slotCount) ⌝ }
     ensures { λ r. ⌜ ((b : List ℕ) → Finished (passedOver (now (q .entry)) s n) node (plainTy kind) [] (now (area .entry)) (now (area .exit)) (now (lens .entry)) (now (lens .exit)) b b r) ⌝ }
 {
     let p = skip(q, s.at, n);
@@ -207,7 +208,7 @@ pub fn finish_call(
     lens: &mut [usize],
     buf: &mut [u8],
 ) -> State
-    requires { ⌜ Lent (now area) (now lens) × Accepted (now table) (known .sections) × CallAsked node row (resolve (symbolsOf (now table)) (symbolsOf (now table) .functionsOf owner id) node (argsIn (now area) (now lens) (row .args))) ⌝ }
+    requires { ⌜ Lent (now area) (now lens) × Accepted (now table) (known .sections) × CallAsked (now lens) node row (resolve (symbolsOf (now table)) (symbolsOf (now table) .functionsOf owner id) node (argsIn (now area) (now lens) (row .args))) ⌝ }
     ensures { λ r. ⌜ Finished (row .state) node (resolve (symbolsOf (now (table .entry))) (symbolsOf (now (table .entry)) .functionsOf owner id) node (argsIn (now (area .entry)) (now (lens .entry)) (row .args)) .ty) (resolve (symbolsOf (now (table .entry))) (symbolsOf (now (table .entry)) .functionsOf owner id) node (argsIn (now (area .entry)) (now (lens .entry)) (row .args)) .diags) (now (area .entry)) (now (area .exit)) (now (lens .entry)) (now (lens .exit)) (now (buf .entry)) (now (buf .exit)) r ⌝ }
 {
     let sections = known.sections;

@@ -18,9 +18,8 @@ use question::node::NodeRead;
 use question::node::node_at;
 use ty::Kind;
 ghost use lib.ListN.{replicate};
-ghost use Rattle.area.specs.Slot.{Lent};
 ghost use Rattle.symbol.specs.Sections.{Accepted};
-ghost use Rattle.judge.specs.Contract.{NodeAsked, NodeIs, RowAsked, RowIs};
+ghost use Rattle.judge.specs.Contract.{Space, NodeAsked, NodeIs, RowAsked, RowIs};
 
 // Judges the tree whose root stands at s.at and has number s.node. Its type comes to lie in that number's slot.
 pub fn judge_node(
@@ -32,7 +31,7 @@ pub fn judge_node(
     lens: &mut [usize],
     buf: &mut [u8],
 ) -> State
-    requires { ⌜ Lent (now area) (now lens) × Accepted (now table) (known .sections) × NodeAsked (now q) s ⌝ }
+    requires { ⌜ Space (now q) (now area) (now lens) × Accepted (now table) (known .sections) × NodeAsked (now q) s ⌝ }
     ensures { λ r. ⌜ ((x : NodeAsked (now (q .entry)) s) → NodeIs (now (table .entry)) (known .header) s (now (area .entry)) (now (area .exit)) (now (lens .entry)) (now (lens .exit)) (now (buf .entry)) (now (buf .exit)) r (x .tree)) ⌝ }
 {
     let node = s.node;
@@ -89,7 +88,7 @@ fn judge_row(
     lens: &mut [usize],
     buf: &mut [u8],
 ) -> RowJudged
-    requires { ⌜ Lent (now area) (now lens) × Accepted (now table) (known .sections) × RowAsked (now q) s 0 n ⌝ }
+    requires { ⌜ Space (now q) (now area) (now lens) × Accepted (now table) (known .sections) × RowAsked (now q) s 0 n ⌝ }
     ensures { λ r. ⌜ ((x : RowAsked (now (q .entry)) s 0 n) → RowIs (now (table .entry)) (known .header) s 0 n (replicate 16 0) (replicate 16 0) (now (area .entry)) (now (area .exit)) (now (lens .entry)) (now (lens .exit)) (now (buf .entry)) (now (buf .exit)) r (x .trees)) ⌝ }
 {
     let count = n as usize;

@@ -16,7 +16,7 @@ use question::read_header;
 use symbol::checks::Checked;
 use symbol::checks::check_table;
 ghost use mathlib.Core.Path.{_≡_};
-ghost use Prim.Native.Nat.{_≤_};
+ghost use Prim.Native.Nat.{_≤_, _<_};
 ghost use lib.ListN.{length};
 ghost use Rattle.area.specs.Slot.{Lent};
 ghost use Rattle.question.specs.Refused.{questionFault};
@@ -25,6 +25,7 @@ ghost use Rattle.typing.specs.Answer.{namesOf, refused as refusedAs};
 ghost use Rattle.typing.specs.Demand1.{Demand1};
 ghost use Rattle.typing.specs.Demand3.{Demand3};
 ghost use Rattle.judge.specs.Answer.{answerIs, Answered, Ready, markIs, rootNumber, RootIs};
+ghost use Rattle.judge.specs.Contract.{Space, shortQuestion};
 
 // The answer: refusal number (0 for none), pass mark, the type in 256 bytes with zeros behind its length, that length, and how many diagnostics there are.
 pub struct Answer {
@@ -34,6 +35,9 @@ pub struct Answer {
     pub len: usize,
     pub count: usize,
 }
+
+// A question of so many bytes has at most 8 nodes.
+const SHORT_QUESTION: usize = 21;
 
 // A refusal: zeros everywhere but the number.
 fn refused(number: u8) -> Answer
@@ -72,7 +76,7 @@ fn root_number(len: usize, count: usize, lent: usize) -> u8
 
 // The answer once the tree is judged: its root's type lies in slot 0.
 fn answer_root(s: State, area: &[u8], lens: &[usize], diagnostics: &mut [u8]) -> Answer
-    requires { ⌜ Lent (now area) (now lens) × (s .count ≤ 4294967296) ⌝ }
+    requires { ⌜ Lent (now area) (now lens) × (0 < length (now lens)) × (s .count ≤ 4294967296) ⌝ }
     ensures { λ r. ⌜ RootIs s (now (area .entry)) (now (lens .entry)) (now (diagnostics .entry)) (now (diagnostics .exit)) r ⌝ }
 {
     let count = s.count;
@@ -102,7 +106,7 @@ fn judge_in(
     lens: &mut [usize],
     diagnostics: &mut [u8],
 ) -> Answer
-    requires { ⌜ Lent (now area) (now lens) × Ready (now table) (now question) checked (now diagnostics) ⌝ }
+    requires { ⌜ Space (now question) (now area) (now lens) × Ready (now table) (now question) checked (now diagnostics) ⌝ }
     ensures { λ r. ⌜ Answered (now (table .entry)) (now (question .entry)) (length (now (diagnostics .entry))) r (now (diagnostics .exit)) ⌝ }
 {
     let sections = checked.sections;
@@ -118,14 +122,35 @@ fn judge_in(
     answer_root(s, area, lens, diagnostics)
 }
 
-// Judges an accepted question; the area is made once the table's check has given back its own memory.
-fn judge_accepted(table: &[u8], question: &[u8], checked: Checked, diagnostics: &mut [u8]) -> Answer
+// Judges an accepted question with slots for 8 nodes.
+fn judge_few(table: &[u8], question: &[u8], checked: Checked, diagnostics: &mut [u8]) -> Answer
+    requires { ⌜ Ready (now table) (now question) checked (now diagnostics) × (length (now question) ≤ shortQuestion) ⌝ }
+    ensures { λ r. ⌜ Answered (now (table .entry)) (now (question .entry)) (length (now (diagnostics .entry))) r (now (diagnostics .exit)) ⌝ }
+{
+    let mut area = [0u8; 2048];
+    let mut lens = [0usize; 8];
+    judge_in(table, question, checked, &mut area, &mut lens, diagnostics)
+}
+
+// Judges an accepted question with slots for 64 nodes.
+fn judge_many(table: &[u8], question: &[u8], checked: Checked, diagnostics: &mut [u8]) -> Answer
     requires { ⌜ Ready (now table) (now question) checked (now diagnostics) ⌝ }
     ensures { λ r. ⌜ Answered (now (table .entry)) (now (question .entry)) (length (now (diagnostics .entry))) r (now (diagnostics .exit)) ⌝ }
 {
     let mut area = [0u8; 16384];
     let mut lens = [0usize; 64];
     judge_in(table, question, checked, &mut area, &mut lens, diagnostics)
+}
+
+// Judges an accepted question. The area is made once the table's check has given back its own memory, and little is cleared for a short question.
+fn judge_accepted(table: &[u8], question: &[u8], checked: Checked, diagnostics: &mut [u8]) -> Answer
+    requires { ⌜ Ready (now table) (now question) checked (now diagnostics) ⌝ }
+    ensures { λ r. ⌜ Answered (now (table .entry)) (now (question .entry)) (length (now (diagnostics .entry))) r (now (diagnostics .exit)) ⌝ }
+{
+    if question.len() <= SHORT_QUESTION {
+        return judge_few(table, question, checked, diagnostics);
+    }
+    judge_many(table, question, checked, diagnostics)
 }
 
 // Judges a question against a table: the answer, and the diagnostics in the lent buffer.

@@ -32,7 +32,7 @@ ghost use Rattle.judge.specs.Rule.{RuleAsked, LeafAsked};
 
 // A leaf's type is its own.
 pub fn judge_leaf(q: &[u8], len: u16, s: State, area: &mut [u8], lens: &mut [usize]) -> State
-    requires { ⌜ Lent (now area) (now lens) × LeafAsked (now q) len s ⌝ }
+    requires { ⌜ Lent (now area) (now lens) × LeafAsked (now q) (now lens) len s ⌝ }
     ensures { λ r. ⌜ ((b : List ℕ) → Finished (insideOf s (len + 1)) (s .node) (take len (drop (s .at + 1) (now (q .entry)))) [] (now (area .entry)) (now (area .exit)) (now (lens .entry)) (now (lens .exit)) b b r) ⌝ }
 {
     let node = s.node;
