@@ -25,10 +25,9 @@ use Rattle.question.specs.declared.Header.{Header}
 use Rattle.question.specs.declared.Names.{Names}
 use Rattle.symbol.specs.Front.{headOf}
 use Rattle.symbol.specs.Refused.{tableFault}
-use Rattle.symbol.specs.Sections.{checkedOf, Accepted}
+use Rattle.symbol.specs.Accepted.{checkedOf}
 use Rattle.symbol.specs.Table.{Record, recordsFrom, recordsOf, countOf, nameCount}
 use Rattle.symbol.specs.declared.checks.Checked.{Checked}
-use Rattle.symbol.specs.declared.checks.Sections.{Sections}
 use Rattle.ty.proofs.Choice.{by-choice, choose-yes, choose-no}
 use Rattle.ty.specs.Choose.{choose}
 use Rattle.ty.specs.Name.{noId, firstTableId}
@@ -187,59 +186,55 @@ module _ (t q : List ℕ) (lent : ℕ) where
     unfolding checkedOf
     names-are = ap (λ (z : Checked). record { count = z .names }) (e ∙ choose-yes _ _ _ (eq-eqb (tableFault t) 0 table-ok))
 
-    pub table-accepted : (s : Sections) → s ≡ c .sections → Accepted t s
-    unfolding checkedOf
-    table-accepted s f = record { clean = table-ok; sections = f ∙ ap (λ (z : Checked). z .sections) (e ∙ choose-yes _ _ _ (eq-eqb (tableFault t) 0 table-ok)) }
-
     pub ret-question : (n : ℕ) → n ≡ questionFault (record { count = c .names }) q → (n ≡ 0 → ⊥) → (r : Answer) → answerIs r ≡ refused n → (b : List ℕ) → b ≡ zeros lent → Answered t q lent r b
     unfolding faultOf
     ret-question n f h r g b i =
         let k : faultOf t q ≡ n = choose-yes _ _ _ (eq-eqb (tableFault t) 0 table-ok) ∙ ap (λ (N : Names). questionFault N q) (sym names-are) ∙ sym f in
         faulty (λ z. h (sym k ∙ z)) r (g ∙ ap refused (sym k)) b i
 
-    -- ---- the judgement
-    module _ (n : ℕ) (f : n ≡ questionFault (record { count = c .names }) q) (fine : n ≡ 0) where
-      question-ok : questionFault (namesOf t) q ≡ 0
-      question-ok = ap (λ (N : Names). questionFault N q) (sym names-are) ∙ sym f ∙ fine
+    pub question-ok : (n : ℕ) → n ≡ questionFault (record { count = c .names }) q → n ≡ 0 → questionFault (namesOf t) q ≡ 0
+    question-ok n f z = ap (λ (N : Names). questionFault N q) (sym names-are) ∙ sym f ∙ z
 
-      pub root-asked : NodeAsked q (record { at = 5; node = 0; count = 0; fine = true })
-      root-asked =
-          let w = accepted (namesOf t) q question-ok in
+  -- ---- the judgement
+  module _ (clean : tableFault t ≡ 0) (fine : questionFault (namesOf t) q ≡ 0) where
+    pub root-asked : NodeAsked q (record { at = 5; node = 0; count = 0; fine = true })
+    root-asked =
+        let w = accepted (namesOf t) q fine in
+        record {
+          tree = treeOf q;
+          names = namesOf t;
+          stands = w .tree .stands;
+          legal = w .tree .legal;
+          room = omega (arith, tree-room q (treeOf q) 5 (w .tree .stands) (w .tree .ends) (w .tree .few));
+          within = record { long = w .short; known = names-known t clean; few = omega arith };
+        }
+
+    module _ {H : Header} (head : H ≡ headerOf q) {a₀ a l₀ l b₀ b : List ℕ} {s : State} (clear : b₀ ≡ zeros lent)
+        (is : (x : NodeAsked q (record { at = 5; node = 0; count = 0; fine = true })) → NodeIs t H (record { at = 5; node = 0; count = 0; fine = true }) a₀ a l₀ l b₀ b s (x .tree)) where
+      root-node : NodeIs t (headerOf q) (record { at = 5; node = 0; count = 0; fine = true }) a₀ a l₀ l (zeros lent) b s (treeOf q)
+      unfolding root-asked
+      root-node = rw (head, clear) at (is root-asked)
+
+      pub root-few : s .count ≤ 4294967296
+      root-few =
+          let w = accepted (namesOf t) q fine in
+          let cnt : s .count ≡ 0 + length (judgementOf t q .diags) = ap (λ (z : State). z .count) (root-node .reached .result) in
+          omega (arith, root-node .few, w .tree .few)
+
+      pub ret-judged : {b′ : List ℕ} {r : Answer} → RootIs s a l b b′ r → Answered t q lent r b′
+      unfolding bufferOf
+      ret-judged {b′} {r} w =
+          let j : Judged = judgementOf t q in
+          let zero : 0 + length (j .diags) ≡ length (j .diags) = omega arith in
+          let cnt : s .count ≡ length (j .diags) = ap (λ (z : State). z .count) (root-node .reached .result) ∙ zero in
+          let ok : s .fine ≡ noError (j .typed) = ap (λ (z : State). z .fine) (root-node .reached .result) in
+          let root = root-is lent s j a l b (root-node .top) cnt ok (root-node .reached .buffer) in
+          let ans : answerOf t q lent ≡ answered lent j = answer-judged t q lent (no-fault t q lent clean fine) in
           record {
-            tree = treeOf q;
-            names = namesOf t;
-            stands = w .tree .stands;
-            legal = w .tree .legal;
-            room = omega (arith, tree-room q (treeOf q) 5 (w .tree .stands) (w .tree .ends) (w .tree .few));
-            within = record { long = w .short; known = names-known t table-ok; few = omega arith };
+            answer = w .answer ∙ root ∙ sym ans;
+            buffer = w .buffer ∙ buffer-is lent s j a l b (root-node .top) cnt ok (root-node .reached .buffer)
+                ∙ ap (λ (z : of.Answer). choose (eqb (z .number) 0) (padded lent (records (j .diags))) (zeros lent)) (sym ans);
           }
-
-      module _ {H : Header} (head : H ≡ headerOf q) {a₀ a l₀ l b₀ b : List ℕ} {s : State} (clear : b₀ ≡ zeros lent)
-          (is : (x : NodeAsked q (record { at = 5; node = 0; count = 0; fine = true })) → NodeIs t H (record { at = 5; node = 0; count = 0; fine = true }) a₀ a l₀ l b₀ b s (x .tree)) where
-        root-node : NodeIs t (headerOf q) (record { at = 5; node = 0; count = 0; fine = true }) a₀ a l₀ l (zeros lent) b s (treeOf q)
-        unfolding root-asked
-        root-node = rw (head, clear) at (is root-asked)
-
-        pub root-few : s .count ≤ 4294967296
-        root-few =
-            let w = accepted (namesOf t) q question-ok in
-            let cnt : s .count ≡ 0 + length (judgementOf t q .diags) = ap (λ (z : State). z .count) (root-node .reached .result) in
-            omega (arith, root-node .few, w .tree .few)
-
-        pub ret-judged : {b′ : List ℕ} {r : Answer} → RootIs s a l b b′ r → Answered t q lent r b′
-        unfolding bufferOf
-        ret-judged {b′} {r} w =
-            let j : Judged = judgementOf t q in
-            let zero : 0 + length (j .diags) ≡ length (j .diags) = omega arith in
-            let cnt : s .count ≡ length (j .diags) = ap (λ (z : State). z .count) (root-node .reached .result) ∙ zero in
-            let ok : s .fine ≡ noError (j .typed) = ap (λ (z : State). z .fine) (root-node .reached .result) in
-            let root = root-is lent s j a l b (root-node .top) cnt ok (root-node .reached .buffer) in
-            let ans : answerOf t q lent ≡ answered lent j = answer-judged t q lent (no-fault t q lent table-ok question-ok) in
-            record {
-              answer = w .answer ∙ root ∙ sym ans;
-              buffer = w .buffer ∙ buffer-is lent s j a l b (root-node .top) cnt ok (root-node .reached .buffer)
-                  ∙ ap (λ (z : of.Answer). choose (eqb (z .number) 0) (padded lent (records (j .diags))) (zeros lent)) (sym ans);
-            }
 
 -- ---- a buffer that is all zero
 pub zeros-length : (b : List ℕ) (n : ℕ) → b ≡ zeros n → length b ≡ n

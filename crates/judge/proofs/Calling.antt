@@ -39,9 +39,8 @@ use Rattle.question.specs.declared.node.Skipped.{Skipped}
 use Rattle.rules.specs.Diag.{at as atNode}
 use Rattle.rules.specs.Out.{errorTy, anyTy}
 use Rattle.symbol.specs.Lookup.{symbolsOf}
-use Rattle.symbol.specs.Sections.{Accepted}
+use Rattle.symbol.specs.Accepted.{Accepted}
 use Rattle.symbol.specs.Symbols.{Symbols}
-use Rattle.symbol.specs.declared.checks.Sections.{Sections}
 use Rattle.ty.specs.Bytes.{Ty, plainTy}
 use Rattle.ty.specs.Kind.{anyKind, errorKind}
 use Rattle.typing.proofs.Short.{call-short, method-short}
@@ -121,7 +120,7 @@ passed-over q {s} {e} {p} {n} many w rs st small counted =
     }
 
 -- ---- a call that finds a list, behind what was judged since
-module _ {t : List ℕ} {sections : Sections} (ok : Accepted t sections) (H : Header) {q : List ℕ} {s : State} (x : NodeAsked q s) {e : State} {p n : ℕ} {g : List Given} {d : List Diag}
+module _ {t : List ℕ} {index : List ℕ} (ok : Accepted t index) (H : Header) {q : List ℕ} {s : State} (x : NodeAsked q s) {e : State} {p n : ℕ} {g : List Given} {d : List Diag}
     {b b₁ b₂ : List ℕ} (w : Reached s p n g d b b₁ e) (id : ℕ) (c : Callee) {begun : Begun} (list : ListIs (symbolsOf t) id (s .node) c e b₁ b₂ begun) (rs : Row) (many : ℕ)
     (st : Ats q rs p) (lg : RowLegal (x .names) rs) (counted : count rs ≡ many) (fits : many ≤ 16) (later : s .node < n) (room : n + sizes rs ≤ slotsFor (length q)) (few : s .count + length d + 2 ≤ mostAtNode * n) where
   before : Reached s p n g (d ++ atNode (s .node) (c .before)) b b₂ (begun .state)
@@ -192,11 +191,11 @@ module _ {t : List ℕ} {sections : Sections} (ok : Accepted t sections) (H : He
 pub record CallsFit (S : Symbols) : Type 0 where
   pub most : (owner id n : ℕ) (xs : List Arg) → length xs ≤ 16 → length (resolve S (S .functionsOf owner id) n xs .diags) ≤ mostDiagnostics
 
-pub calls-fit : (t : List ℕ) (s : Sections) → Accepted t s → CallsFit (symbolsOf t)
-calls-fit t s ok = record { most = λ owner id n xs h. call-few t s owner id n xs ok h }
+pub calls-fit : (t index : List ℕ) → Accepted t index → CallsFit (symbolsOf t)
+calls-fit t index ok = record { most = λ owner id n xs h. call-few t index owner id n xs ok h }
 
 -- ---- calls
-module _ {t : List ℕ} {sections : Sections} (ok : Accepted t sections) (fit : CallsFit (symbolsOf t)) (H : Header) {q : List ℕ} {s : State} (x : NodeAsked q s) (id many : ℕ) (h : nodeAt q (s .at) ≡ Call id many)
+module _ {t : List ℕ} {index : List ℕ} (ok : Accepted t index) (fit : CallsFit (symbolsOf t)) (H : Header) {q : List ℕ} {s : State} (x : NodeAsked q s) (id many : ℕ) (h : nodeAt q (s .at) ≡ Call id many)
     {s₁ : State} (i : s₁ ≡ insideOf s 4) (b b₁ : List ℕ) (begun : Begun) (is : BegunIs (symbolsOf t) id (s .node) (callOf (symbolsOf t) H id) s₁ b b₁ begun) where
   inside-call : Reached s (s .at + 4) (suc (s .node)) [] [] b b s₁
   inside-call =
@@ -282,7 +281,7 @@ module _ {t : List ℕ} {sections : Sections} (ok : Accepted t sections) (fit : 
           (λ m u k v. v) (ap (λ (z : Node). judge (symbolsOf t) H z (s .node)) e ∙ ap (λ (o : Option Callee). callStep (symbolsOf t) (s .node) o (judges (symbolsOf t) H rs (suc (s .node)))) found) (omega arith) (sym num) (omega arith) f
 
 -- ---- method calls
-module _ {t : List ℕ} {sections : Sections} (ok : Accepted t sections) (fit : CallsFit (symbolsOf t)) (H : Header) {q : List ℕ} {s : State} (x : NodeAsked q s) (id many : ℕ) (h : nodeAt q (s .at) ≡ Method id many)
+module _ {t : List ℕ} {index : List ℕ} (ok : Accepted t index) (fit : CallsFit (symbolsOf t)) (H : Header) {q : List ℕ} {s : State} (x : NodeAsked q s) (id many : ℕ) (h : nodeAt q (s .at) ≡ Method id many)
     {s₁ : State} (i : s₁ ≡ insideOf s 4) where
   pub asked-object : NodeAsked q s₁
   unfolding size Legal

@@ -29,8 +29,7 @@ use Rattle.rules.specs.Member.{memberOut}
 use Rattle.rules.specs.Out.{Out}
 use Rattle.rules.specs.Unary.{unaryOut}
 use Rattle.symbol.specs.Lookup.{symbolsOf}
-use Rattle.symbol.specs.Sections.{Accepted}
-use Rattle.symbol.specs.declared.checks.Sections.{Sections}
+use Rattle.symbol.specs.Accepted.{Accepted}
 use Rattle.ty.specs.Bytes.{Ty}
 use Rattle.typing.proofs.Length.{type-short}
 use Rattle.typing.proofs.Tables.{symbols-fit}
@@ -141,7 +140,7 @@ later {t} {H} {r = r} {p = p} {n = n} {c = c} w z =
     }
 
 -- ---- what a return leaves
-module _ {t : List ℕ} {sections : Sections} (ok : Accepted t sections) (H : Header) {q : List ℕ} {s : State} (x : NodeAsked q s) where
+module _ {t : List ℕ} {index : List ℕ} (ok : Accepted t index) (H : Header) {q : List ℕ} {s : State} (x : NodeAsked q s) where
   pub type-fits : length (judge (symbolsOf t) H (x .tree) (s .node) .ty) ≤ 256
   type-fits =
       omega (arith, type-short (symbolsOf t) (symbols-fit t (ok .clean)) H (x .tree) (s .node) (at-fits q (x .tree) (s .at) (x .stands)), x .room, slots-few (length q))

@@ -38,9 +38,9 @@ use Rattle.rules.specs.Ruled.{reportOf, outOf}
 use Rattle.rules.specs.declared.ruled.Ruled.{Ruled}
 use Rattle.symbol.specs.Answer.{FunctionIs, FunctionFound}
 use Rattle.symbol.specs.Symbols.{Overload, Symbols}
-use Rattle.symbol.specs.declared.lookups.Found.the-variants.{Nothing, Here}
-use Rattle.symbol.specs.declared.lookups.Found.{Found}
-use Rattle.symbol.specs.declared.lookups.Place.{Place}
+use Rattle.symbol.specs.declared.index.Found.the-variants.{Nothing, Here}
+use Rattle.symbol.specs.declared.index.Found.{Found}
+use Rattle.symbol.specs.declared.index.Place.{Place}
 use Rattle.ty.proofs.Choice.{by-choice}
 use Rattle.ty.specs.Bytes.{Ty, plainTy, sameBytes}
 use Rattle.ty.specs.Choose.{choose}
@@ -260,9 +260,9 @@ module _ {table a l : List ℕ} {node : ℕ} {row : RowJudged} {v : Verdict} {b 
   finish-called lent x y st f = finish lent (x .room) (x .short) (x .most) (rw (y .ty (slotOf a l node) (slotOf a l node)) at st) (y .reported) f
 
 -- ---- a search for functions
-module _ (t : List ℕ) (all : List Overload) (owner name : ℕ) where
-  pub found-none : (r : Found) → FunctionFound t all owner name r → r ≡ Nothing → all ≡ []
+module _ (t : List ℕ) (all : List Overload) where
+  pub found-none : (r : Found) → FunctionFound t all r → r ≡ Nothing → all ≡ []
   found-none r x e = rw e at x
 
-  pub found-here : (r : Found) (p : Place) → FunctionFound t all owner name r → r ≡ Here p → FunctionIs t all owner name p
+  pub found-here : (r : Found) (p : Place) → FunctionFound t all r → r ≡ Here p → FunctionIs t all p
   found-here r p x e = rw e at x

@@ -11,12 +11,11 @@ use Rattle.area.specs.Slot.{slotOf}
 use Rattle.judge.specs.declared.Answer.{Answer}
 use Rattle.judge.specs.declared.progress.State.{State}
 use Rattle.question.specs.Refused.{questionFault}
-use Rattle.symbol.specs.Sections.{checkedOf}
-use Rattle.symbol.specs.declared.checks.Checked.{Checked}
+use Rattle.symbol.specs.Accepted.{Accepted}
 use Rattle.ty.specs.Bytes.{Ty}
 use Rattle.ty.specs.Choose.{choose}
 use Rattle.typing.specs.Answer as of
-use Rattle.typing.specs.Answer.{answerBytes, zeros, refused, answerOf, bufferOf}
+use Rattle.typing.specs.Answer.{answerBytes, namesOf, zeros, refused, answerOf, bufferOf}
 
 -- number, pass mark, type in 256 bytes, its length, diagnostic count
 abbrev pub answerIs : Answer → of.Answer
@@ -27,11 +26,14 @@ pub record Answered (t q : List ℕ) (lent : ℕ) (r : Answer) (b : List ℕ) : 
   pub answer : answerIs r ≡ answerOf t q lent
   pub buffer : b ≡ bufferOf t q lent
 
--- the table and the question are accepted, and the buffer is all zero
-pub record Ready (t q : List ℕ) (c : Checked) (b : List ℕ) : Type 0 where
-  pub checked : c ≡ checkedOf t
-  pub table : c .number ≡ 0
-  pub question : questionFault (record { count = c .names }) q ≡ 0
+-- a table of at most so many bytes gets the small index
+abbrev pub shortTable : ℕ
+shortTable = 2048
+
+-- the table, whose index is x, and the question are accepted, and the buffer is all zero
+pub record Ready (t x q b : List ℕ) : Type 0 where
+  pub table : Accepted t x
+  pub question : questionFault (namesOf t) q ≡ 0
   pub clear : b ≡ zeros (length b)
 
 -- the pass mark of a whole judgement

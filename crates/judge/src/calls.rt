@@ -1,5 +1,4 @@
 // Calls and method calls, before and behind their arguments.
-use crate::progress::Known;
 use crate::progress::State;
 use crate::progress::finished;
 use area::Source;
@@ -9,9 +8,10 @@ use overload::args::Args;
 use overload::before::before_call;
 use overload::before::before_method;
 use overload::calls::check_call_args;
+use question::Header;
 use question::node::skip;
 use symbol::functions::read_function;
-use symbol::lookups::Found;
+use symbol::index::Found;
 use symbol::lookups::first_function;
 use ty::Kind;
 use ty::NameId;
@@ -24,7 +24,7 @@ ghost use Rattle.area.specs.Slot.{Lent, slotOf, slotCount};
 ghost use Rattle.overload.specs.Args.{argsIn};
 ghost use Rattle.overload.specs.Resolve.{resolve};
 ghost use Rattle.symbol.specs.Lookup.{symbolsOf};
-ghost use Rattle.symbol.specs.Sections.{Accepted};
+ghost use Rattle.symbol.specs.Accepted.{Accepted};
 ghost use mathlib.Core.Bool.{true, false};
 ghost use Rattle.ty.specs.Bytes.{plainTy};
 ghost use Rattle.ty.specs.Name.{noId};
@@ -82,22 +82,21 @@ fn listed(owner: u16, count: usize, s: State) -> Begun
 // A call of an ownerless function.
 pub fn begin_call(
     table: &[u8],
-    known: Known,
+    index: &[u16],
+    header: Header,
     id: u16,
     node: usize,
     s: State,
     buf: &mut [u8],
 ) -> Begun
-    requires { ⌜ Accepted (now table) (known .sections) × (s .count < countLimit) ⌝ }
-    ensures { λ r. ⌜ BegunIs (symbolsOf (now (table .entry))) id node (callOf (symbolsOf (now (table .entry))) (known .header) id) s (now (buf .entry)) (now (buf .exit)) r ⌝ }
+    requires { ⌜ Accepted (now table) (now index) × (s .count < countLimit) ⌝ }
+    ensures { λ r. ⌜ BegunIs (symbolsOf (now (table .entry))) id node (callOf (symbolsOf (now (table .entry))) header id) s (now (buf .entry)) (now (buf .exit)) r ⌝ }
 {
-    let sections = known.sections;
-    let header = known.header;
-    let found = first_function(table, sections, NameId::NONE, id);
+    let found = first_function(table, index, NameId::NONE, id);
     match found {
         Found::Nothing => no_list(s),
         Found::Here(_) => {
-            let count = before_call(table, sections, header, id, node, buf, s.count);
+            let count = before_call(table, index, header, id, node, buf, s.count);
             listed(NameId::NONE, count, s)
         }
     }
@@ -117,26 +116,25 @@ fn owner_of(area: &[u8], lens: &[usize], m: usize) -> Owner
 // A method call of a list of functions, if there is one.
 fn begin_owned(
     table: &[u8],
-    known: Known,
+    index: &[u16],
+    header: Header,
     owner: u16,
     id: u16,
     node: usize,
     s: State,
     buf: &mut [u8],
 ) -> Begun
-    requires { ⌜ Accepted (now table) (known .sections) × (s .count + 2 ≤ countLimit) ⌝ }
-    ensures { λ r. ⌜ BegunIs (symbolsOf (now (table .entry))) id node (methodIn (symbolsOf (now (table .entry))) (known .header) owner id (symbolsOf (now (table .entry)) .functionsOf owner id)) s (now (buf .entry)) (now (buf .exit)) r ⌝ }
+    requires { ⌜ Accepted (now table) (now index) × (s .count + 2 ≤ countLimit) ⌝ }
+    ensures { λ r. ⌜ BegunIs (symbolsOf (now (table .entry))) id node (methodIn (symbolsOf (now (table .entry))) header owner id (symbolsOf (now (table .entry)) .functionsOf owner id)) s (now (buf .entry)) (now (buf .exit)) r ⌝ }
 {
-    let sections = known.sections;
-    let header = known.header;
-    let found = first_function(table, sections, owner, id);
+    let found = first_function(table, index, owner, id);
     match found {
         Found::Nothing => no_list(s),
         Found::Here(p) => {
             let f = read_function(table, p);
             let count = before_method(
                 table,
-                sections,
+                index,
                 header,
                 f.visibility,
                 owner,
@@ -153,7 +151,8 @@ fn begin_owned(
 // A method call; its object's type lies in the slot behind the call's.
 pub fn begin_method(
     table: &[u8],
-    known: Known,
+    index: &[u16],
+    header: Header,
     id: u16,
     node: usize,
     s: State,
@@ -161,12 +160,12 @@ pub fn begin_method(
     lens: &[usize],
     buf: &mut [u8],
 ) -> Begun
-    requires { ⌜ Accepted (now table) (known .sections) × (node < slotCount) × (s .count + 2 ≤ countLimit) ⌝ }
-    ensures { λ r. ⌜ BegunIs (symbolsOf (now (table .entry))) id node (methodOf (symbolsOf (now (table .entry))) (known .header) id (slotOf (now (area .entry)) (now (lens .entry)) (node + 1))) s (now (buf .entry)) (now (buf .exit)) r ⌝ }
+    requires { ⌜ Accepted (now table) (now index) × (node < slotCount) × (s .count + 2 ≤ countLimit) ⌝ }
+    ensures { λ r. ⌜ BegunIs (symbolsOf (now (table .entry))) id node (methodOf (symbolsOf (now (table .entry))) header id (slotOf (now (area .entry)) (now (lens .entry)) (node + 1))) s (now (buf .entry)) (now (buf .exit)) r ⌝ }
 {
     let owner = owner_of(area, lens, node + 1);
     if owner.named {
-        return begin_owned(table, known, owner.id, id, node, s, buf);
+        return begin_owned(table, index, header, owner.id, id, node, s, buf);
     }
     no_list(s)
 }
@@ -199,7 +198,7 @@ pub fn unlisted(
 // A call of a list of functions, once its arguments are judged.
 pub fn finish_call(
     table: &[u8],
-    known: Known,
+    index: &[u16],
     owner: u16,
     id: u16,
     node: usize,
@@ -208,15 +207,14 @@ pub fn finish_call(
     lens: &mut [usize],
     buf: &mut [u8],
 ) -> State
-    requires { ⌜ Lent (now area) (now lens) × Accepted (now table) (known .sections) × CallAsked (now lens) node row (resolve (symbolsOf (now table)) (symbolsOf (now table) .functionsOf owner id) node (argsIn (now area) (now lens) (row .args))) ⌝ }
+    requires { ⌜ Lent (now area) (now lens) × Accepted (now table) (now index) × CallAsked (now lens) node row (resolve (symbolsOf (now table)) (symbolsOf (now table) .functionsOf owner id) node (argsIn (now area) (now lens) (row .args))) ⌝ }
     ensures { λ r. ⌜ Finished (row .state) node (resolve (symbolsOf (now (table .entry))) (symbolsOf (now (table .entry)) .functionsOf owner id) node (argsIn (now (area .entry)) (now (lens .entry)) (row .args)) .ty) (resolve (symbolsOf (now (table .entry))) (symbolsOf (now (table .entry)) .functionsOf owner id) node (argsIn (now (area .entry)) (now (lens .entry)) (row .args)) .diags) (now (area .entry)) (now (area .exit)) (now (lens .entry)) (now (lens .exit)) (now (buf .entry)) (now (buf .exit)) r ⌝ }
 {
-    let sections = known.sections;
     let args = row.args;
     let s = row.state;
     let called = check_call_args(
         table,
-        sections,
+        index,
         owner,
         id,
         node,

@@ -8,23 +8,22 @@ use area::clear;
 use area::copy_out;
 use area::slot;
 use cycle::judge_node;
-use progress::Known;
 use progress::State;
 use question::Names;
 use question::check_question;
 use question::read_header;
-use symbol::checks::Checked;
 use symbol::checks::check_table;
 ghost use mathlib.Core.Path.{_≡_};
 ghost use Prim.Native.Nat.{_≤_, _<_};
 ghost use lib.ListN.{length};
 ghost use Rattle.area.specs.Slot.{Lent};
 ghost use Rattle.question.specs.Refused.{questionFault};
+ghost use Rattle.symbol.specs.Accepted.{IndexRoom};
 ghost use Rattle.symbol.specs.Refused.{tableFault};
-ghost use Rattle.typing.specs.Answer.{namesOf, refused as refusedAs};
+ghost use Rattle.typing.specs.Answer.{namesOf, zeros, refused as refusedAs};
 ghost use Rattle.typing.specs.Demand1.{Demand1};
 ghost use Rattle.typing.specs.Demand3.{Demand3};
-ghost use Rattle.judge.specs.Answer.{answerIs, Answered, Ready, markIs, rootNumber, RootIs};
+ghost use Rattle.judge.specs.Answer.{answerIs, Answered, Ready, shortTable, markIs, rootNumber, RootIs};
 ghost use Rattle.judge.specs.Contract.{Space, shortQuestion};
 
 // The answer: refusal number (0 for none), pass mark, the type in 256 bytes with zeros behind its length, that length, and how many diagnostics there are.
@@ -35,6 +34,9 @@ pub struct Answer {
     pub len: usize,
     pub count: usize,
 }
+
+// A table of so many bytes has a small index.
+const SHORT_TABLE: usize = 2048;
 
 // A question of so many bytes has at most 8 nodes.
 const SHORT_QUESTION: usize = 21;
@@ -100,67 +102,72 @@ fn answer_root(s: State, area: &[u8], lens: &[usize], diagnostics: &mut [u8]) ->
 // Judges an accepted question in an area that is lent.
 fn judge_in(
     table: &[u8],
+    index: &[u16],
     question: &[u8],
-    checked: Checked,
     area: &mut [u8],
     lens: &mut [usize],
     diagnostics: &mut [u8],
 ) -> Answer
-    requires { ⌜ Space (now question) (now area) (now lens) × Ready (now table) (now question) checked (now diagnostics) ⌝ }
+    requires { ⌜ Space (now question) (now area) (now lens) × Ready (now table) (now index) (now question) (now diagnostics) ⌝ }
     ensures { λ r. ⌜ Answered (now (table .entry)) (now (question .entry)) (length (now (diagnostics .entry))) r (now (diagnostics .exit)) ⌝ }
 {
-    let sections = checked.sections;
     let header = read_header(question);
-    let known = Known { sections, header };
     let start = State {
         at: 5,
         node: 0,
         count: 0,
         fine: true,
     };
-    let s = judge_node(table, question, known, start, area, lens, diagnostics);
+    let s = judge_node(
+        table,
+        index,
+        question,
+        header,
+        start,
+        area,
+        lens,
+        diagnostics,
+    );
     answer_root(s, area, lens, diagnostics)
 }
 
 // Judges an accepted question with slots for 8 nodes.
-fn judge_few(table: &[u8], question: &[u8], checked: Checked, diagnostics: &mut [u8]) -> Answer
-    requires { ⌜ Ready (now table) (now question) checked (now diagnostics) × (length (now question) ≤ shortQuestion) ⌝ }
+fn judge_few(table: &[u8], index: &[u16], question: &[u8], diagnostics: &mut [u8]) -> Answer
+    requires { ⌜ Ready (now table) (now index) (now question) (now diagnostics) × (length (now question) ≤ shortQuestion) ⌝ }
     ensures { λ r. ⌜ Answered (now (table .entry)) (now (question .entry)) (length (now (diagnostics .entry))) r (now (diagnostics .exit)) ⌝ }
 {
     let mut area = [0u8; 2048];
     let mut lens = [0usize; 8];
-    judge_in(table, question, checked, &mut area, &mut lens, diagnostics)
+    judge_in(table, index, question, &mut area, &mut lens, diagnostics)
 }
 
 // Judges an accepted question with slots for 64 nodes.
-fn judge_many(table: &[u8], question: &[u8], checked: Checked, diagnostics: &mut [u8]) -> Answer
-    requires { ⌜ Ready (now table) (now question) checked (now diagnostics) ⌝ }
+fn judge_many(table: &[u8], index: &[u16], question: &[u8], diagnostics: &mut [u8]) -> Answer
+    requires { ⌜ Ready (now table) (now index) (now question) (now diagnostics) ⌝ }
     ensures { λ r. ⌜ Answered (now (table .entry)) (now (question .entry)) (length (now (diagnostics .entry))) r (now (diagnostics .exit)) ⌝ }
 {
     let mut area = [0u8; 16384];
     let mut lens = [0usize; 64];
-    judge_in(table, question, checked, &mut area, &mut lens, diagnostics)
+    judge_in(table, index, question, &mut area, &mut lens, diagnostics)
 }
 
-// Judges an accepted question. The area is made once the table's check has given back its own memory, and little is cleared for a short question.
-fn judge_accepted(table: &[u8], question: &[u8], checked: Checked, diagnostics: &mut [u8]) -> Answer
-    requires { ⌜ Ready (now table) (now question) checked (now diagnostics) ⌝ }
+// Judges an accepted question; little is cleared for a short one.
+fn judge_accepted(table: &[u8], index: &[u16], question: &[u8], diagnostics: &mut [u8]) -> Answer
+    requires { ⌜ Ready (now table) (now index) (now question) (now diagnostics) ⌝ }
     ensures { λ r. ⌜ Answered (now (table .entry)) (now (question .entry)) (length (now (diagnostics .entry))) r (now (diagnostics .exit)) ⌝ }
 {
     if question.len() <= SHORT_QUESTION {
-        return judge_few(table, question, checked, diagnostics);
+        return judge_few(table, index, question, diagnostics);
     }
-    judge_many(table, question, checked, diagnostics)
+    judge_many(table, index, question, diagnostics)
 }
 
-// Judges a question against a table: the answer, and the diagnostics in the lent buffer.
-pub fn judge(table: &[u8], question: &[u8], diagnostics: &mut [u8]) -> Answer
+// Judges a question against a table, whose index is made in what is lent for it.
+fn judge_with(table: &[u8], index: &mut [u16], question: &[u8], diagnostics: &mut [u8]) -> Answer
+    requires { ⌜ IndexRoom (now table) (now index) × (now diagnostics ≡ zeros (length (now diagnostics))) ⌝ }
     ensures { λ r. ⌜ Answered (now (table .entry)) (now (question .entry)) (length (now (diagnostics .entry))) r (now (diagnostics .exit)) ⌝ }
-    ensures { λ r. ⌜ Demand1 (now (table .entry)) (now (question .entry)) (length (now (diagnostics .entry))) (answerIs r) (now (diagnostics .exit)) ⌝ }
-    ensures { λ r. ⌜ (tableFault (now (table .entry)) ≡ 0 → questionFault (namesOf (now (table .entry))) (now (question .entry)) ≡ 0 → Demand3 (now (table .entry)) (now (question .entry)) (length (now (diagnostics .entry))) (answerIs r) (now (diagnostics .exit))) ⌝ }
 {
-    clear(diagnostics);
-    let checked = check_table(table);
+    let checked = check_table(table, index);
     if checked.number != 0 {
         return refused(checked.number);
     }
@@ -173,5 +180,36 @@ pub fn judge(table: &[u8], question: &[u8], diagnostics: &mut [u8]) -> Answer
     if number != 0 {
         return refused(number);
     }
-    judge_accepted(table, question, checked, diagnostics)
+    judge_accepted(table, index, question, diagnostics)
+}
+
+// Judges a question against a short table; 923 entries are enough for its index.
+fn judge_short(table: &[u8], question: &[u8], diagnostics: &mut [u8]) -> Answer
+    requires { ⌜ (length (now table) ≤ shortTable) × (now diagnostics ≡ zeros (length (now diagnostics))) ⌝ }
+    ensures { λ r. ⌜ Answered (now (table .entry)) (now (question .entry)) (length (now (diagnostics .entry))) r (now (diagnostics .exit)) ⌝ }
+{
+    let mut index = [0u16; 923];
+    judge_with(table, &mut index, question, diagnostics)
+}
+
+// Judges a question against a table; 20,194 entries are enough for the index of the longest.
+fn judge_long(table: &[u8], question: &[u8], diagnostics: &mut [u8]) -> Answer
+    requires { ⌜ now diagnostics ≡ zeros (length (now diagnostics)) ⌝ }
+    ensures { λ r. ⌜ Answered (now (table .entry)) (now (question .entry)) (length (now (diagnostics .entry))) r (now (diagnostics .exit)) ⌝ }
+{
+    let mut index = [0u16; 20194];
+    judge_with(table, &mut index, question, diagnostics)
+}
+
+// Judges a question against a table: the answer, and the diagnostics in the lent buffer. Little is cleared for a short table.
+pub fn judge(table: &[u8], question: &[u8], diagnostics: &mut [u8]) -> Answer
+    ensures { λ r. ⌜ Answered (now (table .entry)) (now (question .entry)) (length (now (diagnostics .entry))) r (now (diagnostics .exit)) ⌝ }
+    ensures { λ r. ⌜ Demand1 (now (table .entry)) (now (question .entry)) (length (now (diagnostics .entry))) (answerIs r) (now (diagnostics .exit)) ⌝ }
+    ensures { λ r. ⌜ (tableFault (now (table .entry)) ≡ 0 → questionFault (namesOf (now (table .entry))) (now (question .entry)) ≡ 0 → Demand3 (now (table .entry)) (now (question .entry)) (length (now (diagnostics .entry))) (answerIs r) (now (diagnostics .exit))) ⌝ }
+{
+    clear(diagnostics);
+    if table.len() <= SHORT_TABLE {
+        return judge_short(table, question, diagnostics);
+    }
+    judge_long(table, question, diagnostics)
 }

@@ -1,22 +1,14 @@
-// How far a judgement is, and what it knows.
+// How far a judgement is.
 use area::is_error;
 use area::slot;
-use question::Header;
 use question::node::NodeRead;
 use question::node::node_at;
-use symbol::checks::Sections;
 use ty::NameId;
 ghost use mathlib.Core.Path.{_≡_};
 ghost use Prim.Native.Nat.{_+_, _≤_, _<_};
 ghost use Rattle.area.specs.Slot.{slotOf, slotCount};
 ghost use Rattle.judge.specs.Progress.{insideOf, finishedAs};
 ghost use Rattle.judge.specs.Row.{nameAt};
-
-// What is known before a question's tree is judged: the table's sections and the question's header.
-pub struct Known {
-    pub sections: Sections,
-    pub header: Header,
-}
 
 // How far a judgement is: the next position in the question, the next node's number, how many diagnostics were reported, and whether no finished node is Error.
 pub struct State {

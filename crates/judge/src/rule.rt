@@ -1,5 +1,4 @@
 // Nodes whose type goes by their children's types: leaves, named arguments, operators and members.
-use crate::progress::Known;
 use crate::progress::State;
 use crate::progress::finished;
 use crate::progress::inside;
@@ -8,6 +7,7 @@ use area::report;
 use area::slot;
 use area::store;
 use area::store_part;
+use question::Header;
 use rules::binary::check_binary;
 use rules::member::check_member;
 use rules::ruled::Diagnostic;
@@ -26,7 +26,7 @@ ghost use Rattle.rules.specs.Member.{memberOut};
 ghost use Rattle.rules.specs.Ruled.{reportOf, outOf};
 ghost use Rattle.rules.specs.Unary.{unaryOut};
 ghost use Rattle.symbol.specs.Lookup.{symbolsOf};
-ghost use Rattle.symbol.specs.Sections.{Accepted};
+ghost use Rattle.symbol.specs.Accepted.{Accepted};
 ghost use Rattle.judge.specs.Progress.{insideOf, Finished};
 ghost use Rattle.judge.specs.Rule.{RuleAsked, LeafAsked};
 
@@ -94,20 +94,19 @@ fn finish_rule(
 
 fn binary_rule(
     table: &[u8],
-    known: Known,
+    index: &[u16],
     op: u8,
     first: usize,
     second: usize,
     area: &[u8],
     lens: &[usize],
 ) -> Ruled
-    requires { ⌜ Accepted (now table) (known .sections) ⌝ }
+    requires { ⌜ Accepted (now table) (now index) ⌝ }
     ensures { λ r. ⌜ outOf (now (table .entry)) (slotOf (now (area .entry)) (now (lens .entry)) first) (slotOf (now (area .entry)) (now (lens .entry)) second) r ≡ binaryOut (symbolsOf (now (table .entry))) op (slotOf (now (area .entry)) (now (lens .entry)) first) (slotOf (now (area .entry)) (now (lens .entry)) second) ⌝ }
 {
-    let sections = known.sections;
     check_binary(
         table,
-        sections,
+        index,
         op,
         slot(area, lens, first),
         slot(area, lens, second),
@@ -117,7 +116,7 @@ fn binary_rule(
 // A binary operator; the right operand's number is `second`.
 pub fn finish_binary(
     table: &[u8],
-    known: Known,
+    index: &[u16],
     op: u8,
     node: usize,
     second: usize,
@@ -126,10 +125,10 @@ pub fn finish_binary(
     lens: &mut [usize],
     buf: &mut [u8],
 ) -> State
-    requires { ⌜ Accepted (now table) (known .sections) × RuleAsked (now area) (now lens) node second s (binaryOut (symbolsOf (now table)) op (slotOf (now area) (now lens) (node + 1)) (slotOf (now area) (now lens) second)) ⌝ }
+    requires { ⌜ Accepted (now table) (now index) × RuleAsked (now area) (now lens) node second s (binaryOut (symbolsOf (now table)) op (slotOf (now area) (now lens) (node + 1)) (slotOf (now area) (now lens) second)) ⌝ }
     ensures { λ r. ⌜ Finished s node (binaryOut (symbolsOf (now (table .entry))) op (slotOf (now (area .entry)) (now (lens .entry)) (node + 1)) (slotOf (now (area .entry)) (now (lens .entry)) second) .ty) (atNode node (binaryOut (symbolsOf (now (table .entry))) op (slotOf (now (area .entry)) (now (lens .entry)) (node + 1)) (slotOf (now (area .entry)) (now (lens .entry)) second) .reports)) (now (area .entry)) (now (area .exit)) (now (lens .entry)) (now (lens .exit)) (now (buf .entry)) (now (buf .exit)) r ⌝ }
 {
-    let ruled = binary_rule(table, known, op, node + 1, second, area, lens);
+    let ruled = binary_rule(table, index, op, node + 1, second, area, lens);
     finish_rule(table, ruled, node, second, s, area, lens, buf)
 }
 
@@ -159,24 +158,24 @@ pub fn finish_unary(
 
 fn member_rule(
     table: &[u8],
-    known: Known,
+    index: &[u16],
+    header: Header,
     id: u16,
     first: usize,
     area: &[u8],
     lens: &[usize],
 ) -> Ruled
-    requires { ⌜ Accepted (now table) (known .sections) ⌝ }
-    ensures { λ r. ⌜ ((y : List ℕ) → outOf (now (table .entry)) (slotOf (now (area .entry)) (now (lens .entry)) first) y r ≡ memberOut (symbolsOf (now (table .entry))) (known .header) id (slotOf (now (area .entry)) (now (lens .entry)) first)) ⌝ }
+    requires { ⌜ Accepted (now table) (now index) ⌝ }
+    ensures { λ r. ⌜ ((y : List ℕ) → outOf (now (table .entry)) (slotOf (now (area .entry)) (now (lens .entry)) first) y r ≡ memberOut (symbolsOf (now (table .entry))) header id (slotOf (now (area .entry)) (now (lens .entry)) first)) ⌝ }
 {
-    let sections = known.sections;
-    let header = known.header;
-    check_member(table, sections, header, id, slot(area, lens, first))
+    check_member(table, index, header, id, slot(area, lens, first))
 }
 
 // A member of an object.
 pub fn finish_member(
     table: &[u8],
-    known: Known,
+    index: &[u16],
+    header: Header,
     id: u16,
     node: usize,
     s: State,
@@ -184,10 +183,10 @@ pub fn finish_member(
     lens: &mut [usize],
     buf: &mut [u8],
 ) -> State
-    requires { ⌜ Accepted (now table) (known .sections) × RuleAsked (now area) (now lens) node (node + 1) s (memberOut (symbolsOf (now table)) (known .header) id (slotOf (now area) (now lens) (node + 1))) ⌝ }
-    ensures { λ r. ⌜ Finished s node (memberOut (symbolsOf (now (table .entry))) (known .header) id (slotOf (now (area .entry)) (now (lens .entry)) (node + 1)) .ty) (atNode node (memberOut (symbolsOf (now (table .entry))) (known .header) id (slotOf (now (area .entry)) (now (lens .entry)) (node + 1)) .reports)) (now (area .entry)) (now (area .exit)) (now (lens .entry)) (now (lens .exit)) (now (buf .entry)) (now (buf .exit)) r ⌝ }
+    requires { ⌜ Accepted (now table) (now index) × RuleAsked (now area) (now lens) node (node + 1) s (memberOut (symbolsOf (now table)) header id (slotOf (now area) (now lens) (node + 1))) ⌝ }
+    ensures { λ r. ⌜ Finished s node (memberOut (symbolsOf (now (table .entry))) header id (slotOf (now (area .entry)) (now (lens .entry)) (node + 1)) .ty) (atNode node (memberOut (symbolsOf (now (table .entry))) header id (slotOf (now (area .entry)) (now (lens .entry)) (node + 1)) .reports)) (now (area .entry)) (now (area .exit)) (now (lens .entry)) (now (lens .exit)) (now (buf .entry)) (now (buf .exit)) r ⌝ }
 {
     let first = node + 1;
-    let ruled = member_rule(table, known, id, first, area, lens);
+    let ruled = member_rule(table, index, header, id, first, area, lens);
     finish_rule(table, ruled, node, first, s, area, lens, buf)
 }

@@ -21,10 +21,9 @@ use Rattle.rules.specs.Access.{accessReport}
 use Rattle.rules.specs.Diag.{diag, at}
 use Rattle.rules.specs.Diagnostic.{noMatchDiag}
 use Rattle.rules.specs.Out.{Report, unless}
+use Rattle.symbol.specs.Accepted.{Accepted}
 use Rattle.symbol.specs.Lookup.{symbolsOf}
-use Rattle.symbol.specs.Sections.{Accepted}
 use Rattle.symbol.specs.Symbols.{Overload, Symbols}
-use Rattle.symbol.specs.declared.checks.Sections.{Sections}
 use Rattle.ty.proofs.Choice.{by-choice}
 
 tie-few : (n many : ℕ) → length (tieReport n many) ≤ 1
@@ -57,10 +56,10 @@ module _ (S : Symbols) (xs : List Arg) (short : length xs ≤ 16) where
       go (v ∷ vs) h = omega (arith, settle-few n v vs (chosen S nobody (v ∷ vs) xs))
 
 -- a call in an accepted table
-pub call-few : (t : List ℕ) (s : Sections) (owner id n : ℕ) (xs : List Arg) → Accepted t s → length xs ≤ 16
+pub call-few : (t x : List ℕ) (owner id n : ℕ) (xs : List Arg) → Accepted t x → length xs ≤ 16
     → length (resolve (symbolsOf t) (symbolsOf t .functionsOf owner id) n xs .diags) ≤ mostDiagnostics
-call-few t s owner id n xs h short =
-    omega (arith, resolve-few (symbolsOf t) xs short (symbolsOf t .functionsOf owner id) n, functions-few t s owner id h)
+call-few t x owner id n xs h short =
+    omega (arith, resolve-few (symbolsOf t) xs short (symbolsOf t .functionsOf owner id) n, functions-few t x owner id h)
 
 -- before the arguments
 suspend-few : (S : Symbols) (H : Header) (owner id n : ℕ) → length (at n (suspendReport S H owner id)) ≤ 1

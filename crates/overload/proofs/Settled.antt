@@ -25,9 +25,9 @@ use Rattle.rules.specs.Out.{errorTy}
 use Rattle.symbol.specs.Answer.{FunctionRead, overloadAt, overloadIn}
 use Rattle.symbol.specs.Symbols.{Overload, Symbols}
 use Rattle.symbol.specs.declared.functions.Function.{Function}
-use Rattle.symbol.specs.declared.lookups.Found.the-variants.{Nothing, Here}
-use Rattle.symbol.specs.declared.lookups.Found.{Found}
-use Rattle.symbol.specs.declared.lookups.Place.{Place}
+use Rattle.symbol.specs.declared.index.Found.the-variants.{Nothing, Here}
+use Rattle.symbol.specs.declared.index.Found.{Found}
+use Rattle.symbol.specs.declared.index.Place.{Place}
 use Rattle.ty.specs.Kind.{errorKind}
 
 -- Error

@@ -19,9 +19,9 @@ use Rattle.overload.specs.declared.calls.Highest.{Highest}
 use Rattle.overload.specs.declared.calls.Tally.{Tally}
 use Rattle.symbol.specs.Answer.{FunctionAt, overloadAt}
 use Rattle.symbol.specs.Symbols.{Overload, Symbols}
-use Rattle.symbol.specs.declared.lookups.Found.the-variants.{Nothing, Here}
-use Rattle.symbol.specs.declared.lookups.Found.{Found}
-use Rattle.symbol.specs.declared.lookups.Place.{Place}
+use Rattle.symbol.specs.declared.index.Found.the-variants.{Nothing, Here}
+use Rattle.symbol.specs.declared.index.Found.{Found}
+use Rattle.symbol.specs.declared.index.Place.{Place}
 
 module _ (t : List ℕ) (p : Place) where
   first-more : (vs : List Overload) (f : Found) → FirstIs t vs f → FirstIs t (vs ++ (overloadAt t p ∷ [])) (firstOf f p)

@@ -15,9 +15,9 @@ use Rattle.rules.specs.Diagnostic.{mismatchDiag}
 use Rattle.rules.specs.Diag.{diag}
 use Rattle.rules.specs.Assign.{assigns}
 use Rattle.rules.specs.Accept.{isTypeVariable, paramAccepts}
-use Rattle.overload.specs.Arg.{Arg, Verdict}
+use Rattle.overload.specs.Arg.{Arg}
 use Rattle.overload.specs.Arity.{anyOwn, usable, fitting, lastVararg}
-use Rattle.overload.specs.Score.{paramOf, free, plus, compared, comparedWith, namedOne, namedScore, unnamedOne, unnamedScore, score}
+use Rattle.overload.specs.Score.{paramOf, free, compared, comparedWith, namedOne, namedScore, unnamedOne, unnamedScore, score}
 use Rattle.overload.specs.Best.{Best, nobody, best, better, chosen}
 use Rattle.overload.specs.ByIndex.{allUnknown}
 use Rattle.overload.specs.Resolve.{tieReport, settle, resolveIn, resolve}

@@ -16,18 +16,16 @@ use Rattle.overload.specs.Resolve.{resolveIn, resolve}
 use Rattle.overload.specs.Tally.{taken, picked, mostDiagnostics, Room, TallyIs, CalledIs}
 use Rattle.overload.specs.declared.calls.Called.{Called}
 use Rattle.overload.specs.declared.calls.Tally.{Tally}
-use Rattle.symbol.specs.Answer.{FunctionAt, FunctionIs, FunctionFound, FunctionRead, functionsFrom, overloadAt}
+use Rattle.symbol.specs.Accepted.{Accepted}
+use Rattle.symbol.specs.Answer.{FunctionAt, FunctionIs, FunctionFound, functionsBehind, overloadAt}
 use Rattle.symbol.specs.Front.{headOf}
 use Rattle.symbol.specs.Lookup.{recordsWith, overloadOf, symbolsIn, symbolsOf}
 use Rattle.symbol.specs.Refused.{faultFrom, tableFault}
-use Rattle.symbol.specs.Sections.{Accepted}
 use Rattle.symbol.specs.Symbols.{Overload, Symbols}
 use Rattle.symbol.specs.Table.{Record, recordsFrom, recordsOf}
-use Rattle.symbol.specs.declared.checks.Sections.{Sections}
-use Rattle.symbol.specs.declared.functions.Function.{Function}
-use Rattle.symbol.specs.declared.lookups.Found.the-variants.{Nothing, Here}
-use Rattle.symbol.specs.declared.lookups.Found.{Found}
-use Rattle.symbol.specs.declared.lookups.Place.{Place}
+use Rattle.symbol.specs.declared.index.Found.the-variants.{Nothing, Here}
+use Rattle.symbol.specs.declared.index.Found.{Found}
+use Rattle.symbol.specs.declared.index.Place.{Place}
 use Rattle.ty.proofs.Choice.{by-choice}
 use Rattle.ty.specs.Choose.{choose}
 
@@ -54,63 +52,63 @@ table-short t e = go (ltb 60000 (length t)) refl e
     go false f e′ = ltb-false 60000 (length t) f
 
 -- in an accepted table
-pub functions-few : (t : List ℕ) (s : Sections) (owner id : ℕ) → Accepted t s → length (symbolsOf t .functionsOf owner id) ≤ 60000
+pub functions-few : (t x : List ℕ) (owner id : ℕ) → Accepted t x → length (symbolsOf t .functionsOf owner id) ≤ 60000
 unfolding symbolsIn
-functions-few t s owner id h =
+functions-few t x owner id h =
     omega
     (arith, length-map (recordsWith 4 owner id (recordsOf t)) overloadOf, with-few 4 owner id (recordsOf t), records-few t 0, table-short t (h .clean))
 
 -- ---- how many functions are left
-unfoldable pub leftOf : List ℕ → ℕ → ℕ → Found → ℕ
-leftOf t owner id Nothing = 0
-leftOf t owner id (Here p) = suc (length (functionsFrom t (p .next) owner id))
+unfoldable pub leftOf : List ℕ → Found → ℕ
+leftOf t Nothing = 0
+leftOf t (Here p) = suc (length (functionsBehind t p))
 
-module _ (t : List ℕ) (owner id : ℕ) where
-  left-falls : (p : Place) (g : Found) → FunctionFound t (functionsFrom t (p .next) owner id) owner id g → leftOf t owner id g < leftOf t owner id (Here p)
+module _ (t : List ℕ) where
+  left-falls : (p : Place) (g : Found) → FunctionFound t (functionsBehind t p) g → leftOf t g < leftOf t (Here p)
   unfolding leftOf
   left-falls p Nothing w = omega arith
   left-falls p (Here q) w =
-      let e : length (functionsFrom t (p .next) owner id) ≡ suc (length (functionsFrom t (q .next) owner id)) = ap (λ (os : List Overload). length os) (w .first) in
+      let e : length (functionsBehind t p) ≡ suc (length (functionsBehind t q)) = ap (λ (os : List Overload). length os) (w .first) in
       omega arith
 
-  pub left-less : (f g : Found) (p : Place) → f ≡ Here p → FunctionFound t (functionsFrom t (p .next) owner id) owner id g → leftOf t owner id g < leftOf t owner id f
-  left-less f g p e w = subst (λ (z : Found). leftOf t owner id g < leftOf t owner id z) (sym e) (left-falls p g w)
+  pub left-less : (f g : Found) (p : Place) → f ≡ Here p → FunctionFound t (functionsBehind t p) g → leftOf t g < leftOf t f
+  left-less f g p e w = subst (λ (z : Found). leftOf t g < leftOf t z) (sym e) (left-falls p g w)
 
 -- ---- is one not a builtin?
-pub record OwnFrom (t : List ℕ) (owner id : ℕ) (all : List Overload) (f : Found) : Type 0 where
+pub record OwnFrom (t : List ℕ) (all : List Overload) (f : Found) : Type 0 where
   pub left : List Overload
-  pub rest : FunctionFound t left owner id f
+  pub rest : FunctionFound t left f
   pub same : anyOwn left ≡ anyOwn all
 
-module _ (t : List ℕ) (owner id : ℕ) (all : List Overload) where
-  pub own-start : (f : Found) → FunctionFound t all owner id f → OwnFrom t owner id all f
+module _ (t : List ℕ) (all : List Overload) where
+  pub own-start : (f : Found) → FunctionFound t all f → OwnFrom t all f
   own-start f w = record { left = all; rest = w; same = refl }
 
-  pub own-none : (f : Found) → f ≡ Nothing → OwnFrom t owner id all f → false ≡ anyOwn all
+  pub own-none : (f : Found) → f ≡ Nothing → OwnFrom t all f → false ≡ anyOwn all
   unfolding anyOwn
   own-none f e w =
-      let h : w .left ≡ [] = subst (λ (z : Found). FunctionFound t (w .left) owner id z) e (w .rest) in
+      let h : w .left ≡ [] = subst (λ (z : Found). FunctionFound t (w .left) z) e (w .rest) in
       sym (ap (λ (os : List Overload). anyOwn os) h) ∙ w .same
 
-  module _ (f : Found) (p : Place) (e : f ≡ Here p) (w : OwnFrom t owner id all f) where
-    own-is : FunctionIs t (w .left) owner id p
-    own-is = subst (λ (z : Found). FunctionFound t (w .left) owner id z) e (w .rest)
+  module _ (f : Found) (p : Place) (e : f ≡ Here p) (w : OwnFrom t all f) where
+    own-is : FunctionIs t (w .left) p
+    own-is = subst (λ (z : Found). FunctionFound t (w .left) z) e (w .rest)
 
     pub own-place : FunctionAt t p
     own-place = own-is .here
 
-    module _ (fn : Function) (read : FunctionRead t (overloadAt t p) fn) where
-      pub own-found : fn .builtin ≡ false → true ≡ anyOwn all
+    module _ (b : Bool) (read : b ≡ overloadAt t p .builtin) where
+      pub own-found : b ≡ false → true ≡ anyOwn all
       own-found h =
-          own-here (overloadAt t p) (functionsFrom t (p .next) owner id) (sym (ap (λ (o : Overload). o .builtin) (read .same)) ∙ h)
+          own-here (overloadAt t p) (functionsBehind t p) (sym read ∙ h)
           ∙ sym (ap (λ (os : List Overload). anyOwn os) (own-is .first)) ∙ w .same
 
-      pub own-on : fn .builtin ≡ true → (g : Found) → FunctionFound t (functionsFrom t (p .next) owner id) owner id g → OwnFrom t owner id all g
+      pub own-on : b ≡ true → (g : Found) → FunctionFound t (functionsBehind t p) g → OwnFrom t all g
       own-on h g v =
           record {
-            left = functionsFrom t (p .next) owner id;
+            left = functionsBehind t p;
             rest = v;
-            same = own-later (overloadAt t p) (functionsFrom t (p .next) owner id) (sym (ap (λ (o : Overload). o .builtin) (read .same)) ∙ h)
+            same = own-later (overloadAt t p) (functionsBehind t p) (sym read ∙ h)
                 ∙ sym (ap (λ (os : List Overload). anyOwn os) (own-is .first)) ∙ w .same;
           }
 
@@ -120,11 +118,11 @@ pub record Walking (t : List ℕ) (S : Symbols) (owner id : ℕ) (k : Bool) (n :
   pub done : List Overload
   pub left : List Overload
   pub all : done ++ left ≡ S .functionsOf owner id
-  pub rest : FunctionFound t left owner id f
+  pub rest : FunctionFound t left f
   pub tally : TallyIs t S xs b₀ n₀ b (picked k n done) w
 
 module _ (t : List ℕ) (S : Symbols) (owner id : ℕ) (k : Bool) (n : ℕ) (xs : List Arg) (b₀ : List ℕ) (n₀ : ℕ) where
-  pub walk-start : (f : Found) → FunctionFound t (S .functionsOf owner id) owner id f
+  pub walk-start : (f : Found) → FunctionFound t (S .functionsOf owner id) f
       → Walking t S owner id k n xs b₀ n₀ b₀ f (record { first = Nothing; fitting = 0; highest = record { matched = false; score = 0; many = 0; start = 0; len = 0 }; count = n₀ })
   unfolding picked
   walk-start f v = record { done = []; left = S .functionsOf owner id; all = refl; rest = v; tally = tally-start t S xs b₀ n₀ }
@@ -139,35 +137,35 @@ module _ (t : List ℕ) (S : Symbols) (owner id : ℕ) (k : Bool) (n : ℕ) (xs 
 
     pub walk-done : f ≡ Nothing → TallyIs t S xs b₀ n₀ b (picked k n (S .functionsOf owner id)) w
     walk-done e =
-        let h : is .left ≡ [] = subst (λ (z : Found). FunctionFound t (is .left) owner id z) e (is .rest) in
+        let h : is .left ≡ [] = subst (λ (z : Found). FunctionFound t (is .left) z) e (is .rest) in
         let d : is .done ≡ S .functionsOf owner id = sym (append-nil (is .done)) ∙ ap (λ (os : List Overload). is .done ++ os) (sym h) ∙ is .all in
         tally-as t S xs b₀ n₀ b (picked k n (is .done)) w (is .tally) _ (ap (λ (os : List Overload). picked k n os) d)
 
     module _ (p : Place) (e : f ≡ Here p) where
-      walk-is : FunctionIs t (is .left) owner id p
-      walk-is = subst (λ (z : Found). FunctionFound t (is .left) owner id z) e (is .rest)
+      walk-is : FunctionIs t (is .left) p
+      walk-is = subst (λ (z : Found). FunctionFound t (is .left) z) e (is .rest)
 
       pub walk-place : FunctionAt t p
       walk-place = walk-is .here
 
       pub walk-on : (b′ : List ℕ) (g : Found) (w′ : Tally) → TallyIs t S xs b₀ n₀ b′ (picked k n (is .done) ++ taken k n (overloadAt t p)) w′
-          → FunctionFound t (functionsFrom t (p .next) owner id) owner id g → Walking t S owner id k n xs b₀ n₀ b′ g w′
+          → FunctionFound t (functionsBehind t p) g → Walking t S owner id k n xs b₀ n₀ b′ g w′
       walk-on b′ g w′ tally v =
           record {
             done = is .done ++ (overloadAt t p ∷ []);
-            left = functionsFrom t (p .next) owner id;
-            all = append-assoc (is .done) (overloadAt t p ∷ []) (functionsFrom t (p .next) owner id)
+            left = functionsBehind t p;
+            all = append-assoc (is .done) (overloadAt t p ∷ []) (functionsBehind t p)
                 ∙ ap (λ (os : List Overload). is .done ++ os) (sym (walk-is .first)) ∙ is .all;
             rest = v;
             tally = tally-as t S xs b₀ n₀ b′ _ w′ tally _ (sym (picked-snoc k n (is .done) (overloadAt t p)));
           }
 
 -- no count wraps
-pub walked-room : (t : List ℕ) (s : Sections) (owner id : ℕ) (k : Bool) (n : ℕ) (xs : List Arg) (b₀ : List ℕ) (n₀ : ℕ) (b : List ℕ) (w : Tally) → Accepted t s
+pub walked-room : (t x : List ℕ) (owner id : ℕ) (k : Bool) (n : ℕ) (xs : List Arg) (b₀ : List ℕ) (n₀ : ℕ) (b : List ℕ) (w : Tally) → Accepted t x
     → TallyIs t (symbolsOf t) xs b₀ n₀ b (picked k n (symbolsOf t .functionsOf owner id)) w → length xs ≤ 16 → n₀ + mostDiagnostics ≤ countLimit → Room w
-walked-room t s owner id k n xs b₀ n₀ b w h is short room =
+walked-room t x owner id k n xs b₀ n₀ b w h is short room =
     tally-room t (symbolsOf t) xs b₀ n₀ b (picked k n (symbolsOf t .functionsOf owner id)) w is
-    (omega (arith, picked-few k n (symbolsOf t .functionsOf owner id), functions-few t s owner id h)) short room
+    (omega (arith, picked-few k n (symbolsOf t .functionsOf owner id), functions-few t x owner id h)) short room
 
 -- the list of the definition is the one that was walked
 pub resolved : (t : List ℕ) (S : Symbols) (os : List Overload) (node n : ℕ) (xs : List Arg) (b : List ℕ) (c : ℕ) (b′ : List ℕ) (r : Called) (k : Bool) → k ≡ anyOwn os

@@ -8,9 +8,9 @@ use Rattle.ty.specs.Choose.{choose}
 use Rattle.ty.specs.Bytes.{Ty}
 use Rattle.symbol.specs.Symbols.{Overload, Symbols}
 use Rattle.symbol.specs.Answer.{FunctionAt, overloadAt}
-use Rattle.symbol.specs.declared.lookups.Place.{Place}
-use Rattle.symbol.specs.declared.lookups.Found.{Found}
-use Rattle.symbol.specs.declared.lookups.Found.the-variants.{Nothing, Here}
+use Rattle.symbol.specs.declared.index.Place.{Place}
+use Rattle.symbol.specs.declared.index.Found.{Found}
+use Rattle.symbol.specs.declared.index.Found.the-variants.{Nothing, Here}
 use Rattle.area.specs.Diagnostic.{countLimit}
 use Rattle.area.specs.Source.{typeFrom, Reads}
 use Rattle.overload.specs.Arg.{Arg, Verdict}

@@ -2,13 +2,11 @@
 use area::report;
 use question::Header;
 use rules::access::check_access;
-use symbol::checks::Sections;
 use symbol::lookups::is_suspend;
 use ty::NameId;
 ghost use Prim.Native.Nat.{_+_, _≤_, _<_};
-ghost use mathlib.Core.Path.{_≡_};
 ghost use Rattle.area.specs.Diagnostic.{countLimit};
-ghost use Rattle.symbol.specs.Sections.{Accepted};
+ghost use Rattle.symbol.specs.Accepted.{Accepted};
 ghost use Rattle.symbol.specs.Lookup.{symbolsOf};
 ghost use Rattle.rules.specs.Diag.{at as atNode};
 ghost use Rattle.rules.specs.Access.{accessReport};
@@ -18,7 +16,7 @@ ghost use Rattle.overload.specs.Reported.{Reported};
 // A suspend function called from outside of one.
 fn report_suspend(
     table: &[u8],
-    sections: Sections,
+    index: &[u16],
     header: Header,
     owner: u16,
     id: u16,
@@ -26,10 +24,10 @@ fn report_suspend(
     buf: &mut [u8],
     count: usize,
 ) -> usize
-    requires { ⌜ Accepted (now table) sections × (count < countLimit) ⌝ }
+    requires { ⌜ Accepted (now table) (now index) × (count < countLimit) ⌝ }
     ensures { λ r. ⌜ Reported (now (buf .entry)) count (now (buf .exit)) r (atNode node (suspendReport (symbolsOf (now (table .entry))) header owner id)) ⌝ }
 {
-    if header.suspend | !is_suspend(table, sections, owner, id) {
+    if header.suspend | !is_suspend(table, index, owner, id) {
         return count;
     }
     report(buf, count, 14, node, 0)
@@ -38,7 +36,7 @@ fn report_suspend(
 // A function that the script may not access.
 fn report_access(
     table: &[u8],
-    sections: Sections,
+    index: &[u16],
     header: Header,
     vis: u8,
     owner: u16,
@@ -46,10 +44,10 @@ fn report_access(
     buf: &mut [u8],
     count: usize,
 ) -> usize
-    requires { ⌜ Accepted (now table) sections × (count < countLimit) ⌝ }
+    requires { ⌜ Accepted (now table) (now index) × (count < countLimit) ⌝ }
     ensures { λ r. ⌜ Reported (now (buf .entry)) count (now (buf .exit)) r (atNode node (accessReport (symbolsOf (now (table .entry))) header vis owner)) ⌝ }
 {
-    if check_access(table, sections, header, vis, owner) {
+    if check_access(table, index, header, vis, owner) {
         return report(buf, count, 20, node, vis as usize);
     }
     count
@@ -58,23 +56,23 @@ fn report_access(
 // What a call of an ownerless function reports before its arguments are visited; answers the new count.
 pub fn before_call(
     table: &[u8],
-    sections: Sections,
+    index: &[u16],
     header: Header,
     id: u16,
     node: usize,
     buf: &mut [u8],
     count: usize,
 ) -> usize
-    requires { ⌜ Accepted (now table) sections × (count < countLimit) ⌝ }
+    requires { ⌜ Accepted (now table) (now index) × (count < countLimit) ⌝ }
     ensures { λ r. ⌜ Reported (now (buf .entry)) count (now (buf .exit)) r (atNode node (callReports (symbolsOf (now (table .entry))) header id)) ⌝ }
 {
-    report_suspend(table, sections, header, NameId::NONE, id, node, buf, count)
+    report_suspend(table, index, header, NameId::NONE, id, node, buf, count)
 }
 
 // What a method call reports before its arguments are visited, `vis` being the visibility of the list's first function; answers the new count.
 pub fn before_method(
     table: &[u8],
-    sections: Sections,
+    index: &[u16],
     header: Header,
     vis: u8,
     owner: u16,
@@ -83,9 +81,9 @@ pub fn before_method(
     buf: &mut [u8],
     count: usize,
 ) -> usize
-    requires { ⌜ Accepted (now table) sections × (count + 2 ≤ countLimit) ⌝ }
+    requires { ⌜ Accepted (now table) (now index) × (count + 2 ≤ countLimit) ⌝ }
     ensures { λ r. ⌜ Reported (now (buf .entry)) count (now (buf .exit)) r (atNode node (methodReports (symbolsOf (now (table .entry))) header vis owner id)) ⌝ }
 {
-    let more = report_access(table, sections, header, vis, owner, node, buf, count);
-    report_suspend(table, sections, header, owner, id, node, buf, more)
+    let more = report_access(table, index, header, vis, owner, node, buf, count);
+    report_suspend(table, index, header, owner, id, node, buf, more)
 }

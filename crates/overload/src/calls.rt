@@ -7,11 +7,11 @@ use crate::score::Score;
 use crate::score::score_function;
 use area::Source;
 use area::report;
-use symbol::checks::Sections;
 use symbol::functions::Function;
+use symbol::functions::is_builtin_function;
 use symbol::functions::read_function;
-use symbol::lookups::Found;
-use symbol::lookups::Place;
+use symbol::index::Found;
+use symbol::index::Place;
 use symbol::lookups::first_function;
 use symbol::lookups::next_function;
 use ty::Kind;
@@ -22,10 +22,10 @@ ghost use mathlib.Core.List.{List, [], _∷_, _++_};
 ghost use lib.ListN.{take, drop};
 ghost use Rattle.area.specs.Diagnostic.{countLimit};
 ghost use Rattle.symbol.specs.Symbols.{Overload};
-ghost use Rattle.symbol.specs.Sections.{Accepted};
+ghost use Rattle.symbol.specs.Accepted.{Accepted};
 ghost use Rattle.symbol.specs.Lookup.{symbolsOf};
 ghost use Rattle.symbol.specs.Answer.{FunctionAt, FunctionRead, overloadAt};
-ghost use Rattle.symbol.specs.declared.lookups.Found.the-variants.{Here};
+ghost use Rattle.symbol.specs.declared.index.Found.the-variants.{Here};
 ghost use Rattle.overload.specs.Args.{argsIn};
 ghost use Rattle.overload.specs.Params.{scoreOf};
 ghost use Rattle.overload.specs.Arity.{anyOwn};
@@ -58,20 +58,19 @@ pub struct Called {
 }
 
 // Whether a function of the list is not a builtin.
-fn any_own(table: &[u8], sections: Sections, owner: u16, id: u16) -> bool
-    requires { ⌜ Accepted (now table) sections ⌝ }
+fn any_own(table: &[u8], index: &[u16], owner: u16, id: u16) -> bool
+    requires { ⌜ Accepted (now table) (now index) ⌝ }
     ensures { λ r. ⌜ r ≡ anyOwn (symbolsOf (now (table .entry)) .functionsOf owner id) ⌝ }
 {
-    let mut found = first_function(table, sections, owner, id);
+    let mut found = first_function(table, index, owner, id);
     loop {
         let Found::Here(p) = found else {
             return false;
         };
-        let f = read_function(table, p);
-        if !f.builtin {
+        if !is_builtin_function(table, p) {
             return true;
         }
-        found = next_function(table, p.next, owner, id);
+        found = next_function(table, index, p);
     }
 }
 
@@ -121,7 +120,7 @@ fn first_of(found: Found, p: Place) -> Found
 // One more overload, which fits: its unknown names are reported, and it is scored.
 fn take_one(
     table: &[u8],
-    sections: Sections,
+    index: &[u16],
     p: Place,
     f: Function,
     area: &[u8],
@@ -130,14 +129,14 @@ fn take_one(
     w: Tally,
     buf: &mut [u8],
 ) -> Tally
-    requires { ⌜ Accepted (now table) sections × FunctionAt (now table) p × FunctionRead (now table) (overloadAt (now table) p) f × (args .count ≤ 16) × Room w ⌝ }
+    requires { ⌜ Accepted (now table) (now index) × FunctionAt (now table) p × FunctionRead (now table) (overloadAt (now table) p) f × (args .count ≤ 16) × Room w ⌝ }
     ensures { λ r. ⌜ ((b : List ℕ) (n : ℕ) (vs : List Overload) → TallyIs (now (table .entry)) (symbolsOf (now (table .entry))) (argsIn (now (area .entry)) (now (lens .entry)) args) b n (now (buf .entry)) vs w → TallyIs (now (table .entry)) (symbolsOf (now (table .entry))) (argsIn (now (area .entry)) (now (lens .entry)) args) b n (now (buf .exit)) (vs ++ (overloadAt (now (table .entry)) p ∷ [])) r) ⌝ }
 {
     let params = f.params;
     let found = w.first;
     let h = w.highest;
     let count = unknown_names(params, args, buf, w.count);
-    let s = score_function(table, sections, f, area, lens, args);
+    let s = score_function(table, index, f, area, lens, args);
     let first = first_of(found, p);
     let highest = higher(h, f.start, f.len, s);
     Tally {
@@ -151,7 +150,7 @@ fn take_one(
 // One more function of the list. own: builtins drop out.
 fn turn(
     table: &[u8],
-    sections: Sections,
+    index: &[u16],
     own: bool,
     p: Place,
     area: &[u8],
@@ -160,7 +159,7 @@ fn turn(
     w: Tally,
     buf: &mut [u8],
 ) -> Tally
-    requires { ⌜ Accepted (now table) sections × FunctionAt (now table) p × (args .count ≤ 16) × Room w ⌝ }
+    requires { ⌜ Accepted (now table) (now index) × FunctionAt (now table) p × (args .count ≤ 16) × Room w ⌝ }
     ensures { λ r. ⌜ ((b : List ℕ) (n : ℕ) (vs : List Overload) → TallyIs (now (table .entry)) (symbolsOf (now (table .entry))) (argsIn (now (area .entry)) (now (lens .entry)) args) b n (now (buf .entry)) vs w → TallyIs (now (table .entry)) (symbolsOf (now (table .entry))) (argsIn (now (area .entry)) (now (lens .entry)) args) b n (now (buf .exit)) (vs ++ taken own (args .count) (overloadAt (now (table .entry)) p)) r) ⌝ }
 {
     let f = read_function(table, p);
@@ -168,7 +167,7 @@ fn turn(
         return w;
     }
     if viable(f, args.count) {
-        return take_one(table, sections, p, f, area, lens, args, w, buf);
+        return take_one(table, index, p, f, area, lens, args, w, buf);
     }
     w
 }
@@ -176,7 +175,7 @@ fn turn(
 // The walk over the list.
 fn walk(
     table: &[u8],
-    sections: Sections,
+    index: &[u16],
     own: bool,
     owner: u16,
     id: u16,
@@ -186,10 +185,10 @@ fn walk(
     buf: &mut [u8],
     count: usize,
 ) -> Tally
-    requires { ⌜ Accepted (now table) sections × (args .count ≤ 16) × (count + mostDiagnostics ≤ countLimit) ⌝ }
+    requires { ⌜ Accepted (now table) (now index) × (args .count ≤ 16) × (count + mostDiagnostics ≤ countLimit) ⌝ }
     ensures { λ r. ⌜ TallyIs (now (table .entry)) (symbolsOf (now (table .entry))) (argsIn (now (area .entry)) (now (lens .entry)) args) (now (buf .entry)) count (now (buf .exit)) (picked own (args .count) (symbolsOf (now (table .entry)) .functionsOf owner id)) r ⌝ }
 {
-    let mut found = first_function(table, sections, owner, id);
+    let mut found = first_function(table, index, owner, id);
     let mut w = Tally {
         first: Found::Nothing,
         fitting: 0,
@@ -206,8 +205,8 @@ fn walk(
         let Found::Here(p) = found else {
             return w;
         };
-        w = turn(table, sections, own, p, area, lens, args, w, buf);
-        found = next_function(table, p.next, owner, id);
+        w = turn(table, index, own, p, area, lens, args, w, buf);
+        found = next_function(table, index, p);
     }
 }
 
@@ -243,7 +242,7 @@ fn report_tie(node: usize, many: usize, buf: &mut [u8], count: usize) -> usize
 // A call of functions of which at least one fits in number, the first of them being at p.
 fn settle(
     table: &[u8],
-    sections: Sections,
+    index: &[u16],
     p: Place,
     node: usize,
     area: &[u8],
@@ -252,7 +251,7 @@ fn settle(
     w: Tally,
     buf: &mut [u8],
 ) -> Called
-    requires { ⌜ Accepted (now table) sections × FunctionAt (now table) p × (args .count ≤ 16) × Room w ⌝ }
+    requires { ⌜ Accepted (now table) (now index) × FunctionAt (now table) p × (args .count ≤ 16) × Room w ⌝ }
     ensures { λ r. ⌜ ((own : Bool) (b : List ℕ) (n : ℕ) (vs : List Overload) → w .first ≡ Here p → TallyIs (now (table .entry)) (symbolsOf (now (table .entry))) (argsIn (now (area .entry)) (now (lens .entry)) args) b n (now (buf .entry)) vs w → CalledIs (now (table .entry)) b n (now (buf .exit)) (resolveIn (symbolsOf (now (table .entry))) own node (argsIn (now (area .entry)) (now (lens .entry)) args) vs) r) ⌝ }
 {
     let h = w.highest;
@@ -269,7 +268,7 @@ fn settle(
     if w.fitting == 1 {
         let f = read_function(table, p);
         let params = f.params;
-        let checked = by_index(table, sections, params, area, lens, args, buf, w.count);
+        let checked = by_index(table, index, params, area, lens, args, buf, w.count);
         return Called {
             source: Source::Part {
                 start: f.start,
@@ -289,7 +288,7 @@ fn settle(
 // slots. Reports into the lent buffer, count having been reported before.
 pub fn check_call_args(
     table: &[u8],
-    sections: Sections,
+    index: &[u16],
     owner: u16,
     id: u16,
     node: usize,
@@ -299,25 +298,14 @@ pub fn check_call_args(
     buf: &mut [u8],
     count: usize,
 ) -> Called
-    requires { ⌜ Accepted (now table) sections × (args .count ≤ 16) × (count + mostDiagnostics ≤ countLimit) ⌝ }
+    requires { ⌜ Accepted (now table) (now index) × (args .count ≤ 16) × (count + mostDiagnostics ≤ countLimit) ⌝ }
     ensures { λ r. ⌜ CalledIs (now (table .entry)) (now (buf .entry)) count (now (buf .exit)) (resolve (symbolsOf (now (table .entry))) (symbolsOf (now (table .entry)) .functionsOf owner id) node (argsIn (now (area .entry)) (now (lens .entry)) args)) r ⌝ }
 {
-    let own = any_own(table, sections, owner, id);
-    let w = walk(
-        table,
-        sections,
-        own,
-        owner,
-        id,
-        area,
-        lens,
-        args,
-        buf,
-        count,
-    );
+    let own = any_own(table, index, owner, id);
+    let w = walk(table, index, own, owner, id, area, lens, args, buf, count);
     let first = w.first;
     match first {
         Found::Nothing => none_fits(own, node, args.count, buf, w.count),
-        Found::Here(p) => settle(table, sections, p, node, area, lens, args, w, buf),
+        Found::Here(p) => settle(table, index, p, node, area, lens, args, w, buf),
     }
 }

@@ -3,7 +3,6 @@ use crate::args::Args;
 use crate::score::place_of;
 use area::report;
 use rules::accept::param_accepts;
-use symbol::checks::Sections;
 use symbol::functions::Params;
 use ty::Kind;
 use ty::NameId;
@@ -16,7 +15,7 @@ ghost use Rattle.ty.specs.Kind.{anyKind, errorKind};
 ghost use Rattle.ty.specs.Bytes.{kindOf};
 ghost use Rattle.rules.specs.Accept.{paramAccepts};
 ghost use Rattle.area.specs.Diagnostic.{countLimit};
-ghost use Rattle.symbol.specs.Sections.{Accepted};
+ghost use Rattle.symbol.specs.Accepted.{Accepted};
 ghost use Rattle.symbol.specs.Lookup.{symbolsOf};
 ghost use Rattle.symbol.specs.Answer.{paramAt};
 ghost use Rattle.overload.specs.Args.{nameIn, argAt, argsIn};
@@ -60,19 +59,19 @@ pub fn unknown_names(params: Params, args: Args, buf: &mut [u8], count: usize) -
 }
 
 // Whether the check by index lets an argument of the type x pass for a parameter of the type p.
-fn passes(table: &[u8], sections: Sections, p: &[u8], x: &[u8], vararg: bool) -> bool
-    requires { ⌜ Accepted (now table) sections ⌝ }
+fn passes(table: &[u8], index: &[u16], p: &[u8], x: &[u8], vararg: bool) -> bool
+    requires { ⌜ Accepted (now table) (now index) ⌝ }
     ensures { λ r. ⌜ r ≡ (paramAccepts (symbolsOf (now (table .entry))) (now (p .entry)) (now (x .entry)) vararg || (eqb (kindOf (now (p .entry))) anyKind || (eqb (kindOf (now (x .entry))) errorKind || eqb (kindOf (now (x .entry))) anyKind))) ⌝ }
 {
     let k = ty::kind_of(x);
-    param_accepts(table, sections, p, x, vararg)
+    param_accepts(table, index, p, x, vararg)
         | ((ty::kind_of(p) == Kind::ANY) | ((k == Kind::ERROR) | (k == Kind::ANY)))
 }
 
 // Argument i against parameter i.
 fn mismatch_one(
     table: &[u8],
-    sections: Sections,
+    index: &[u16],
     params: Params,
     area: &[u8],
     lens: &[usize],
@@ -81,13 +80,13 @@ fn mismatch_one(
     buf: &mut [u8],
     count: usize,
 ) -> usize
-    requires { ⌜ Accepted (now table) sections × (i < 16) × (count < countLimit) ⌝ }
+    requires { ⌜ Accepted (now table) (now index) × (i < 16) × (count < countLimit) ⌝ }
     ensures { λ r. ⌜ Reported (now (buf .entry)) count (now (buf .exit)) r (mismatchOne (symbolsOf (now (table .entry))) (paramAt (now (table .entry)) params i) (i + 1) (argAt (now (area .entry)) (now (lens .entry)) args i)) ⌝ }
 {
     let node = args.nodes[i];
     let p = area::part(table, params.starts[i], params.lens[i]);
     let x = area::slot(area, lens, node);
-    if passes(table, sections, p, x, params.varargs[i]) {
+    if passes(table, index, p, x, params.varargs[i]) {
         return count;
     }
     report(buf, count, 17, node, i + 1)
@@ -96,7 +95,7 @@ fn mismatch_one(
 // The check by index.
 pub fn by_index(
     table: &[u8],
-    sections: Sections,
+    index: &[u16],
     params: Params,
     area: &[u8],
     lens: &[usize],
@@ -104,7 +103,7 @@ pub fn by_index(
     buf: &mut [u8],
     count: usize,
 ) -> usize
-    requires { ⌜ Accepted (now table) sections × (params .count ≤ 16) × (args .count ≤ 16) × (count + 16 ≤ countLimit) ⌝ }
+    requires { ⌜ Accepted (now table) (now index) × (params .count ≤ 16) × (args .count ≤ 16) × (count + 16 ≤ countLimit) ⌝ }
     ensures { λ r. ⌜ Reported (now (buf .entry)) count (now (buf .exit)) r (mismatches (symbolsOf (now (table .entry))) (paramsIn (now (table .entry)) params) 1 (argsIn (now (area .entry)) (now (lens .entry)) args)) ⌝ }
 {
     let mut reported = count;
@@ -113,7 +112,7 @@ pub fn by_index(
         if params.count <= i {
             return reported;
         }
-        reported = mismatch_one(table, sections, params, area, lens, args, i, buf, reported);
+        reported = mismatch_one(table, index, params, area, lens, args, i, buf, reported);
         i += 1;
     }
     reported

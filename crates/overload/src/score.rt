@@ -2,14 +2,13 @@
 use crate::args::Args;
 use crate::arity::last_vararg;
 use rules::accept::param_accepts;
-use symbol::checks::Sections;
 use symbol::functions::Function;
 use symbol::functions::Params;
 use ty::NameId;
-ghost use Prim.Native.Nat.{ℕ, _+_, _*_, _≤_, _<_};
+ghost use Prim.Native.Nat.{ℕ, _+_, _≤_, _<_};
 ghost use mathlib.Core.Path.{_≡_};
 ghost use mathlib.Core.List.{List};
-ghost use Rattle.symbol.specs.Sections.{Accepted};
+ghost use Rattle.symbol.specs.Accepted.{Accepted};
 ghost use Rattle.symbol.specs.Lookup.{symbolsOf};
 ghost use Rattle.symbol.specs.Answer.{paramAt, overloadIn};
 ghost use Rattle.overload.specs.Args.{nameIn, argsIn};
@@ -70,8 +69,8 @@ fn free_place(params: Params, marks: [bool; 16]) -> usize
 }
 
 // An argument of the type x against the parameter at place j.
-fn compare(table: &[u8], sections: Sections, params: Params, j: usize, x: &[u8]) -> Score
-    requires { ⌜ Accepted (now table) sections × (j < 16) ⌝ }
+fn compare(table: &[u8], index: &[u16], params: Params, j: usize, x: &[u8]) -> Score
+    requires { ⌜ Accepted (now table) (now index) × (j < 16) ⌝ }
     ensures { λ r. ⌜ (scoreOf r ≡ compared (symbolsOf (now (table .entry))) (paramAt (now (table .entry)) params j) (now (x .entry))) × (r .points ≤ 2) ⌝ }
 {
     let p = area::part(table, params.starts[j], params.lens[j]);
@@ -81,7 +80,7 @@ fn compare(table: &[u8], sections: Sections, params: Params, j: usize, x: &[u8])
             points: 2,
         };
     }
-    if param_accepts(table, sections, p, x, params.varargs[j]) {
+    if param_accepts(table, index, p, x, params.varargs[j]) {
         return Score {
             matched: true,
             points: 1,
@@ -94,12 +93,12 @@ fn compare(table: &[u8], sections: Sections, params: Params, j: usize, x: &[u8])
 }
 
 // The same where there may be no parameter at place j.
-fn compare_with(table: &[u8], sections: Sections, params: Params, j: usize, x: &[u8]) -> Score
-    requires { ⌜ Accepted (now table) sections × (params .count ≤ 16) ⌝ }
+fn compare_with(table: &[u8], index: &[u16], params: Params, j: usize, x: &[u8]) -> Score
+    requires { ⌜ Accepted (now table) (now index) × (params .count ≤ 16) ⌝ }
     ensures { λ r. ⌜ (scoreOf r ≡ comparedWith (symbolsOf (now (table .entry))) (paramIn (now (table .entry)) params j) (now (x .entry))) × (r .points ≤ 2) ⌝ }
 {
     if j < params.count {
-        return compare(table, sections, params, j, x);
+        return compare(table, index, params, j, x);
     }
     Score {
         matched: false,
@@ -108,8 +107,8 @@ fn compare_with(table: &[u8], sections: Sections, params: Params, j: usize, x: &
 }
 
 // An argument in the named pass.
-fn named_one(table: &[u8], sections: Sections, params: Params, id: u16, x: &[u8]) -> Score
-    requires { ⌜ Accepted (now table) sections × (params .count ≤ 16) ⌝ }
+fn named_one(table: &[u8], index: &[u16], params: Params, id: u16, x: &[u8]) -> Score
+    requires { ⌜ Accepted (now table) (now index) × (params .count ≤ 16) ⌝ }
     ensures { λ r. ⌜ (scoreOf r ≡ namedOne (symbolsOf (now (table .entry))) (paramsIn (now (table .entry)) params) (nameIn id) (now (x .entry))) × (r .points ≤ 2) ⌝ }
 {
     if id == NameId::NONE {
@@ -118,7 +117,7 @@ fn named_one(table: &[u8], sections: Sections, params: Params, id: u16, x: &[u8]
             points: 0,
         };
     }
-    compare_with(table, sections, params, place_of(params, id), x)
+    compare_with(table, index, params, place_of(params, id), x)
 }
 
 // The marks once an argument has marked the parameter that it names.
@@ -139,20 +138,13 @@ fn mark_one(params: Params, id: u16, marks: [bool; 16]) -> [bool; 16]
 }
 
 // One argument more in the named pass.
-fn named_turn(
-    table: &[u8],
-    sections: Sections,
-    params: Params,
-    id: u16,
-    x: &[u8],
-    m: Marked,
-) -> Marked
-    requires { ⌜ Accepted (now table) sections × (params .count ≤ 16) × (m .score .points ≤ 64) ⌝ }
+fn named_turn(table: &[u8], index: &[u16], params: Params, id: u16, x: &[u8], m: Marked) -> Marked
+    requires { ⌜ Accepted (now table) (now index) × (params .count ≤ 16) × (m .score .points ≤ 64) ⌝ }
     ensures { λ r. ⌜ (scoreOf (r .score) ≡ plus (scoreOf (m .score)) (namedOne (symbolsOf (now (table .entry))) (paramsIn (now (table .entry)) params) (nameIn id) (now (x .entry)))) × (r .marks ≡ markOne (paramsIn (now (table .entry)) params) (nameIn id) (m .marks)) × (r .score .points ≤ m .score .points + 2) ⌝ }
 {
     let before = m.score;
     let marked = m.marks;
-    let score = add(before, named_one(table, sections, params, id, x));
+    let score = add(before, named_one(table, index, params, id, x));
     let marks = mark_one(params, id, marked);
     Marked { score, marks }
 }
@@ -160,13 +152,13 @@ fn named_turn(
 // The named pass: each named argument against the parameter of its name.
 fn named_pass(
     table: &[u8],
-    sections: Sections,
+    index: &[u16],
     params: Params,
     area: &[u8],
     lens: &[usize],
     args: Args,
 ) -> Marked
-    requires { ⌜ Accepted (now table) sections × (params .count ≤ 16) × (args .count ≤ 16) ⌝ }
+    requires { ⌜ Accepted (now table) (now index) × (params .count ≤ 16) × (args .count ≤ 16) ⌝ }
     ensures { λ r. ⌜ (scoreOf (r .score) ≡ namedScore (symbolsOf (now (table .entry))) (paramsIn (now (table .entry)) params) (argsIn (now (area .entry)) (now (lens .entry)) args)) × (r .marks ≡ marksOf (paramsIn (now (table .entry)) params) (argsIn (now (area .entry)) (now (lens .entry)) args)) × (r .score .points ≤ 32) ⌝ }
 {
     let marks = [false; 16];
@@ -180,7 +172,7 @@ fn named_pass(
     let mut i: usize = 0;
     while i < args.count {
         let x = area::slot(area, lens, args.nodes[i]);
-        m = named_turn(table, sections, params, args.names[i], x, m);
+        m = named_turn(table, index, params, args.names[i], x, m);
         i += 1;
     }
     m
@@ -189,14 +181,14 @@ fn named_pass(
 // An argument in the positional pass: against the parameter at place j, the first without a mark. v: the last parameter is vararg.
 fn unnamed_one(
     table: &[u8],
-    sections: Sections,
+    index: &[u16],
     params: Params,
     j: usize,
     v: bool,
     id: u16,
     x: &[u8],
 ) -> Score
-    requires { ⌜ Accepted (now table) sections × (params .count ≤ 16) ⌝ }
+    requires { ⌜ Accepted (now table) (now index) × (params .count ≤ 16) ⌝ }
     ensures { λ r. ⌜ (scoreOf r ≡ unnamedOne (symbolsOf (now (table .entry))) (paramIn (now (table .entry)) params j) v (nameIn id) (now (x .entry))) × (r .points ≤ 2) ⌝ }
 {
     if id != NameId::NONE {
@@ -206,7 +198,7 @@ fn unnamed_one(
         };
     }
     if j < params.count {
-        return compare(table, sections, params, j, x);
+        return compare(table, index, params, j, x);
     }
     if v {
         return Score {
@@ -223,14 +215,14 @@ fn unnamed_one(
 // The positional pass: each unnamed argument against the first parameter without a mark.
 fn positional_pass(
     table: &[u8],
-    sections: Sections,
+    index: &[u16],
     params: Params,
     marks: [bool; 16],
     area: &[u8],
     lens: &[usize],
     args: Args,
 ) -> Score
-    requires { ⌜ Accepted (now table) sections × (params .count ≤ 16) × (args .count ≤ 16) ⌝ }
+    requires { ⌜ Accepted (now table) (now index) × (params .count ≤ 16) × (args .count ≤ 16) ⌝ }
     ensures { λ r. ⌜ (scoreOf r ≡ unnamedScore (symbolsOf (now (table .entry))) (unmarkedFrom 0 (paramsIn (now (table .entry)) params) marks) (lastVararg (paramsIn (now (table .entry)) params)) (argsIn (now (area .entry)) (now (lens .entry)) args)) × (r .points ≤ 32) ⌝ }
 {
     let j = free_place(params, marks);
@@ -244,7 +236,7 @@ fn positional_pass(
         let x = area::slot(area, lens, args.nodes[i]);
         score = add(
             score,
-            unnamed_one(table, sections, params, j, v, args.names[i], x),
+            unnamed_one(table, index, params, j, v, args.names[i], x),
         );
         i += 1;
     }
@@ -254,21 +246,21 @@ fn positional_pass(
 // The score of an overload.
 pub fn score_function(
     table: &[u8],
-    sections: Sections,
+    index: &[u16],
     f: Function,
     area: &[u8],
     lens: &[usize],
     args: Args,
 ) -> Score
-    requires { ⌜ Accepted (now table) sections × (f .params .count ≤ 16) × (args .count ≤ 16) ⌝ }
+    requires { ⌜ Accepted (now table) (now index) × (f .params .count ≤ 16) × (args .count ≤ 16) ⌝ }
     ensures { λ r. ⌜ scoreOf r ≡ scoreWith (symbolsOf (now (table .entry))) (overloadIn (now (table .entry)) f) (argsIn (now (area .entry)) (now (lens .entry)) args) ⌝ }
 {
     let params = f.params;
-    let named = named_pass(table, sections, params, area, lens, args);
+    let named = named_pass(table, index, params, area, lens, args);
     let score = named.score;
     let marks = named.marks;
     add(
         score,
-        positional_pass(table, sections, params, marks, area, lens, args),
+        positional_pass(table, index, params, marks, area, lens, args),
     )
 }

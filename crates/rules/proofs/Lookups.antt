@@ -1,14 +1,14 @@
 -- What the answers of the lookups say of the definitions that go by them. Assumes nothing.
 use Prim.Native.Nat.{ℕ}
-use mathlib.Core.Path.{_≡_, refl, subst}
-use mathlib.Core.List.{List, [], _∷_}
-use mathlib.Core.Option.{Option, none, some}
+use mathlib.Core.Path.{_≡_, subst}
+use mathlib.Core.List.{List, []}
+use mathlib.Core.Option.{Option, some}
 use lib.ListN.{take, drop}
 use Rattle.ty.specs.Bytes.{Ty}
 use Rattle.symbol.specs.Symbols.{Overload, Symbols}
-use Rattle.symbol.specs.declared.lookups.Found.{Found}
-use Rattle.symbol.specs.declared.lookups.Found.the-variants as found
-use Rattle.symbol.specs.declared.lookups.Place.{Place}
+use Rattle.symbol.specs.declared.index.Found.{Found}
+use Rattle.symbol.specs.declared.index.Found.the-variants as found
+use Rattle.symbol.specs.declared.index.Place.{Place}
 use Rattle.symbol.specs.declared.lookups.Part.{Part}
 use Rattle.symbol.specs.declared.lookups.Part.the-variants as part
 use Rattle.symbol.specs.declared.lookups.Visibility.{Visibility}
@@ -16,7 +16,7 @@ use Rattle.symbol.specs.declared.lookups.Visibility.the-variants as visibility
 use Rattle.symbol.specs.declared.functions.Function.{Function}
 use Rattle.symbol.specs.Answer.{partOf, visibilityOf, FunctionFound, FunctionIs, FunctionRead, overloadAt}
 use Rattle.question.specs.declared.Header.{Header}
-use Rattle.rules.specs.Out.{Report, Out, anyTy, clean, found as foundOut}
+use Rattle.rules.specs.Out.{Out, anyTy, clean, found as foundOut}
 use Rattle.rules.specs.Made.{functionTy}
 use Rattle.rules.specs.OperatorMethod.{firstResult}
 use Rattle.rules.specs.Access.{accessReport}
@@ -28,20 +28,20 @@ use Rattle.rules.specs.declared.member.Variable.{Variable}
 use Rattle.rules.specs.declared.member.Variable.the-variants as variable
 
 -- ---- a list's first function
-module _ (t : List ℕ) (all : List Overload) (owner name : ℕ) where
-  pub none-found : (r : Found) → FunctionFound t all owner name r → r ≡ found.Nothing → all ≡ []
-  none-found r h e = subst (λ (q : Found). FunctionFound t all owner name q) e h
+module _ (t : List ℕ) (all : List Overload) where
+  pub none-found : (r : Found) → FunctionFound t all r → r ≡ found.Nothing → all ≡ []
+  none-found r h e = subst (λ (q : Found). FunctionFound t all q) e h
 
-  pub first-found : (r : Found) (p : Place) → FunctionFound t all owner name r → r ≡ found.Here p → FunctionIs t all owner name p
-  first-found r p h e = subst (λ (q : Found). FunctionFound t all owner name q) e h
+  pub first-found : (r : Found) (p : Place) → FunctionFound t all r → r ≡ found.Here p → FunctionIs t all p
+  first-found r p h e = subst (λ (q : Found). FunctionFound t all q) e h
 
   -- its result, once it is read
-  pub first-result : (p : Place) (f : Function) → FunctionIs t all owner name p → FunctionRead t (overloadAt t p) f
+  pub first-result : (p : Place) (f : Function) → FunctionIs t all p → FunctionRead t (overloadAt t p) f
       → firstResult all ≡ take (f .len) (drop (f .start) t)
   unfolding firstResult
   first-result p f h r = rw (h .first, ← r .same)
 
-  pub first-function : (p : Place) (f : Function) → FunctionIs t all owner name p → FunctionRead t (overloadAt t p) f
+  pub first-function : (p : Place) (f : Function) → FunctionIs t all p → FunctionRead t (overloadAt t p) f
       → firstFunction all ≡ some (functionTy (take (f .len) (drop (f .start) t)))
   unfolding firstFunction
   first-function p f h r = rw (h .first, ← r .same)

@@ -1,38 +1,37 @@
 // Whether a parameter takes an argument.
 use crate::assign::can_assign_to;
-use symbol::checks::Sections;
 use symbol::lookups::in_types;
 use symbol::lookups::is_capital;
 use ty::Kind;
 ghost use mathlib.Core.Path.{_≡_};
-ghost use Rattle.symbol.specs.Sections.{Accepted};
+ghost use Rattle.symbol.specs.Accepted.{Accepted};
 ghost use Rattle.symbol.specs.Lookup.{symbolsOf};
 ghost use Rattle.rules.specs.Accept.{isVariableName, isTypeVariable, paramAccepts};
 
 // A name of one capital letter that is not in `types`.
-pub fn is_variable_name(table: &[u8], sections: Sections, id: u16) -> bool
-    requires { ⌜ Accepted (now table) sections ⌝ }
+pub fn is_variable_name(table: &[u8], index: &[u16], id: u16) -> bool
+    requires { ⌜ Accepted (now table) (now index) ⌝ }
     ensures { λ r. ⌜ r ≡ isVariableName (symbolsOf (now (table .entry))) id ⌝ }
 {
-    if is_capital(table, sections, id) {
-        return !in_types(table, sections, id);
+    if is_capital(table, index, id) {
+        return !in_types(table, index, id);
     }
     false
 }
 
-pub fn is_type_variable(table: &[u8], sections: Sections, t: &[u8]) -> bool
-    requires { ⌜ Accepted (now table) sections ⌝ }
+pub fn is_type_variable(table: &[u8], index: &[u16], t: &[u8]) -> bool
+    requires { ⌜ Accepted (now table) (now index) ⌝ }
     ensures { λ r. ⌜ r ≡ isTypeVariable (symbolsOf (now (table .entry))) (now (t .entry)) ⌝ }
 {
     if ty::kind_of(t) == Kind::NAMED {
-        return is_variable_name(table, sections, ty::name_of(t));
+        return is_variable_name(table, index, ty::name_of(t));
     }
     false
 }
 
 // Whether a parameter of the type p, vararg or not, takes an argument of the type x.
-pub fn param_accepts(table: &[u8], sections: Sections, p: &[u8], x: &[u8], vararg: bool) -> bool
-    requires { ⌜ Accepted (now table) sections ⌝ }
+pub fn param_accepts(table: &[u8], index: &[u16], p: &[u8], x: &[u8], vararg: bool) -> bool
+    requires { ⌜ Accepted (now table) (now index) ⌝ }
     ensures { λ r. ⌜ r ≡ paramAccepts (symbolsOf (now (table .entry))) (now (p .entry)) (now (x .entry)) vararg ⌝ }
 {
     if ty::same_bytes(x, p) {
@@ -41,7 +40,7 @@ pub fn param_accepts(table: &[u8], sections: Sections, p: &[u8], x: &[u8], varar
     if can_assign_to(x, p) {
         return true;
     }
-    if is_type_variable(table, sections, p) {
+    if is_type_variable(table, index, p) {
         return true;
     }
     vararg | (ty::kind_of(p) == Kind::ANY)

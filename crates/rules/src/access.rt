@@ -2,12 +2,11 @@
 use crate::ruled::Diagnostic;
 use crate::ruled::no_report;
 use question::Header;
-use symbol::checks::Sections;
 use symbol::lookups::package_of;
 use symbol::subclass::is_subclass;
 use ty::NameId;
 ghost use mathlib.Core.Path.{_≡_};
-ghost use Rattle.symbol.specs.Sections.{Accepted};
+ghost use Rattle.symbol.specs.Accepted.{Accepted};
 ghost use Rattle.symbol.specs.Lookup.{symbolsOf};
 ghost use Rattle.rules.specs.Access.{otherPackage, blocked, accessReport};
 ghost use Rattle.rules.specs.Ruled.{reportOf};
@@ -33,8 +32,8 @@ fn other_package(a: u16, b: u16) -> bool
 }
 
 // Whether a member of an owner, of a visibility, is blocked where the script stands.
-pub fn check_access(table: &[u8], sections: Sections, header: Header, vis: u8, owner: u16) -> bool
-    requires { ⌜ Accepted (now table) sections ⌝ }
+pub fn check_access(table: &[u8], index: &[u16], header: Header, vis: u8, owner: u16) -> bool
+    requires { ⌜ Accepted (now table) (now index) ⌝ }
     ensures { λ r. ⌜ r ≡ blocked (symbolsOf (now (table .entry))) header vis owner ⌝ }
 {
     let current = header.current;
@@ -49,23 +48,17 @@ pub fn check_access(table: &[u8], sections: Sections, header: Header, vis: u8, o
         return !(current == owner);
     }
     if vis == Vis::PROTECTED {
-        return !((current == owner) | is_subclass(table, sections, current, owner));
+        return !((current == owner) | is_subclass(table, index, current, owner));
     }
-    other_package(pkg, package_of(table, sections, owner))
+    other_package(pkg, package_of(table, index, owner))
 }
 
 // What is reported of such a member.
-pub fn access_report(
-    table: &[u8],
-    sections: Sections,
-    header: Header,
-    vis: u8,
-    owner: u16,
-) -> Diagnostic
-    requires { ⌜ Accepted (now table) sections ⌝ }
+pub fn access_report(table: &[u8], index: &[u16], header: Header, vis: u8, owner: u16) -> Diagnostic
+    requires { ⌜ Accepted (now table) (now index) ⌝ }
     ensures { λ r. ⌜ reportOf (r .kind) (r .number) ≡ accessReport (symbolsOf (now (table .entry))) header vis owner ⌝ }
 {
-    if check_access(table, sections, header, vis, owner) {
+    if check_access(table, index, header, vis, owner) {
         return Diagnostic {
             kind: Diagnostic::ACCESS,
             number: vis,

@@ -2,7 +2,6 @@
 use ty::Kind;
 use ty::NameId;
 ghost use mathlib.Core.Path.{_≡_};
-ghost use Rattle.rules.specs.Operand.{numbers as numbersOf};
 ghost use Rattle.rules.specs.Assign.{isGrowing, isListName, assignRule, assignStep, canAssign};
 
 // What one look at two types says: yes, no, or it goes by the type inside the left one, inside the right one, or inside both.

@@ -12,7 +12,6 @@ use crate::ruled::fails;
 use crate::ruled::plain;
 use crate::ruled::unless;
 use area::Source;
-use symbol::checks::Sections;
 use ty::Kind;
 use ty::NameId;
 ghost use Prim.Native.Nat.{ℕ};
@@ -21,7 +20,7 @@ ghost use mathlib.Core.Bool.{_||_};
 ghost use mathlib.Core.List.{List};
 ghost use Rattle.ty.specs.Bytes.{isString, sameBytes};
 ghost use Rattle.symbol.specs.Symbols.{Symbols};
-ghost use Rattle.symbol.specs.Sections.{Accepted};
+ghost use Rattle.symbol.specs.Accepted.{Accepted};
 ghost use Rattle.symbol.specs.Lookup.{symbolsOf};
 ghost use Rattle.rules.specs.Operand.{numbers as numbersOf, integers as integersOf, either as eitherOf, charString};
 ghost use Rattle.rules.specs.Assign.{canAssign};
@@ -251,14 +250,14 @@ fn builtin_binary(op: u8, lt: &[u8], rt: &[u8]) -> Ruled
 
 // The type of an operator on operands of the types lt and rt, and what is reported: Error first and silently, then an operator method, then the built-in
 // operators.
-pub fn check_binary(table: &[u8], sections: Sections, op: u8, lt: &[u8], rt: &[u8]) -> Ruled
-    requires { ⌜ Accepted (now table) sections ⌝ }
+pub fn check_binary(table: &[u8], index: &[u16], op: u8, lt: &[u8], rt: &[u8]) -> Ruled
+    requires { ⌜ Accepted (now table) (now index) ⌝ }
     ensures { λ r. ⌜ outOf (now (table .entry)) (now (lt .entry)) (now (rt .entry)) r ≡ binaryOut (symbolsOf (now (table .entry))) op (now (lt .entry)) (now (rt .entry)) ⌝ }
 {
     if either(Kind::ERROR, ty::kind_of(lt), ty::kind_of(rt)) {
         return alone(plain(Kind::ERROR));
     }
-    let method = operator_overload_return(table, sections, op, lt);
+    let method = operator_overload_return(table, index, op, lt);
     match method {
         Method::Nothing => builtin_binary(op, lt, rt),
         Method::Any => alone(plain(Kind::ANY)),

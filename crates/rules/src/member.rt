@@ -12,9 +12,8 @@ use crate::ruled::no_report;
 use crate::ruled::plain;
 use area::Source;
 use question::Header;
-use symbol::checks::Sections;
 use symbol::functions::read_function;
-use symbol::lookups::Found;
+use symbol::index::Found;
 use symbol::lookups::Part;
 use symbol::lookups::Visibility;
 use symbol::lookups::field_of;
@@ -28,7 +27,7 @@ ghost use Prim.Native.Nat.{ℕ};
 ghost use mathlib.Core.Path.{_≡_};
 ghost use mathlib.Core.List.{List};
 ghost use Rattle.ty.specs.Bytes.{innerOf};
-ghost use Rattle.symbol.specs.Sections.{Accepted};
+ghost use Rattle.symbol.specs.Accepted.{Accepted};
 ghost use Rattle.symbol.specs.Lookup.{symbolsOf};
 ghost use Rattle.rules.specs.Ruled.{reportOf, outOf, singleOut};
 ghost use Rattle.rules.specs.Answer.{variableOf};
@@ -150,11 +149,11 @@ fn map_member(id: u16) -> Single
 }
 
 // A class's function of a name.
-fn lookup_function(table: &[u8], sections: Sections, owner: u16, id: u16) -> Variable
-    requires { ⌜ Accepted (now table) sections ⌝ }
+fn lookup_function(table: &[u8], index: &[u16], owner: u16, id: u16) -> Variable
+    requires { ⌜ Accepted (now table) (now index) ⌝ }
     ensures { λ r. ⌜ variableOf (now (table .entry)) r ≡ firstFunction (symbolsOf (now (table .entry)) .functionsOf owner id) ⌝ }
 {
-    let found = first_function(table, sections, owner, id);
+    let found = first_function(table, index, owner, id);
     match found {
         Found::Nothing => Variable::Nothing,
         Found::Here(place) => {
@@ -168,32 +167,32 @@ fn lookup_function(table: &[u8], sections: Sections, owner: u16, id: u16) -> Var
 }
 
 // A class's field of a name, or else its function.
-fn lookup_var_ty(table: &[u8], sections: Sections, owner: u16, id: u16) -> Variable
-    requires { ⌜ Accepted (now table) sections ⌝ }
+fn lookup_var_ty(table: &[u8], index: &[u16], owner: u16, id: u16) -> Variable
+    requires { ⌜ Accepted (now table) (now index) ⌝ }
     ensures { λ r. ⌜ variableOf (now (table .entry)) r ≡ lookupVar (symbolsOf (now (table .entry))) owner id ⌝ }
 {
-    let field = field_of(table, sections, owner, id);
+    let field = field_of(table, index, owner, id);
     match field {
         Part::At { start, len } => Variable::Field { start, len },
-        Part::Nothing => lookup_function(table, sections, owner, id),
+        Part::Nothing => lookup_function(table, index, owner, id),
     }
 }
 
 // The members that the table gives a class: a field, else a function, else a variant (which has the enum's type). Any other name is unresolved where the class
 // is in `types`, and Error without a report where it is not.
-fn class_member(table: &[u8], sections: Sections, owner: u16, id: u16) -> Single
-    requires { ⌜ Accepted (now table) sections ⌝ }
+fn class_member(table: &[u8], index: &[u16], owner: u16, id: u16) -> Single
+    requires { ⌜ Accepted (now table) (now index) ⌝ }
     ensures { λ r. ⌜ ((x y : List ℕ) → singleOut (now (table .entry)) x y r ≡ classMember (symbolsOf (now (table .entry))) owner id) ⌝ }
 {
-    let variable = lookup_var_ty(table, sections, owner, id);
+    let variable = lookup_var_ty(table, index, owner, id);
     match variable {
         Variable::Field { start, len } => clean(Source::Part { start, len }),
         Variable::Function { start, len } => clean(Source::Function { start, len }),
         Variable::Nothing => {
-            if is_variant(table, sections, owner, id) {
+            if is_variant(table, index, owner, id) {
                 return clean(Source::Name(owner));
             }
-            if in_types(table, sections, owner) {
+            if in_types(table, index, owner) {
                 return fails(Diagnostic::UNRESOLVED);
             }
             plain(Kind::ERROR)
@@ -202,11 +201,11 @@ fn class_member(table: &[u8], sections: Sections, owner: u16, id: u16) -> Single
 }
 
 // A Named base's, by its name.
-fn named_member(table: &[u8], sections: Sections, owner: u16, id: u16) -> Single
-    requires { ⌜ Accepted (now table) sections ⌝ }
+fn named_member(table: &[u8], index: &[u16], owner: u16, id: u16) -> Single
+    requires { ⌜ Accepted (now table) (now index) ⌝ }
     ensures { λ r. ⌜ ((x y : List ℕ) → singleOut (now (table .entry)) x y r ≡ namedMember (symbolsOf (now (table .entry))) owner id) ⌝ }
 {
-    if is_variable_name(table, sections, owner) {
+    if is_variable_name(table, index, owner) {
         return variable_member(id);
     }
     if owner == NameId::PAIR {
@@ -215,23 +214,16 @@ fn named_member(table: &[u8], sections: Sections, owner: u16, id: u16) -> Single
     if (NameId::LIST <= owner) & (owner <= NameId::SET_CLASS) {
         return collection_member(id);
     }
-    class_member(table, sections, owner, id)
+    class_member(table, index, owner, id)
 }
 
 // Those of a base of a kind; array: it is an Array. Its name and what it holds are read off the object.
-fn kind_member(
-    table: &[u8],
-    sections: Sections,
-    kind: u8,
-    array: bool,
-    object: &[u8],
-    id: u16,
-) -> Single
-    requires { ⌜ Accepted (now table) sections ⌝ }
+fn kind_member(table: &[u8], index: &[u16], kind: u8, array: bool, object: &[u8], id: u16) -> Single
+    requires { ⌜ Accepted (now table) (now index) ⌝ }
     ensures { λ r. ⌜ ((y : List ℕ) → singleOut (now (table .entry)) (now (object .entry)) y r ≡ kindMember (symbolsOf (now (table .entry))) kind array (now (object .entry)) id) ⌝ }
 {
     if kind == Kind::NAMED {
-        return named_member(table, sections, ty::name_of(object), id);
+        return named_member(table, index, ty::name_of(object), id);
     }
     if kind == Kind::STRING {
         return string_member(id);
@@ -249,35 +241,23 @@ fn kind_member(
 }
 
 // The access check of a member that has a visibility.
-fn visibility_report(
-    table: &[u8],
-    sections: Sections,
-    header: Header,
-    owner: u16,
-    id: u16,
-) -> Diagnostic
-    requires { ⌜ Accepted (now table) sections ⌝ }
+fn visibility_report(table: &[u8], index: &[u16], header: Header, owner: u16, id: u16) -> Diagnostic
+    requires { ⌜ Accepted (now table) (now index) ⌝ }
     ensures { λ r. ⌜ reportOf (r .kind) (r .number) ≡ visibilityReport (symbolsOf (now (table .entry))) header owner (symbolsOf (now (table .entry)) .visibilityOf owner id) ⌝ }
 {
-    let visibility = visibility_of(table, sections, owner, id);
+    let visibility = visibility_of(table, index, owner, id);
     match visibility {
         Visibility::Nothing => no_report(),
-        Visibility::Is(vis) => access_report(table, sections, header, vis, owner),
+        Visibility::Is(vis) => access_report(table, index, header, vis, owner),
     }
 }
 
-fn member_report(
-    table: &[u8],
-    sections: Sections,
-    header: Header,
-    base: &[u8],
-    id: u16,
-) -> Diagnostic
-    requires { ⌜ Accepted (now table) sections ⌝ }
+fn member_report(table: &[u8], index: &[u16], header: Header, base: &[u8], id: u16) -> Diagnostic
+    requires { ⌜ Accepted (now table) (now index) ⌝ }
     ensures { λ r. ⌜ reportOf (r .kind) (r .number) ≡ memberReport (symbolsOf (now (table .entry))) header (now (base .entry)) id ⌝ }
 {
     if ty::kind_of(base) == Kind::NAMED {
-        return visibility_report(table, sections, header, ty::name_of(base), id);
+        return visibility_report(table, index, header, ty::name_of(base), id);
     }
     no_report()
 }
@@ -291,14 +271,8 @@ fn is_nullable_object(t: &[u8]) -> bool
 }
 
 // The type of a member of an object, and what is reported.
-pub fn check_member(
-    table: &[u8],
-    sections: Sections,
-    header: Header,
-    id: u16,
-    object: &[u8],
-) -> Ruled
-    requires { ⌜ Accepted (now table) sections ⌝ }
+pub fn check_member(table: &[u8], index: &[u16], header: Header, id: u16, object: &[u8]) -> Ruled
+    requires { ⌜ Accepted (now table) (now index) ⌝ }
     ensures { λ r. ⌜ ((y : List ℕ) → outOf (now (table .entry)) (now (object .entry)) y r ≡ memberOut (symbolsOf (now (table .entry))) header id (now (object .entry))) ⌝ }
 {
     if is_nullable_object(object) {
@@ -309,9 +283,9 @@ pub fn check_member(
     if kind == Kind::MODULE {
         return alone(plain(Kind::ANY));
     }
-    let first = member_report(table, sections, header, base, id);
+    let first = member_report(table, index, header, base, id);
     behind(
         first,
-        kind_member(table, sections, kind, ty::is_array(base), object, id),
+        kind_member(table, index, kind, ty::is_array(base), object, id),
     )
 }

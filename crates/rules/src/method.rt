@@ -1,8 +1,7 @@
 // Operator methods.
 use crate::binary::BinOp;
-use symbol::checks::Sections;
 use symbol::functions::read_function;
-use symbol::lookups::Found;
+use symbol::index::Found;
 use symbol::lookups::Mask;
 use symbol::lookups::first_function;
 use symbol::lookups::operators_of;
@@ -12,7 +11,7 @@ use ty::NameId;
 ghost use mathlib.Core.Path.{_≡_};
 ghost use mathlib.Core.Option.{some};
 ghost use Prim.Native.Nat.{_≤_, suc};
-ghost use Rattle.symbol.specs.Sections.{Accepted};
+ghost use Rattle.symbol.specs.Accepted.{Accepted};
 ghost use Rattle.symbol.specs.Lookup.{symbolsOf};
 ghost use Rattle.rules.specs.OperatorMethod.{hasOperator, firstResult, climb as climbOf, operatorReturn};
 ghost use Rattle.rules.specs.Answer.{methodOf};
@@ -33,11 +32,11 @@ fn has_operator(mask: u16, op: u8) -> bool
 }
 
 // The result of the first function of a class and a name, and Any where there is none.
-fn first_result(table: &[u8], sections: Sections, class: u16, name: u16) -> Method
-    requires { ⌜ Accepted (now table) sections ⌝ }
+fn first_result(table: &[u8], index: &[u16], class: u16, name: u16) -> Method
+    requires { ⌜ Accepted (now table) (now index) ⌝ }
     ensures { λ r. ⌜ methodOf (now (table .entry)) r ≡ some (firstResult (symbolsOf (now (table .entry)) .functionsOf class name)) ⌝ }
 {
-    let found = first_function(table, sections, class, name);
+    let found = first_function(table, index, class, name);
     match found {
         Found::Nothing => Method::Any,
         Found::Here(place) => {
@@ -51,34 +50,34 @@ fn first_result(table: &[u8], sections: Sections, class: u16, name: u16) -> Meth
 }
 
 // The climb from a class, as long as there are operator sets.
-fn climb(table: &[u8], sections: Sections, op: u8, class: u16) -> Method
-    requires { ⌜ Accepted (now table) sections × (op ≤ 10) ⌝ }
+fn climb(table: &[u8], index: &[u16], op: u8, class: u16) -> Method
+    requires { ⌜ Accepted (now table) (now index) × (op ≤ 10) ⌝ }
     ensures { λ r. ⌜ methodOf (now (table .entry)) r ≡ climbOf (symbolsOf (now (table .entry))) (suc (symbolsOf (now (table .entry)) .classes)) op class ⌝ }
 {
     let mut at = class;
     while at != NameId::NONE {
-        let set = operators_of(table, sections, at);
+        let set = operators_of(table, index, at);
         match set {
             Mask::Nothing => {
                 return Method::Nothing;
             }
             Mask::Is(mask) => {
                 if has_operator(mask, op) {
-                    return first_result(table, sections, at, NameId::PLUS + op as u16);
+                    return first_result(table, index, at, NameId::PLUS + op as u16);
                 }
-                at = superclass_of(table, sections, at);
+                at = superclass_of(table, index, at);
             }
         }
     }
     Method::Nothing
 }
 
-pub fn operator_overload_return(table: &[u8], sections: Sections, op: u8, lt: &[u8]) -> Method
-    requires { ⌜ Accepted (now table) sections ⌝ }
+pub fn operator_overload_return(table: &[u8], index: &[u16], op: u8, lt: &[u8]) -> Method
+    requires { ⌜ Accepted (now table) (now index) ⌝ }
     ensures { λ r. ⌜ methodOf (now (table .entry)) r ≡ operatorReturn (symbolsOf (now (table .entry))) op (now (lt .entry)) ⌝ }
 {
     if (op <= BinOp::GE) & (ty::kind_of(lt) == Kind::NAMED) {
-        return climb(table, sections, op, ty::name_of(lt));
+        return climb(table, index, op, ty::name_of(lt));
     }
     Method::Nothing
 }

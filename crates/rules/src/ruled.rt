@@ -6,7 +6,7 @@ ghost use mathlib.Core.Path.{_≡_};
 ghost use mathlib.Core.List.{List, []};
 ghost use Rattle.ty.specs.Choose.{choose};
 ghost use Rattle.area.specs.Source.{typeFrom};
-ghost use Rattle.rules.specs.Out.{Out, errorTy, clean as cleanOut, plain as plainOut, behind as behindOut};
+ghost use Rattle.rules.specs.Out.{errorTy, clean as cleanOut, plain as plainOut, behind as behindOut};
 ghost use Rattle.rules.specs.Ruled.{reportOf, outOf, singleOut};
 
 // A diagnostic at the node itself: its kind, 0 for none, and its number.

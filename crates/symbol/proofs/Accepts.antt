@@ -11,7 +11,7 @@ use native.Mathlib.Omega.{arith, not-le}
 use Rattle.ty.proofs.Choice.{passed}
 use Rattle.ty.specs.Choose.{choose}
 use Rattle.symbol.proofs.Cleans.{Clean, clean-record}
-use Rattle.symbol.proofs.Passes.{fault-stop, fault-on, short-fault, long-fault}
+use Rattle.symbol.proofs.Faults.{fault-stop, fault-on, short-fault, long-fault}
 use Rattle.symbol.specs.Front.{headOf}
 use Rattle.symbol.specs.Lookup.{isOf, recordsWith}
 use Rattle.symbol.specs.Refused.{lastKind, recordFault, faultFrom, tableFault}

@@ -1,13 +1,13 @@
 -- A function read at its place is the overload of its record. Assumes nothing.
 use Prim.Native.Nat.{ℕ, _+_, _-_, _≤_, _<_}
 use lib.Dec.{eqb}
-use lib.ListN.{length, getD, drop, take, length-drop}
+use lib.ListN.{length, getD, drop, take}
 use mathlib.Core.Bool.{Bool, false}
 use mathlib.Core.List.{List}
 use mathlib.Core.Path.{_≡_, refl, sym, ap, _∙_, subst}
 use native.Mathlib.Omega.{arith}
 use Rattle.symbol.proofs.Arrays.{part-from, part-length, part-byte, part-take}
-use Rattle.symbol.proofs.Own.{head-own}
+use Rattle.symbol.proofs.Finds.{sits-own, sits-inside}
 use Rattle.symbol.proofs.Sizes.{head-fits}
 use Rattle.symbol.proofs.Wholes.{FunctionWhole, function-whole}
 use Rattle.symbol.specs.Answer.{overloadAt, FunctionAt, FunctionRead, paramsRow}
@@ -16,29 +16,27 @@ use Rattle.symbol.specs.Lookup.{typeLength, paramsFrom, overloadOf}
 use Rattle.symbol.specs.Row.{part, RowAt, ParamsAre}
 use Rattle.symbol.specs.Symbols.{Param}
 use Rattle.symbol.specs.Table.{frontRecord}
+use Rattle.symbol.specs.Walk.{behind}
 use Rattle.symbol.specs.declared.front.Head.{Head}
 use Rattle.symbol.specs.declared.functions.Params.{Params}
-use Rattle.symbol.specs.declared.lookups.Place.{Place}
+use Rattle.symbol.specs.declared.index.Place.{Place}
 
-module _ (t : List ℕ) (p : Place) (f : FunctionAt t p) where
+module _ (t : List ℕ) (p : Place) (f : FunctionAt t p) (end : ℕ) (is-end : end ≡ behind t (p .at)) where
   abbrev r : List ℕ
   r = frontRecord (drop (p .at) t)
 
-  abbrev end : ℕ
-  end = p .at + p .head .len
+  pub function-long : p .at + 8 ≤ end
+  function-long = omega (arith, head-fits (drop (p .at) t) .function (f .kind), is-end)
 
-  pub function-long : 8 ≤ p .head .len
-  function-long =
-      let e : headOf (drop (p .at) t) .kind ≡ 4 = ap (λ (x : Head). x .kind) (sym (f .head)) ∙ f .kind in
-      let n = head-fits (drop (p .at) t) .function e in
-      omega (arith, ap (λ (x : Head). x .len) (f .head))
+  pub function-inside : end ≤ length t
+  function-inside = omega (arith, sits-inside t (p .at) (f .sits) (f .some), is-end)
 
-  own : p .head ≡ headOf r
-  own = f .head ∙ sym (head-own (drop (p .at) t) (omega (arith, length-drop (p .at) t, function-long, f .inside)))
+  own : headOf (drop (p .at) t) ≡ headOf r
+  own = sym (sits-own t (p .at) (f .sits) (f .some))
 
   is-part : r ≡ part t (p .at) end
   is-part =
-      let e : headOf (drop (p .at) t) .len ≡ end - p .at = omega (arith, ap (λ (x : Head). x .len) (f .head)) in
+      let e : headOf (drop (p .at) t) .len ≡ end - p .at = omega (arith, is-end) in
       ap (λ (n : ℕ). take n (drop (p .at) t)) e
 
   pub function-is : FunctionWhole r
@@ -50,17 +48,21 @@ module _ (t : List ℕ) (p : Place) (f : FunctionAt t p) where
   byte : (i : ℕ) → i < 8 → getD r i 0 ≡ getD t (p .at + i) 0
   byte i h = ap (λ (x : List ℕ). getD x i 0) is-part ∙ part-byte t (p .at) end i (omega (arith, function-long))
 
+  pub function-builtin : (b : ℕ) → b ≡ getD t (p .at + 6) 0 → eqb b 1 ≡ overloadAt t p .builtin
+  unfolding overloadAt overloadOf
+  function-builtin b e = ap (λ (x : ℕ). eqb x 1) (e ∙ sym (byte 6 (omega arith)))
+
   module _ (len : ℕ) (is : len ≡ typeLength (part t (p .at + 8) end)) where
     long : typeLength (drop 8 r) ≡ len
     long = sym (is ∙ ap typeLength (from 8))
 
     pub function-room : p .at + 8 + len ≤ end
     function-room =
-        let l : length r ≡ end - p .at = ap length is-part ∙ part-length t (p .at) end (f .inside) in
-        omega (arith, function-is .result .inside, long, f .inside)
+        let l : length r ≡ end - p .at = ap length is-part ∙ part-length t (p .at) end (function-inside) in
+        omega (arith, function-is .result .inside, long, function-inside)
 
-    behind : drop (8 + typeLength (drop 8 r)) r ≡ part t (p .at + 8 + len) end
-    behind =
+    rest : drop (8 + typeLength (drop 8 r)) r ≡ part t (p .at + 8 + len) end
+    rest =
         let e : p .at + (8 + len) ≡ p .at + 8 + len = omega arith in
         ap (λ (n : ℕ). drop (8 + n) r) long ∙ sym (from (8 + len)) ∙ ap (λ (n : ℕ). part t n end) e
 
@@ -72,7 +74,7 @@ module _ (t : List ℕ) (p : Place) (f : FunctionAt t p) where
       function-count = omega (arith, function-is .fields .count, many)
 
       pub function-row : RowAt n (part t (p .at + 8 + len) end)
-      function-row = rw (← many, ← behind) (function-is .row)
+      function-row = rw (← many, ← rest) (function-is .row)
 
       pub function-read : (v b : ℕ) → v ≡ getD t (p .at + 5) 0 → b ≡ getD t (p .at + 6) 0 → (ps : Params)
           → ParamsAre t (paramsFrom n (part t (p .at + 8 + len) end)) n ps
@@ -82,12 +84,12 @@ module _ (t : List ℕ) (p : Place) (f : FunctionAt t p) where
           let pv : v ≡ getD r 5 0 = ev ∙ sym (byte 5 (omega arith)) in
           let pb : b ≡ getD r 6 0 = eb ∙ sym (byte 6 (omega arith)) in
           let pp : paramsRow t ps 0 (ps .count) ≡ paramsFrom (getD r 7 0) (drop (8 + typeLength (drop 8 r)) r)
-          = ap (λ (k : ℕ). paramsRow t ps 0 k) (h .count) ∙ h .same ∙ rw (many, behind) in
+          = ap (λ (k : ℕ). paramsRow t ps 0 k) (h .count) ∙ h .same ∙ rw (many, rest) in
           let pr : take len (drop (p .at + 8) t) ≡ take (typeLength (drop 8 r)) (drop 8 r)
           = sym (part-take t (p .at + 8) end len function-room) ∙ ap (λ (x : List ℕ). take len x) (from 8) ∙ ap (λ (k : ℕ). take k (drop 8 r)) (sym long) in
           record {
             same = λ i. record { builtin = eqb (pb i) 1; visibility = pv i; params = pp i; result = pr i };
-            result = omega (arith, function-room, f .inside);
+            result = omega (arith, function-room, function-inside);
             count = omega (arith, h .count, function-count);
             types = λ i l. h .types i (omega (arith, h .count));
           }

@@ -1,168 +1,352 @@
--- One record of a search, and where a section begins. Assumes nothing.
-use Prim.Native.Nat.{ℕ, zero, suc, _+_, _-_, _≤_, _<_}
-use borrow.Author.Tests.{eqb-true, ltb-true}
+-- One record of a search along a bucket. Assumes nothing.
+use Prim.Native.Nat.{ℕ, zero, suc, _+_, _-_, _*_, _%_, _≤_, _<_}
+use borrow.Author.Tests.{eqb-true, eq-eqb, ne-eqb, ltb-true, ltb-false, le-ltb}
 use lib.Dec.{eqb, ltb}
 use lib.ListN.{length, getD, drop, take, length-drop}
-use lib.Seq.{drop-drop, length-take-le}
-use mathlib.Core.Bool.{Bool, true, false, _&&_, _||_}
+use lib.Seq.{drop-drop, getD-drop, length-take-le}
+use mathlib.Core.Bool.{Bool, true, false, _&&_, _||_, false≢true}
 use mathlib.Core.List.{List, [], _∷_}
 use mathlib.Core.Path.{_≡_, refl, sym, ap, _∙_, subst}
 use native.Mathlib.Nat.{not-suc-le-zero}
-use native.Mathlib.Omega.{arith}
-use Rattle.ty.proofs.Choice.{and-left}
+use native.Mathlib.Omega.{arith, not-le}
+use Rattle.ty.proofs.Choice.{and-left, and-right}
 use Rattle.ty.specs.Bytes.{idAt}
 use Rattle.ty.specs.Choose.{choose}
-use Rattle.symbol.proofs.Accepts.{CleanFrom, clean-at, with-no, with-past, other-kind}
+use Rattle.symbol.proofs.Accepts.{CleanFrom, clean-at, with-no}
 use Rattle.symbol.proofs.Bounds.{head-bounded}
-use Rattle.symbol.proofs.Records.{here-cons, at-next, records-here, records-end, record-byte, record-part}
-use Rattle.symbol.proofs.Sizes.{Fits, head-fits}
-use Rattle.symbol.specs.Answer.{HereIs}
+use Rattle.symbol.proofs.Cleans.{Clean}
+use Rattle.symbol.proofs.Records.{at-start, at-next, records-here, records-end, record-byte, record-part}
+use Rattle.symbol.proofs.Own.{head-own}
+use Rattle.symbol.proofs.Sizes.{Fits, head-fits, head-kind, head-ids, head-long}
+use Rattle.symbol.specs.Accepted.{Accepted}
+use Rattle.symbol.specs.Answer.{HereIs, FunctionAt}
+use Rattle.symbol.specs.Bucket.{keyBucket, bucketOf}
 use Rattle.symbol.specs.Front.{headOf}
+use Rattle.symbol.specs.Index.{bucketCount, bucketIn, nextIn, nextFrom, nextAt}
 use Rattle.symbol.specs.Lookup.{isOf, recordsWith}
 use Rattle.symbol.specs.Refused.{tableFault}
-use Rattle.symbol.specs.Sections.{countBelow, bytesBelow, sectionOf}
+use Rattle.symbol.specs.Searched.{Searched, withAt}
 use Rattle.symbol.specs.Table.{Record, recordsOf, frontRecord}
-use Rattle.symbol.specs.Walk.{At, StepIs, recordAt, before}
+use Rattle.symbol.specs.Walk.{At, Sits, behind, StepIs, recordAt, before}
 use Rattle.symbol.specs.declared.front.Head.{Head}
-use Rattle.symbol.specs.declared.lookups.Place.{Place}
+use Rattle.symbol.specs.declared.index.Place.{Place}
 use Rattle.symbol.specs.declared.walk.Cursor.{Cursor}
-use Rattle.symbol.specs.declared.walk.Step.{Step}
 
 with-yes : (k a b : ℕ) (r : Record) (rs : List Record) → isOf k a b (headOf r) ≡ true → recordsWith k a b (r ∷ rs) ≡ r ∷ recordsWith k a b rs
 unfolding recordsWith choose
 with-yes k a b r rs h = rw h
 
-module _ (t : List ℕ) (c : Cursor) (at : At t c) (s : Step) (st : StepIs t c s) (k a b : ℕ) where
-  clean-here : tableFault t ≡ 0 → CleanFrom (before (c .index) (recordsOf t)) (recordAt t c ∷ recordsOf (drop (s .next .at) t))
-  clean-here e = subst (λ (z : List Record). CleanFrom (before (c .index) (recordsOf t)) z) (here-cons t c at s st) (clean-at t c at e)
+-- ---- records with one key have one bucket
+key-bucket : (k a b : ℕ) (r : Record) → 2 ≤ k → isOf k a b (headOf r) ≡ true → bucketOf r ≡ keyBucket k a b
+unfolding bucketOf keyBucket choose
+key-bucket k a b r l e =
+    let d : headOf r .kind ≡ k = eqb-true _ _ (and-left (eqb (headOf r .kind) k) (eqb (headOf r .one) a && (ltb k 4 || eqb (headOf r .two) b)) e) in
+    let f = and-right (eqb (headOf r .kind) k) (eqb (headOf r .one) a && (ltb k 4 || eqb (headOf r .two) b)) e in
+    let o : headOf r .one ≡ a = eqb-true _ _ (and-left (eqb (headOf r .one) a) (ltb k 4 || eqb (headOf r .two) b) f) in
+    let g = and-right (eqb (headOf r .one) a) (ltb k 4 || eqb (headOf r .two) b) f in
+    let n : k ≡ 1 → ⊥ = λ z. omega arith in
+    rw (d, o, ne-eqb k 1 n) (go (ltb k 4) g)
+  where
+    go : (v : Bool) → v || eqb (headOf r .two) b ≡ true → choose v a ((a * 509 + headOf r .two) % 65536) ≡ choose v a ((a * 509 + b) % 65536)
+    go true h = refl
+    go false h = rw (eqb-true (headOf r .two) b h)
 
-  -- a later kind
-  pub find-past : tableFault t ≡ 0 → k < s .head .kind → recordsWith k a b (recordsOf (drop (c .at) t)) ≡ []
-  find-past e l =
-      let n : headOf (recordAt t c) .kind ≡ s .head .kind = ap (λ (h : Head). h .kind) (sym (st .own)) in
-      ap (recordsWith k a b) (here-cons t c at s st)
-      ∙ with-no k a b _ _ (other-kind k a b (headOf (recordAt t c)) (λ z. omega arith))
-      ∙ with-past k a b (recordAt t c ∷ before (c .index) (recordsOf t)) _ (clean-here e .1) (omega arith)
+pub drop-id : (t : List ℕ) (p i : ℕ) → idAt (drop p t) i ≡ idAt t (p + i)
+drop-id t p i = let e : p + (i + 1) ≡ p + i + 1 = omega arith in rw (getD-drop p t i 0, getD-drop p t (i + 1) 0, e)
 
-  module _ (v : Bool) (e : v ≡ isOf k a b (s .head)) where
-    here : isOf k a b (headOf (recordAt t c)) ≡ v
-    here = sym (e ∙ ap (isOf k a b) (st .own))
+-- ---- a record begins at byte p
+module _ (t : List ℕ) (p : ℕ) (w : Sits t p) (some : p < length t) where
+  abbrev here : Record
+  here = frontRecord (drop p t)
 
-    pub find-no : v ≡ false → recordsWith k a b (recordsOf (drop (c .at) t)) ≡ recordsWith k a b (recordsOf (drop (s .next .at) t))
-    find-no n = ap (recordsWith k a b) (here-cons t c at s st) ∙ with-no k a b _ _ (here ∙ n)
+  more : 0 < length (drop p t)
+  more = omega (arith, length-drop p t)
 
-    pub find-yes : tableFault t ≡ 0 → v ≡ true → (all : List Record) → recordsWith k a b (recordsOf (drop (c .at) t)) ≡ all
-        → HereIs t all k a b (record { at = c .at; head = s .head; next = s .next })
-    find-yes f y all q =
+  pub sits-cons : recordsOf (drop p t) ≡ here ∷ recordsOf (drop (behind t p) t)
+  sits-cons =
+      records-here (drop p t) more ∙ ap (λ (z : List ℕ). here ∷ recordsOf z) (drop-drop (headOf (drop p t) .len) p t)
+
+  pub sits-own : headOf here ≡ headOf (drop p t)
+  sits-own = head-own (drop p t) more
+
+  pub sits-inside : behind t p ≤ length t
+  sits-inside = omega (arith, length-drop p t, head-bounded (drop p t) more .high)
+
+  pub sits-later : p < behind t p
+  sits-later = omega (arith, head-bounded (drop p t) more .low)
+
+  pub sits-length : p + length here ≡ behind t p
+  sits-length = omega (arith, length-take-le (headOf (drop p t) .len) (drop p t) (head-bounded (drop p t) more .high))
+
+  pub sits-at : At t (record { at = behind t p; index = w .index + 1 })
+  sits-at =
+      at-next t (record { at = p; index = w .index }) (w .at)
+      (record { head = headOf (drop p t); next = record { at = behind t p; index = w .index + 1 } })
+      (record { head = refl; own = sym sits-own; next = refl; index = refl; low = sits-later; high = sits-inside })
+
+  pub sits-next : Sits t (behind t p)
+  sits-next = record { index = w .index + 1; at = sits-at }
+
+  module _ (clean : tableFault t ≡ 0) where
+    pub sits-clean : Clean (before (w .index) (recordsOf t)) here (here ∷ recordsOf (drop (behind t p) t))
+    sits-clean =
+        subst (λ (z : List Record). CleanFrom (before (w .index) (recordsOf t)) z) sits-cons
+        (clean-at t (record { at = p; index = w .index }) (w .at) clean) .0
+
+    whole : headOf (drop p t) .malformed ≡ false
+    whole = sym (ap (λ (h : Head). h .malformed) sits-own) ∙ sits-clean .whole
+
+    pub sits-long : p + 5 ≤ behind t p
+    sits-long = omega (arith, head-long (drop p t) whole)
+
+    byte : getD (drop p t) 0 0 ≡ getD t p 0
+    byte = let e : p + 0 ≡ p = omega arith in getD-drop p t 0 0 ∙ ap (λ (n : ℕ). getD t n 0) e
+
+    -- the test of a key by the record's bytes
+    pub raw-test : (k a b : ℕ) → 2 ≤ k
+        → (eqb (getD t p 0) k && (eqb (idAt t (p + 1)) a && (ltb k 4 || eqb (idAt t (p + 3)) b))) ≡ isOf k a b (headOf here)
+    raw-test k a b l =
+        let q : headOf here .kind ≡ getD t p 0 = ap (λ (h : Head). h .kind) sits-own ∙ head-kind (drop p t) whole ∙ byte in
+        rw (← q) (go (eqb (headOf here .kind) k) refl)
+      where
+        go : (v : Bool) → eqb (headOf here .kind) k ≡ v → v && (eqb (idAt t (p + 1)) a && (ltb k 4 || eqb (idAt t (p + 3)) b)) ≡ v && (eqb (headOf here .one) a && (ltb k 4 || eqb (headOf here .two) b))
+        go false e = refl
+        go true e =
+            let d : headOf here .kind ≡ k = eqb-true _ _ e in
+            let m : 2 ≤ headOf (drop p t) .kind = omega (arith, ap (λ (h : Head). h .kind) sits-own) in
+            let i = head-ids (drop p t) m in
+            let one : headOf here .one ≡ idAt t (p + 1) = ap (λ (h : Head). h .one) sits-own ∙ i .0 ∙ drop-id t p 1 in
+            let two : headOf here .two ≡ idAt t (p + 3) = ap (λ (h : Head). h .two) sits-own ∙ i .1 ∙ drop-id t p 3 in
+            rw (one, two)
+
+-- ---- the first record of a bucket
+module _ (t : List ℕ) (n b k a c : ℕ) (low : 2 ≤ k) (is : keyBucket k a c % bucketCount n ≡ b) where
+  other : (r : Record) → eqb (bucketIn n r) b ≡ false → isOf k a c (headOf r) ≡ false
+  other r e = go (isOf k a c (headOf r)) refl
+    where
+      go : (v : Bool) → isOf k a c (headOf r) ≡ v → v ≡ false
+      go false h = refl
+      go true h =
+          let q : bucketIn n r ≡ b = ap (λ (z : ℕ). z % bucketCount n) (key-bucket k a c r low h) ∙ is in
+          absurd (false≢true (sym e ∙ eq-eqb _ _ q))
+
+  pub none-left : (p : ℕ) (rs : List Record) → nextIn n b p rs ≡ 0 → recordsWith k a c rs ≡ []
+  unfolding nextIn choose
+  none-left p [] e = unfold recordsWith in refl
+  none-left p (r ∷ rs) e = go (eqb (bucketIn n r) b) refl e (none-left (p + length r) rs)
+    where
+      go : (v : Bool) → eqb (bucketIn n r) b ≡ v → choose (eqb (bucketIn n r) b) (suc p) (nextIn n b (p + length r) rs) ≡ 0
+          → (nextIn n b (p + length r) rs ≡ 0 → recordsWith k a c rs ≡ []) → recordsWith k a c (r ∷ rs) ≡ []
+      go true h q ih = absurd (omega (arith, rw h at q))
+      go false h q ih = with-no k a c r rs (other r h) ∙ ih (rw h at q)
+
+-- it begins at byte q, and the records before it have other buckets
+pub record Reached (t : List ℕ) (b p q : ℕ) : Type 0 where
+  pub sits : Sits t q
+  pub some : q < length t
+  pub own : bucketIn (length t) (frontRecord (drop q t)) ≡ b
+  pub later : p ≤ q
+  pub same : (k a c : ℕ) → 2 ≤ k → keyBucket k a c % bucketCount (length t) ≡ b
+      → recordsWith k a c (recordsOf (drop p t)) ≡ recordsWith k a c (recordsOf (drop q t))
+
+module _ (t : List ℕ) (b q p : ℕ) (w : Sits t p) (e : nextFrom t b p ≡ suc q) where
+  reach-end : length t ≤ p → Reached t b p q
+  unfolding nextIn
+  reach-end l = let f : 0 ≡ suc q = sym (ap (nextIn (length t) b p) (records-end t p l)) ∙ e in absurd (omega arith)
+
+  module _ (some : p < length t) where
+    reach-here : eqb (bucketIn (length t) (frontRecord (drop p t))) b ≡ true → Reached t b p q
+    unfolding nextIn choose
+    reach-here u =
+        let d : nextFrom t b p ≡ suc p = ap (nextIn (length t) b p) (sits-cons t p w some) ∙ (rw u) in
+        let f : suc p ≡ suc q = sym d ∙ e in
+        let g : p ≡ q = omega arith in
+        subst (λ (z : ℕ). Reached t b p z) g
+        (record { sits = w; some = some; own = eqb-true _ _ u; later = omega arith; same = λ k a c l i. refl })
+
+    module _ (u : eqb (bucketIn (length t) (frontRecord (drop p t))) b ≡ false) where
+      reach-next : nextFrom t b (behind t p) ≡ suc q
+      unfolding nextIn choose
+      reach-next =
+          let g : nextFrom t b p ≡ nextIn (length t) b (p + length (frontRecord (drop p t))) (recordsOf (drop (behind t p) t))
+          = ap (nextIn (length t) b p) (sits-cons t p w some) ∙ (rw u) in
+          sym (g ∙ ap (λ (z : ℕ). nextIn (length t) b z (recordsOf (drop (behind t p) t))) (sits-length t p w some)) ∙ e
+
+      reach-past : Reached t b (behind t p) q → Reached t b p q
+      reach-past r =
+          record {
+            sits = r .sits;
+            some = r .some;
+            own = r .own;
+            later = omega (arith, r .later, sits-later t p w some);
+            same = λ k a c l i.
+                ap (recordsWith k a c) (sits-cons t p w some) ∙ with-no k a c _ _ (other t (length t) b k a c l i (frontRecord (drop p t)) u) ∙ r .same k a c l i;
+          }
+
+pub reach : (t : List ℕ) (b q m p : ℕ) → length t - p ≤ m → Sits t p → nextFrom t b p ≡ suc q → Reached t b p q
+reach t b q zero p h w e = reach-end t b q p w e (omega arith)
+reach t b q (suc m) p h w e =
+    go (ltb p (length t)) refl (eqb (bucketIn (length t) (frontRecord (drop p t))) b) refl
+    (λ l some u. reach t b q m (behind t p) l (sits-next t p w some) (reach-next t b q p w e some u))
+  where
+    go : (v : Bool) → ltb p (length t) ≡ v → (y : Bool) → eqb (bucketIn (length t) (frontRecord (drop p t))) b ≡ y
+        → (length t - behind t p ≤ m → (some : p < length t) → eqb (bucketIn (length t) (frontRecord (drop p t))) b ≡ false → Reached t b (behind t p) q)
+        → Reached t b p q
+    go false f y u ih = reach-end t b q p w e (ltb-false p (length t) f)
+    go true f true u ih = reach-here t b q p w e (ltb-true p (length t) f) u
+    go true f false u ih =
+        let some = ltb-true p (length t) f in
+        reach-past t b q p w e some u (ih (omega (arith, sits-later t p w some)) some u)
+
+-- ---- the search
+pub positive : (v : ℕ) → (v ≡ 0 → ⊥) → v ≡ suc (v - 1)
+positive v h = let l = not-le v 0 (λ m. h (omega arith)) in omega arith
+
+abbrev pub leftOf : ℕ → ℕ → ℕ
+leftOf n zero = 0
+leftOf n (suc p) = suc (n - p)
+
+module _ (t x : List ℕ) (ok : Accepted t x) (k a b v : ℕ) (s : Searched t v k a b) where
+  abbrev bucket : ℕ
+  bucket = keyBucket k a b % bucketCount (length t)
+
+  module _ (p : ℕ) (e : v ≡ suc p) where
+    pub searched-at : Reached t bucket (s .from) p
+    searched-at = reach t bucket p (length t - s .from) (s .from) (omega arith) (s .sits) (sym (s .is) ∙ e)
+
+    abbrev test : Bool
+    test = eqb (getD t p 0) k && (eqb (idAt t (p + 1)) a && (ltb k 4 || eqb (idAt t (p + 3)) b))
+
+    tested : test ≡ isOf k a b (headOf (frontRecord (drop p t)))
+    tested = raw-test t p (searched-at .sits) (searched-at .some) (ok .clean) k a b (s .kind)
+
+    cons : withAt t v k a b ≡ recordsWith k a b (frontRecord (drop p t) ∷ recordsOf (drop (behind t p) t))
+    cons = ap (λ (z : ℕ). withAt t z k a b) e ∙ ap (recordsWith k a b) (sits-cons t p (searched-at .sits) (searched-at .some))
+
+    pub searched-here : test ≡ true → HereIs t (withAt t v k a b) k a b (record { at = p })
+    searched-here h =
         record {
-          first = sym q ∙ ap (recordsWith k a b) (here-cons t c at s st) ∙ with-yes k a b _ _ (here ∙ y);
-          head = st .head;
-          own = st .own;
-          kind = eqb-true _ _ (and-left (eqb (s .head .kind) k) (eqb (s .head .one) a && (ltb k 4 || eqb (s .head .two) b)) (sym e ∙ y));
-          error = ap (λ (h : Head). h .error) (st .own) ∙ clean-here f .0 .typed;
-          inside = omega (arith, st .next, st .high);
-          next = at-next t c at s st;
-          later = st .low;
+          first = cons ∙ with-yes k a b _ _ (sym tested ∙ h);
+          kind = sym (ap (λ (h : Head). h .kind) own) ∙ eqb-true _ _ (and-left (eqb (headOf (frontRecord (drop p t)) .kind) k) (eqb (headOf (frontRecord (drop p t)) .one) a && (ltb k 4 || eqb (headOf (frontRecord (drop p t)) .two) b)) (sym tested ∙ h));
+          one = sym (ap (λ (h : Head). h .one) own) ∙ eqb-true _ _ (and-left (eqb (headOf (frontRecord (drop p t)) .one) a) (ltb k 4 || eqb (headOf (frontRecord (drop p t)) .two) b) pair);
+          two = λ l. sym (ap (λ (h : Head). h .two) own) ∙ eqb-true _ _ (second l (and-right (eqb (headOf (frontRecord (drop p t)) .one) a) (ltb k 4 || eqb (headOf (frontRecord (drop p t)) .two) b) pair));
+          error = sym (ap (λ (h : Head). h .error) own) ∙ sits-clean t p (searched-at .sits) (searched-at .some) (ok .clean) .typed;
+          some = searched-at .some;
+          sits = searched-at .sits;
+        }
+      where
+        own : headOf (frontRecord (drop p t)) ≡ headOf (drop p t)
+        own = sits-own t p (searched-at .sits) (searched-at .some)
+
+        pair : eqb (headOf (frontRecord (drop p t)) .one) a && (ltb k 4 || eqb (headOf (frontRecord (drop p t)) .two) b) ≡ true
+        pair = and-right (eqb (headOf (frontRecord (drop p t)) .kind) k) (eqb (headOf (frontRecord (drop p t)) .one) a && (ltb k 4 || eqb (headOf (frontRecord (drop p t)) .two) b)) (sym tested ∙ h)
+
+        second : 4 ≤ k → ltb k 4 || eqb (headOf (frontRecord (drop p t)) .two) b ≡ true → eqb (headOf (frontRecord (drop p t)) .two) b ≡ true
+        second l g = rw (le-ltb k 4 l) at g
+
+    module _ (v′ : ℕ) (next : v′ ≡ getD x (nextAt (length t) p) 0) where
+      is-next : v′ ≡ nextFrom t bucket (behind t p)
+      is-next = next ∙ ok .indexed .next p (searched-at .sits) (searched-at .some) ∙ ap (λ (z : ℕ). nextFrom t z (behind t p)) (searched-at .own)
+
+      pub searched-on : Searched t v′ k a b
+      searched-on =
+          record { from = behind t p; kind = s .kind; sits = sits-next t p (searched-at .sits) (searched-at .some); is = is-next }
+
+      pub searched-less : leftOf (length t) v′ < leftOf (length t) v
+      searched-less = subst (λ (z : ℕ). leftOf (length t) v′ < leftOf (length t) z) (sym e) (go v′ is-next)
+        where
+          go : (z : ℕ) → z ≡ nextFrom t bucket (behind t p) → leftOf (length t) z < leftOf (length t) (suc p)
+          go zero q = omega arith
+          go (suc r) q =
+              let w = reach t bucket r (length t - behind t p) (behind t p) (omega arith) (sits-next t p (searched-at .sits) (searched-at .some)) (sym q) in
+              omega (arith, w .later, w .some, sits-later t p (searched-at .sits) (searched-at .some))
+
+-- the records of a search are those of the table from its byte on
+pub searched-all : (t : List ℕ) (k a b v : ℕ) (s : Searched t v k a b) → withAt t v k a b ≡ recordsWith k a b (recordsOf (drop (s .from) t))
+searched-all t k a b zero s = sym (none-left t (length t) _ k a b (s .kind) refl (s .from) _ (sym (s .is)))
+searched-all t k a b (suc p) s =
+    sym (reach t (keyBucket k a b % bucketCount (length t)) p (length t - s .from) (s .from) (omega arith) (s .sits) (sym (s .is)) .same k a b (s .kind) refl)
+
+module _ (t x : List ℕ) (ok : Accepted t x) (k a b v p v′ : ℕ) (s : Searched t v k a b) (e : v ≡ suc p) (next : v′ ≡ getD x (nextAt (length t) p) 0) where
+  pub searched-same : (eqb (getD t p 0) k && (eqb (idAt t (p + 1)) a && (ltb k 4 || eqb (idAt t (p + 3)) b))) ≡ false → withAt t v′ k a b ≡ withAt t v k a b
+  unfolding searched-on
+  searched-same h =
+      searched-all t k a b v′ (searched-on t x ok k a b v s p e v′ next)
+      ∙ sym (cons t x ok k a b v s p e ∙ with-no k a b _ _ (sym (tested t x ok k a b v s p e) ∙ h))
+
+-- ---- where a search begins
+module _ (t x : List ℕ) (ok : Accepted t x) where
+  sits-start : Sits t 0
+  sits-start = record { index = 0; at = at-start t }
+
+  pub seek-first : (k a b : ℕ) → 2 ≤ k → (r : ℕ) → r ≡ keyBucket k a b % bucketCount (length t) → r < bucketCount (length t) → (v : ℕ) → v ≡ getD x (1 + r) 0
+      → Searched t v k a b
+  seek-first k a b l r e h v q =
+      record { from = 0; kind = l; sits = sits-start; is = q ∙ ok .indexed .first r h ∙ ap (λ (z : ℕ). nextFrom t z 0) e }
+
+  pub seek-all : (k a b : ℕ) (l : 2 ≤ k) (r : ℕ) (e : r ≡ keyBucket k a b % bucketCount (length t)) (h : r < bucketCount (length t)) (v : ℕ) (q : v ≡ getD x (1 + r) 0)
+      → withAt t v k a b ≡ recordsWith k a b (recordsOf t)
+  unfolding seek-first
+  seek-all k a b l r e h v q = searched-all t k a b v (seek-first k a b l r e h v q)
+
+  module _ (p : Place) (f : FunctionAt t p) (a b : ℕ) (ea : a ≡ idAt t (p .at + 1)) (eb : b ≡ idAt t (p .at + 3)) (v : ℕ)
+      (q : v ≡ getD x (nextAt (length t) (p .at)) 0) where
+    key : bucketOf (frontRecord (drop (p .at) t)) ≡ keyBucket 4 a b
+    unfolding bucketOf choose
+    key =
+        let o = sits-own t (p .at) (f .sits) (f .some) in
+        let k : headOf (frontRecord (drop (p .at) t)) .kind ≡ 4 = ap (λ (h : Head). h .kind) o ∙ f .kind in
+        let i = head-ids (drop (p .at) t) (omega (arith, f .kind)) in
+        let one : headOf (frontRecord (drop (p .at) t)) .one ≡ a = ap (λ (h : Head). h .one) o ∙ i .0 ∙ drop-id t (p .at) 1 ∙ sym ea in
+        let two : headOf (frontRecord (drop (p .at) t)) .two ≡ b = ap (λ (h : Head). h .two) o ∙ i .1 ∙ drop-id t (p .at) 3 ∙ sym eb in
+        rw (k, one, two)
+
+    pub next-first : Searched t v 4 a b
+    next-first =
+        record {
+          from = behind t (p .at);
+          kind = omega arith;
+          sits = sits-next t (p .at) (f .sits) (f .some);
+          is = q ∙ ok .indexed .next (p .at) (f .sits) (f .some) ∙ ap (λ (z : ℕ). nextFrom t (z % bucketCount (length t)) (behind t (p .at))) key;
         }
 
--- ---- where a section begins
-pub record Begins (k : ℕ) (s : List ℕ) : Type 0 where
-  pub sits : recordsOf (drop (bytesBelow k (recordsOf s)) s) ≡ drop (countBelow k (recordsOf s)) (recordsOf s)
-  pub behind : countBelow k (recordsOf s) ≤ bytesBelow k (recordsOf s)
-  pub inside : bytesBelow k (recordsOf s) ≤ length s
-  pub count : countBelow k (recordsOf s) ≤ length (recordsOf s)
-
--- where no record is before it
-begins-here : (k : ℕ) (s : List ℕ) → bytesBelow k (recordsOf s) ≡ 0 → countBelow k (recordsOf s) ≡ 0 → Begins k s
-begins-here k s b n = record { sits = rw (b, n); behind = omega arith; inside = omega arith; count = omega arith }
-
-begins-later : (k : ℕ) (s s′ : List ℕ) (r : Record) → recordsOf s ≡ r ∷ recordsOf s′ → s′ ≡ drop (length r) s → length s ≡ length r + length s′ → 1 ≤ length r
-    → ltb (headOf r .kind) k ≡ true → Begins k s′ → Begins k s
-unfolding bytesBelow countBelow choose
-begins-later k s s′ r e d l o q w =
-    let b : bytesBelow k (recordsOf s) ≡ length r + bytesBelow k (recordsOf s′) = ap (bytesBelow k) e ∙ rw q in
-    let n : countBelow k (recordsOf s) ≡ suc (countBelow k (recordsOf s′)) = ap (countBelow k) e ∙ rw q in
-    record {
-      sits =
-          ap (λ (z : ℕ). recordsOf (drop z s)) b
-          ∙ ap recordsOf (sym (drop-drop (bytesBelow k (recordsOf s′)) (length r) s) ∙ ap (λ (z : List ℕ). drop (bytesBelow k (recordsOf s′)) z) (sym d))
-          ∙ w .sits
-          ∙ sym (ap (λ (z : ℕ). drop z (recordsOf s)) n ∙ ap (λ (z : List Record). drop (suc (countBelow k (recordsOf s′))) z) e);
-      behind = omega (arith, w .behind);
-      inside = omega (arith, w .inside);
-      count = omega (arith, w .count, ap (λ (z : List Record). length z) e);
-    }
-
-begins-none : (k : ℕ) (s : List ℕ) → recordsOf s ≡ [] → Begins k s
-unfolding bytesBelow countBelow
-begins-none k s e = begins-here k s (ap (bytesBelow k) e) (ap (countBelow k) e)
-
-begins-first : (k : ℕ) (s : List ℕ) (r : Record) (rs : List Record) → recordsOf s ≡ r ∷ rs → ltb (headOf r .kind) k ≡ false → Begins k s
-unfolding bytesBelow countBelow choose
-begins-first k s r rs e q = begins-here k s (ap (bytesBelow k) e ∙ rw q) (ap (countBelow k) e ∙ rw q)
-
-begins : (k n : ℕ) (s : List ℕ) → length s ≤ n → Begins k s
-begins k zero [] h = begins-none k [] (records-end [] 0 (omega arith))
-begins k zero (b ∷ bs) h = absurd (not-suc-le-zero h)
-begins k (suc n) [] h = begins-none k [] (records-end [] 0 (omega arith))
-begins k (suc n) (b ∷ bs) h =
-    go (ltb (headOf (frontRecord (b ∷ bs)) .kind) k) refl (λ l. begins k n (drop (headOf (b ∷ bs) .len) (b ∷ bs)) l)
-  where
-    some : 0 < length (b ∷ bs)
-    some = omega arith
-
-    long : length (frontRecord (b ∷ bs)) ≡ headOf (b ∷ bs) .len
-    long = length-take-le (headOf (b ∷ bs) .len) (b ∷ bs) (head-bounded (b ∷ bs) some .high)
-
-    go : (v : Bool) → ltb (headOf (frontRecord (b ∷ bs)) .kind) k ≡ v
-        → (length (drop (headOf (b ∷ bs) .len) (b ∷ bs)) ≤ n → Begins k (drop (headOf (b ∷ bs) .len) (b ∷ bs)))
-        → Begins k (b ∷ bs)
-    go false q ih = begins-first k (b ∷ bs) _ _ (records-here (b ∷ bs) some) q
-    go true q ih =
-        let w = head-bounded (b ∷ bs) some in
-        let m = length-drop (headOf (b ∷ bs) .len) (b ∷ bs) in
-        begins-later k (b ∷ bs) (drop (headOf (b ∷ bs) .len) (b ∷ bs)) (frontRecord (b ∷ bs)) (records-here (b ∷ bs) some)
-        (ap (λ (z : ℕ). drop z (b ∷ bs)) (sym long)) (omega (arith, long, w .high)) (omega (arith, long, w .low)) q (ih (omega (arith, w .low)))
-
--- THE CURSOR of a section stands in the table
-pub section-at : (k : ℕ) (t : List ℕ) → At t (sectionOf k (recordsOf t))
-section-at k t =
-    let w = begins k (length t) t (omega arith) in
-    record { sits = w .sits; behind = w .behind; inside = w .inside; count = w .count }
-
--- the records before a section are of other kinds
-with-below : (k a b : ℕ) (rs : List Record) → recordsWith k a b (drop (countBelow k rs) rs) ≡ recordsWith k a b rs
-unfolding countBelow choose
-with-below k a b [] = refl
-with-below k a b (r ∷ rs) = go (ltb (headOf r .kind) k) refl (with-below k a b rs)
-  where
-    go : (v : Bool) → ltb (headOf r .kind) k ≡ v → recordsWith k a b (drop (countBelow k rs) rs) ≡ recordsWith k a b rs
-        → recordsWith k a b (drop (choose (ltb (headOf r .kind) k) (suc (countBelow k rs)) 0) (r ∷ rs)) ≡ recordsWith k a b (r ∷ rs)
-    go true q ih =
-        rw q (ih ∙ sym (with-no k a b r rs (other-kind k a b (headOf r) (λ e. omega (arith, ltb-true (headOf r .kind) k q)))))
-    go false q ih = rw q
-
-pub section-with : (k a b : ℕ) (t : List ℕ) → recordsWith k a b (recordsOf (drop (bytesBelow k (recordsOf t)) t)) ≡ recordsWith k a b (recordsOf t)
-section-with k a b t = ap (recordsWith k a b) (section-at k t .sits) ∙ with-below k a b (recordsOf t)
+    pub next-all : withAt t v 4 a b ≡ recordsWith 4 (idAt t (p .at + 1)) (idAt t (p .at + 3)) (recordsOf (drop (behind t (p .at)) t))
+    unfolding next-first
+    next-all =
+        searched-all t 4 a b v next-first
+        ∙ ap (λ (z : ℕ). recordsWith 4 z b (recordsOf (drop (behind t (p .at)) t))) ea
+        ∙ ap (λ (z : ℕ). recordsWith 4 (idAt t (p .at + 1)) z (recordsOf (drop (behind t (p .at)) t))) eb
 
 -- ---- what stands in a record that was found
 module _ (t : List ℕ) (all : List Record) (k a b : ℕ) (p : Place) (h : HereIs t all k a b p) where
   abbrev place : Cursor
   place = record { at = p .at; index = 0 }
 
-  place-len : headOf (drop (p .at) t) .len ≡ p .head .len
-  place-len = ap (λ (x : Head). x .len) (sym (h .head))
+  pub place-fits : Fits k (headOf (drop (p .at) t) .len)
+  place-fits = rw (← h .kind) (head-fits (drop (p .at) t))
 
-  pub place-fits : Fits k (p .head .len)
-  place-fits = rw (← h .kind, h .head) (head-fits (drop (p .at) t))
+  pub place-inside : behind t (p .at) ≤ length t
+  place-inside = sits-inside t (p .at) (h .sits) (h .some)
 
-  pub place-byte : (i : ℕ) → i < p .head .len → getD (frontRecord (drop (p .at) t)) i 0 ≡ getD t (p .at + i) 0
-  place-byte i l = record-byte t place i 0 (omega (arith, place-len))
+  pub place-byte : (i : ℕ) → i < headOf (drop (p .at) t) .len → getD (frontRecord (drop (p .at) t)) i 0 ≡ getD t (p .at + i) 0
+  place-byte i l = record-byte t place i 0 l
 
-  pub place-id : (i : ℕ) → i + 2 ≤ p .head .len → idAt (frontRecord (drop (p .at) t)) i ≡ idAt t (p .at + i)
+  pub place-id : (i : ℕ) → i + 2 ≤ headOf (drop (p .at) t) .len → idAt (frontRecord (drop (p .at) t)) i ≡ idAt t (p .at + i)
   place-id i l =
       let e : p .at + (i + 1) ≡ p .at + i + 1 = omega arith in
       rw (place-byte i (omega arith), place-byte (i + 1) (omega arith), e)
 
-  pub place-part : (i : ℕ) → drop i (frontRecord (drop (p .at) t)) ≡ take (p .head .len - i) (drop (p .at + i) t)
-  place-part i = record-part t place i ∙ ap (λ (n : ℕ). take (n - i) (drop (p .at + i) t)) place-len
+  pub place-part : (i : ℕ) → drop i (frontRecord (drop (p .at) t)) ≡ take (headOf (drop (p .at) t) .len - i) (drop (p .at + i) t)
+  place-part i = record-part t place i
+
+  ids : 2 ≤ k → (headOf (drop (p .at) t) .one ≡ idAt (drop (p .at) t) 1) × (headOf (drop (p .at) t) .two ≡ idAt (drop (p .at) t) 3)
+  ids l = head-ids (drop (p .at) t) (omega (arith, h .kind))
+
+  pub place-one : 2 ≤ k → idAt t (p .at + 1) ≡ a
+  place-one l = sym (ids l .0 ∙ drop-id t (p .at) 1) ∙ h .one
+
+  pub place-key : 4 ≤ k → idAt t (p .at + 3) ≡ b
+  place-key l = sym (ids (omega arith) .1 ∙ drop-id t (p .at) 3) ∙ h .two l
+
+  pub place-two : 2 ≤ k → headOf (frontRecord (drop (p .at) t)) .two ≡ idAt t (p .at + 3)
+  place-two l = ap (λ (x : Head). x .two) (sits-own t (p .at) (h .sits) (h .some)) ∙ ids l .1 ∙ drop-id t (p .at) 3

@@ -6,12 +6,16 @@ pub mod Records
 pub mod Sizes
 pub mod Rows
 pub mod Keys
-pub mod Marks
+pub mod SameKeys
 pub mod Cleans
+pub mod Faults
 pub mod Passes
 pub mod Verdicts
 pub mod Accepts
+pub mod Buckets
 pub mod Finds
+pub mod Chains
+pub mod Earlier
 pub mod Lists
 pub mod Wholes
 pub mod Arrays
@@ -22,3 +26,4 @@ pub mod Goods
 pub mod Cases
 pub mod Ranks
 pub mod Subclasses
+pub mod Rooms

@@ -16,10 +16,14 @@ use Rattle.symbol.proofs.Sizes.{head-fits, head-known}
 use Rattle.symbol.specs.Front.{headOf}
 use Rattle.symbol.specs.Lookup.{namesIn}
 use Rattle.symbol.specs.Refused.{lastKind}
-use Rattle.symbol.specs.Sections.{countBelow}
-use Rattle.symbol.specs.Table.{Record, frontRecord, recordsOf}
+use Rattle.symbol.specs.Table.{Record, frontRecord, recordsOf, countOf}
 use Rattle.symbol.specs.declared.front.Head.{Head}
 use Rattle.ty.specs.Choose.{choose}
+
+-- how many records are before the first whose kind is k or more
+unfoldable pub countBelow : ℕ → List Record → ℕ
+countBelow k [] = 0
+countBelow k (r ∷ rs) = choose (ltb (headOf r .kind) k) (suc (countBelow k rs)) 0
 
 no-names : (earlier rs : List Record) → CleanFrom earlier rs → 1 < lastKind earlier → namesIn rs ≡ []
 unfolding namesIn choose
@@ -120,3 +124,27 @@ name-at (suc i) s earlier c h j l =
     ∙ name-at i (drop 26 s) (frontRecord s ∷ earlier) (f .clean) (omega (arith, f .count)) j l
     ∙ getD-drop 26 s (26 * i + j) 0
     ∙ ap (λ (k : ℕ). getD s k 0) e
+
+-- they are as many as the names
+count-none : (earlier rs : List Record) → CleanFrom earlier rs → 1 < lastKind earlier → countOf 1 rs ≡ 0
+unfolding countOf choose
+count-none earlier [] c l = refl
+count-none earlier (r ∷ rs) c l =
+    let h = c .0 .rises in
+    rw (ne-eqb (headOf r .kind) 1 (λ z. omega arith)) (omega (arith, count-none (r ∷ earlier) rs (c .1) (omega arith)))
+
+pub names-counted : (earlier rs : List Record) → CleanFrom earlier rs → countOf 1 rs ≡ countBelow 2 rs
+unfolding countBelow countOf choose
+names-counted earlier [] c = refl
+names-counted earlier (r ∷ rs) c = go (ltb (headOf r .kind) 2) refl (names-counted (r ∷ earlier) rs (c .1))
+  where
+    go : (v : Bool) → ltb (headOf r .kind) 2 ≡ v → countOf 1 rs ≡ countBelow 2 rs → countOf 1 (r ∷ rs) ≡ choose (ltb (headOf r .kind) 2) (suc (countBelow 2 rs)) 0
+    go true q ih =
+        let k = head-known r (c .0 .whole) in
+        let l = ltb-true (headOf r .kind) 2 q in
+        let e : headOf r .kind ≡ 1 = omega arith in
+        rw (q, eq-eqb (headOf r .kind) 1 e) (omega (arith, ih))
+    go false q ih =
+        let l = ltb-false (headOf r .kind) 2 q in
+        let n : headOf r .kind ≡ 1 → ⊥ = λ z. omega arith in
+        rw (q, ne-eqb (headOf r .kind) 1 n) (omega (arith, count-none (r ∷ earlier) rs (c .1) (omega arith)))

@@ -10,7 +10,7 @@ use native.Mathlib.Omega.{arith, not-le}
 use Rattle.symbol.proofs.Bounds.{head-bounded}
 use Rattle.symbol.proofs.Own.{head-own, drop-take}
 use Rattle.symbol.specs.Front.{headOf}
-use Rattle.symbol.specs.Sections.{start}
+use Rattle.symbol.specs.Accepted.{start}
 use Rattle.symbol.specs.Table.{Record, frontRecord, recordsFrom, recordsOf, joined}
 use Rattle.symbol.specs.Walk.{At, recordAt, StepIs, before}
 use Rattle.symbol.specs.declared.walk.Cursor.{Cursor}

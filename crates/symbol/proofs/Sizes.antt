@@ -33,11 +33,13 @@ pub record Fits (k n : ℕ) : Type 0 where
   pub field : k ≡ 5 → 5 ≤ n
   pub visibility : k ≡ 6 → n ≡ 6
 
--- what a record's first byte says of what is read: a malformed record has no kind, any other that one, and a length that goes with it
-record Shape (kind : ℕ) (h : Head) : Type 0 where
+-- what a record's first byte says of what is read: a malformed record has no kind, any other that one, a length that goes with it, and, from kind 2 on, two ids
+record Shape (kind : ℕ) (s : List ℕ) (h : Head) : Type 0 where
   fits : Fits (h .kind) (h .len)
   same : 1 ≤ h .kind → kind ≡ h .kind
   known : h .malformed ≡ false → 1 ≤ h .kind
+  ids : 2 ≤ h .kind → (h .one ≡ idAt s 1) × (h .two ≡ idAt s 3)
+  five : 1 ≤ h .kind → 5 ≤ h .len
 
 -- a length that goes with no kind in particular
 fits-any : (k n : ℕ) → (1 ≤ k → 6 < k) → Fits k n
@@ -70,80 +72,82 @@ fits-6 : Fits 6 6
 fits-6 = record { name = λ e. omega arith; class = λ e. omega arith; operators = λ e. omega arith; function = λ e. omega arith; field = λ e. omega arith; visibility = λ _. refl }
 
 module _ (kind : ℕ) (s : List ℕ) where
-  broken : Shape kind (brokenHead s)
-  broken = record { fits = fits-any 0 (length s) (λ l. absurd (omega arith)); same = λ l. absurd (omega arith); known = λ e. absurd (true≢false e) }
+  broken : Shape kind s (brokenHead s)
+  broken = record { fits = fits-any 0 (length s) (λ l. absurd (omega arith)); same = λ l. absurd (omega arith); known = λ e. absurd (true≢false e); ids = λ l. absurd (omega arith); five = λ l. absurd (omega arith) }
 
   -- a head that has that kind
-  whole : (h : Head) → Fits (h .kind) (h .len) → eqb kind (h .kind) ≡ true → 1 ≤ h .kind → Shape kind h
-  whole h f e l = record { fits = f; same = λ _. eqb-true kind (h .kind) e; known = λ _. l }
+  whole : (h : Head) → Fits (h .kind) (h .len) → eqb kind (h .kind) ≡ true → 1 ≤ h .kind → (2 ≤ h .kind → (h .one ≡ idAt s 1) × (h .two ≡ idAt s 3)) → 5 ≤ h .len
+      → Shape kind s h
+  whole h f e l i w = record { fits = f; same = λ _. eqb-true kind (h .kind) e; known = λ _. l; ids = i; five = λ _. w }
 
-  plain : (n : ℕ) (bad : Bool) (k one two top : ℕ) → Fits k n → eqb kind k ≡ true → 1 ≤ k → Shape kind (plainHead s n bad k one two top)
+  plain : (n : ℕ) (bad : Bool) (k one two top : ℕ) → Fits k n → eqb kind k ≡ true → 1 ≤ k → (2 ≤ k → (one ≡ idAt s 1) × (two ≡ idAt s 3)) → 5 ≤ n
+      → Shape kind s (plainHead s n bad k one two top)
   unfolding plainHead
-  plain n bad k one two top f e l =
-      by-choice (Shape kind) (ltb (length s) n) (λ _. broken) λ _.
-      by-choice (Shape kind) bad (λ _. broken) (λ _. whole _ f e l)
+  plain n bad k one two top f e l i w =
+      by-choice (Shape kind s) (ltb (length s) n) (λ _. broken) λ _.
+      by-choice (Shape kind s) bad (λ _. broken) (λ _. whole _ f e l i w)
 
-  function : eqb kind 4 ≡ true → Shape kind (functionHead s)
+  function : eqb kind 4 ≡ true → Shape kind s (functionHead s)
   unfolding functionHead functionWith
   function k =
-      by-choice (Shape kind) (ltb (length s) 8) (λ _. broken) λ e.
-      by-choice (Shape kind) (ltb 3 (getD s 5 0)) (λ _. broken) λ _.
-      by-choice (Shape kind) (ltb 1 (getD s 6 0)) (λ _. broken) λ _.
-      by-choice (Shape kind) (ltb 16 (getD s 7 0)) (λ _. broken) λ _.
+      by-choice (Shape kind s) (ltb (length s) 8) (λ _. broken) λ e.
+      by-choice (Shape kind s) (ltb 3 (getD s 5 0)) (λ _. broken) λ _.
+      by-choice (Shape kind s) (ltb 1 (getD s 6 0)) (λ _. broken) λ _.
+      by-choice (Shape kind s) (ltb 16 (getD s 7 0)) (λ _. broken) λ _.
       let l = ltb-false (length s) 8 e in
-      by-choice (Shape kind) (eqb (paramsRead s .state) 0) (λ _. whole _ (fits-4 (paramsRead s .len) (read-inside s l .0)) k (omega arith)) λ _.
-      by-choice (Shape kind) (eqb (paramsRead s .state) 2) (λ _. whole _ (fits-4 (length s) l) k (omega arith)) (λ _. broken)
+      by-choice (Shape kind s) (eqb (paramsRead s .state) 0) (λ _. whole _ (fits-4 (paramsRead s .len) (read-inside s l .0)) k (omega arith) (λ _. (refl, refl)) (omega (arith, read-inside s l .0))) λ _.
+      by-choice (Shape kind s) (eqb (paramsRead s .state) 2) (λ _. whole _ (fits-4 (length s) l) k (omega arith) (λ _. (refl, refl)) (omega arith)) (λ _. broken)
 
-  field-with : eqb kind 5 ≡ true → 5 ≤ length s → (one two : ℕ) (r : TypeRead) → Shape kind (fieldWith s one two r)
-  field-with k l one two (Whole n top e) = whole _ (fits-5 (5 + n) (omega arith)) k (omega arith)
-  field-with k l one two Cut = broken
-  field-with k l one two Malformed = broken
-  field-with k l one two (Endless top e) = whole _ (fits-5 (length s) l) k (omega arith)
+  field-with : eqb kind 5 ≡ true → 5 ≤ length s → (r : TypeRead) → Shape kind s (fieldWith s (idAt s 1) (idAt s 3) r)
+  field-with k l (Whole n top e) = whole _ (fits-5 (5 + n) (omega arith)) k (omega arith) (λ _. (refl, refl)) (omega arith)
+  field-with k l Cut = broken
+  field-with k l Malformed = broken
+  field-with k l (Endless top e) = whole _ (fits-5 (length s) l) k (omega arith) (λ _. (refl, refl)) l
 
-  field : eqb kind 5 ≡ true → Shape kind (fieldHead s)
+  field : eqb kind 5 ≡ true → Shape kind s (fieldHead s)
   unfolding fieldHead
   field k =
-      by-choice (Shape kind) (ltb (length s) 5) (λ _. broken) λ e.
-      field-with k (ltb-false (length s) 5 e) (idAt s 1) (idAt s 3) (readType (drop 5 s) longestType)
+      by-choice (Shape kind s) (ltb (length s) 5) (λ _. broken) λ e.
+      field-with k (ltb-false (length s) 5 e) (readType (drop 5 s) longestType)
 
-  name : eqb kind 1 ≡ true → Shape kind (nameHead s)
+  name : eqb kind 1 ≡ true → Shape kind s (nameHead s)
   unfolding nameHead
-  name k = plain 26 _ 1 0 0 0 fits-1 k (omega arith)
+  name k = plain 26 _ 1 0 0 0 fits-1 k (omega arith) (λ l. absurd (omega arith)) (omega arith)
 
-  class : eqb kind 2 ≡ true → Shape kind (classHead s)
+  class : eqb kind 2 ≡ true → Shape kind s (classHead s)
   unfolding classHead
-  class k = plain 8 _ 2 _ _ _ fits-2 k (omega arith)
+  class k = plain 8 _ 2 _ _ _ fits-2 k (omega arith) (λ _. (refl, refl)) (omega arith)
 
-  operators : eqb kind 3 ≡ true → Shape kind (operatorsHead s)
+  operators : eqb kind 3 ≡ true → Shape kind s (operatorsHead s)
   unfolding operatorsHead
-  operators k = plain 5 _ 3 _ _ _ fits-3 k (omega arith)
+  operators k = plain 5 _ 3 _ _ _ fits-3 k (omega arith) (λ _. (refl, refl)) (omega arith)
 
-  visibility : eqb kind 6 ≡ true → Shape kind (visibilityHead s)
+  visibility : eqb kind 6 ≡ true → Shape kind s (visibilityHead s)
   unfolding visibilityHead
-  visibility k = plain 6 _ 6 _ _ _ fits-6 k (omega arith)
+  visibility k = plain 6 _ 6 _ _ _ fits-6 k (omega arith) (λ _. (refl, refl)) (omega arith)
 
-  suspend : eqb kind 7 ≡ true → Shape kind (suspendHead s)
+  suspend : eqb kind 7 ≡ true → Shape kind s (suspendHead s)
   unfolding suspendHead
-  suspend k = plain 5 _ 7 _ _ _ (fits-any 7 5 (λ _. omega arith)) k (omega arith)
+  suspend k = plain 5 _ 7 _ _ _ (fits-any 7 5 (λ _. omega arith)) k (omega arith) (λ _. (refl, refl)) (omega arith)
 
-  variant : eqb kind 8 ≡ true → Shape kind (variantHead s)
+  variant : eqb kind 8 ≡ true → Shape kind s (variantHead s)
   unfolding variantHead
-  variant k = plain 5 _ 8 _ _ _ (fits-any 8 5 (λ _. omega arith)) k (omega arith)
+  variant k = plain 5 _ 8 _ _ _ (fits-any 8 5 (λ _. omega arith)) k (omega arith) (λ _. (refl, refl)) (omega arith)
 
-  shape : Shape kind (headBy kind s)
+  shape : Shape kind s (headBy kind s)
   unfolding headBy
   shape =
-      by-choice (Shape kind) (eqb kind 1) name λ _.
-      by-choice (Shape kind) (eqb kind 2) class λ _.
-      by-choice (Shape kind) (eqb kind 3) operators λ _.
-      by-choice (Shape kind) (eqb kind 4) function λ _.
-      by-choice (Shape kind) (eqb kind 5) field λ _.
-      by-choice (Shape kind) (eqb kind 6) visibility λ _.
-      by-choice (Shape kind) (eqb kind 7) suspend λ _.
-      by-choice (Shape kind) (eqb kind 8) variant (λ _. broken)
+      by-choice (Shape kind s) (eqb kind 1) name λ _.
+      by-choice (Shape kind s) (eqb kind 2) class λ _.
+      by-choice (Shape kind s) (eqb kind 3) operators λ _.
+      by-choice (Shape kind s) (eqb kind 4) function λ _.
+      by-choice (Shape kind s) (eqb kind 5) field λ _.
+      by-choice (Shape kind s) (eqb kind 6) visibility λ _.
+      by-choice (Shape kind s) (eqb kind 7) suspend λ _.
+      by-choice (Shape kind s) (eqb kind 8) variant (λ _. broken)
 
 module _ (s : List ℕ) where
-  head-shape : Shape (getD s 0 0) (headOf s)
+  head-shape : Shape (getD s 0 0) s (headOf s)
   unfolding headOf
   head-shape = shape (getD s 0 0) s
 
@@ -153,6 +157,18 @@ module _ (s : List ℕ) where
   -- a record that is not malformed has a kind
   pub head-known : headOf s .malformed ≡ false → 1 ≤ headOf s .kind
   head-known e = head-shape .known e
+
+  -- and at least 5 bytes
+  pub head-long : headOf s .malformed ≡ false → 5 ≤ headOf s .len
+  head-long e = head-shape .five (head-known e)
+
+  -- its kind is its first byte
+  pub head-kind : headOf s .malformed ≡ false → headOf s .kind ≡ getD s 0 0
+  head-kind e = sym (head-shape .same (head-known e))
+
+  -- and from kind 2 on its ids are its next bytes
+  pub head-ids : 2 ≤ headOf s .kind → (headOf s .one ≡ idAt s 1) × (headOf s .two ≡ idAt s 3)
+  head-ids = head-shape .ids
 
   -- and it was read as a record of its kind
   pub head-by : (k : ℕ) → 1 ≤ k → headOf s .kind ≡ k → headOf s ≡ headBy k s

@@ -7,7 +7,7 @@ use mathlib.Core.List.{List}
 use mathlib.Core.Path.{_≡_, refl, sym, ap, _∙_}
 use Rattle.ty.specs.Choose.{choose}
 use Rattle.symbol.specs.Refused.{tableFault}
-use Rattle.symbol.specs.Sections.{sectionsOf, acceptance, checkedOf, Accepted}
+use Rattle.symbol.specs.Accepted.{acceptance, checkedOf}
 use Rattle.symbol.specs.Table.{recordsOf, nameCount}
 use Rattle.symbol.specs.declared.checks.Checked.{Checked}
 
@@ -20,7 +20,7 @@ checked-number t = go (eqb (tableFault t) 0) refl
     go true q = rw q (sym (eqb-true (tableFault t) 0 q))
     go false q = rw q
 
--- AN ANSWER WITHOUT A NUMBER accepts the table, and has its names and sections
+-- AN ANSWER WITHOUT A NUMBER accepts the table, and has its names
 module _ (t : List ℕ) (r : Checked) (e : r ≡ checkedOf t) (z : r .number ≡ 0) where
   pub checked-clean : tableFault t ≡ 0
   checked-clean = sym (ap (λ (x : Checked). x .number) e ∙ checked-number t) ∙ z
@@ -28,9 +28,6 @@ module _ (t : List ℕ) (r : Checked) (e : r ≡ checkedOf t) (z : r .number ≡
   accepts : r ≡ acceptance (recordsOf t)
   unfolding checkedOf choose
   accepts = e ∙ rw checked-clean
-
-  pub checked-accepted : Accepted t (r .sections)
-  checked-accepted = record { clean = checked-clean; sections = ap (λ (x : Checked). x .sections) accepts }
 
   pub checked-names : r .names ≡ nameCount (recordsOf t)
   checked-names = ap (λ (x : Checked). x .names) accepts

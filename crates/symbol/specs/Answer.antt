@@ -1,16 +1,14 @@
 -- What the lookups answer.
 use Prim.Native.Nat.{ℕ, zero, suc, _+_, _≤_, _<_}
 use mathlib.Core.Path.{_≡_}
-use mathlib.Core.Bool.{Bool, false}
+use mathlib.Core.Bool.{false}
 use mathlib.Core.List.{List, [], _∷_, map}
 use mathlib.Core.Option.{Option, none, some}
 use lib.ListN.{length, getD, drop, take}
-use Rattle.ty.specs.Bytes.{Ty}
-use Rattle.symbol.specs.declared.front.Head.{Head}
-use Rattle.symbol.specs.declared.walk.Cursor.{Cursor}
-use Rattle.symbol.specs.declared.lookups.Place.{Place}
-use Rattle.symbol.specs.declared.lookups.Found.{Found}
-use Rattle.symbol.specs.declared.lookups.Found.the-variants as found
+use Rattle.ty.specs.Bytes.{Ty, idAt}
+use Rattle.symbol.specs.declared.index.Place.{Place}
+use Rattle.symbol.specs.declared.index.Found.{Found}
+use Rattle.symbol.specs.declared.index.Found.the-variants as found
 use Rattle.symbol.specs.declared.lookups.Part.{Part}
 use Rattle.symbol.specs.declared.lookups.Part.the-variants as part
 use Rattle.symbol.specs.declared.lookups.Mask.{Mask}
@@ -23,7 +21,7 @@ use Rattle.symbol.specs.Symbols.{Param, Overload}
 use Rattle.symbol.specs.Front.{headOf}
 use Rattle.symbol.specs.Table.{Record, recordsOf, frontRecord}
 use Rattle.symbol.specs.Lookup.{recordsWith, overloadOf}
-use Rattle.symbol.specs.Walk.{At}
+use Rattle.symbol.specs.Walk.{Sits, behind}
 
 -- ---- parts of the table, masks, visibilities
 abbrev pub partOf : List ℕ → Part → Option Ty
@@ -47,14 +45,13 @@ visibilityOf (visibility.Is v) = some v
 
 -- one that stands at a place, and the others behind it
 pub record HereIs (t : List ℕ) (all : List Record) (k a b : ℕ) (p : Place) : Type 0 where
-  pub first : all ≡ frontRecord (drop (p .at) t) ∷ recordsWith k a b (recordsOf (drop (p .next .at) t))
-  pub head : p .head ≡ headOf (drop (p .at) t)
-  pub own : p .head ≡ headOf (frontRecord (drop (p .at) t))
-  pub kind : p .head .kind ≡ k
-  pub error : p .head .error ≡ false
-  pub inside : p .at + p .head .len ≤ length t
-  pub next : At t (p .next)
-  pub later : p .at < p .next .at
+  pub first : all ≡ frontRecord (drop (p .at) t) ∷ recordsWith k a b (recordsOf (drop (behind t (p .at)) t))
+  pub kind : headOf (drop (p .at) t) .kind ≡ k
+  pub one : headOf (drop (p .at) t) .one ≡ a
+  pub two : 4 ≤ k → headOf (drop (p .at) t) .two ≡ b
+  pub error : headOf (drop (p .at) t) .error ≡ false
+  pub some : p .at < length t
+  pub sits : Sits t (p .at)
 
 abbrev pub FoundIs : List ℕ → List Record → ℕ → ℕ → ℕ → Found → Type 0
 FoundIs t all k a b found.Nothing = all ≡ []
@@ -62,31 +59,30 @@ FoundIs t all k a b (found.Here p) = HereIs t all k a b p
 
 -- ---- functions
 
--- the functions of an owner and a name from the cursor on
-unfoldable pub functionsFrom : List ℕ → Cursor → ℕ → ℕ → List Overload
-functionsFrom t c owner name = map overloadOf (recordsWith 4 owner name (recordsOf (drop (c .at) t)))
-
 -- the overload at a place
 unfoldable pub overloadAt : List ℕ → Place → Overload
 overloadAt t p = overloadOf (frontRecord (drop (p .at) t))
 
--- a whole function record without Error stands at the place, and the cursor behind it stands in the table
+-- the functions behind that at a place with its owner and name
+unfoldable pub functionsBehind : List ℕ → Place → List Overload
+functionsBehind t p =
+    map overloadOf (recordsWith 4 (idAt t (p .at + 1)) (idAt t (p .at + 3)) (recordsOf (drop (behind t (p .at)) t)))
+
+-- a whole function record without Error begins at the place
 pub record FunctionAt (t : List ℕ) (p : Place) : Type 0 where
-  pub head : p .head ≡ headOf (drop (p .at) t)
-  pub kind : p .head .kind ≡ 4
-  pub error : p .head .error ≡ false
-  pub inside : p .at + p .head .len ≤ length t
-  pub next : At t (p .next)
+  pub kind : headOf (drop (p .at) t) .kind ≡ 4
+  pub error : headOf (drop (p .at) t) .error ≡ false
+  pub some : p .at < length t
+  pub sits : Sits t (p .at)
 
 -- a search among `all` finds nothing, or the first at a place and the others behind it
-pub record FunctionIs (t : List ℕ) (all : List Overload) (owner name : ℕ) (p : Place) : Type 0 where
-  pub first : all ≡ overloadAt t p ∷ functionsFrom t (p .next) owner name
+pub record FunctionIs (t : List ℕ) (all : List Overload) (p : Place) : Type 0 where
+  pub first : all ≡ overloadAt t p ∷ functionsBehind t p
   pub here : FunctionAt t p
-  pub later : p .at < p .next .at
 
-abbrev pub FunctionFound : List ℕ → List Overload → ℕ → ℕ → Found → Type 0
-FunctionFound t all owner name found.Nothing = all ≡ []
-FunctionFound t all owner name (found.Here p) = FunctionIs t all owner name p
+abbrev pub FunctionFound : List ℕ → List Overload → Found → Type 0
+FunctionFound t all found.Nothing = all ≡ []
+FunctionFound t all (found.Here p) = FunctionIs t all p
 
 -- ---- a function that was read: its types are parts of the table
 abbrev pub paramAt : List ℕ → Params → ℕ → Param

@@ -1,5 +1,5 @@
--- Buckets of keys, by which the check of a table finds quickly that a key was not met before. Records with one key have one bucket; nothing but the check's speed
--- depends on which it is.
+-- Buckets of keys, by which the check of a table finds quickly whether a key was met before, and the lookups find a key's records. Records with one key have
+-- one bucket; nothing but speed depends on which it is.
 use Prim.Native.Nat.{ℕ, zero, suc, _+_, _*_, _%_}
 use mathlib.Core.List.{List}
 use lib.ListN.{getD}
@@ -23,11 +23,9 @@ weighedOf (suc k) name = weighedOf k name + getD name k 0 * weightOf k
 unfoldable pub hashOf : ℕ → List ℕ → ℕ
 hashOf k name = weighedOf k name % 65536
 
--- of two ids
-abbrev pub pairOf : ℕ → ℕ → ℕ
-pairOf one two = (one * 509 + two) % 65536
+-- of the key of a record of kind 2 or more; of kinds 2 and 3 the key is the first id alone
+unfoldable pub keyBucket : ℕ → ℕ → ℕ → ℕ
+keyBucket kind one two = choose (ltb kind 4) one ((one * 509 + two) % 65536)
 
 unfoldable pub bucketOf : Record → ℕ
-bucketOf r =
-    choose (eqb (headOf r .kind) 1) (hashOf 24 (nameBytes r))
-    (choose (ltb (headOf r .kind) 4) (headOf r .one) (pairOf (headOf r .one) (headOf r .two)))
+bucketOf r = choose (eqb (headOf r .kind) 1) (hashOf 24 (nameBytes r)) (keyBucket (headOf r .kind) (headOf r .one) (headOf r .two))

@@ -6,8 +6,11 @@ pub mod Refused
 pub mod Bucket
 pub mod Lookup
 pub mod Subclass
-pub mod Sections
 pub mod Walk
+pub mod Index
+pub mod Searched
+pub mod Entered
+pub mod Accepted
 pub mod Asked
 pub mod Answer
 pub mod Row

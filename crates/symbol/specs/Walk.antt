@@ -2,7 +2,7 @@
 use Prim.Native.Nat.{ℕ, zero, suc, _+_, _≤_, _<_}
 use mathlib.Core.Path.{_≡_}
 use mathlib.Core.List.{List, [], _∷_}
-use lib.ListN.{length, getD, drop, take}
+use lib.ListN.{length, getD, drop}
 use Rattle.ty.specs.declared.read.TypeRead.{TypeRead}
 use Rattle.ty.specs.declared.read.TypeRead.the-variants.{Whole, Cut, Malformed, Endless}
 use Rattle.symbol.specs.declared.front.Head.{Head}
@@ -30,6 +30,15 @@ pub record At (t : List ℕ) (c : Cursor) : Type 0 where
   pub behind : c .index ≤ c .at
   pub inside : c .at ≤ length t
   pub count : c .index ≤ length (recordsOf t)
+
+-- a record begins at byte p, or the table ends there
+pub record Sits (t : List ℕ) (p : ℕ) : Type 0 where
+  pub index : ℕ
+  pub at : At t (record { at = p; index = index })
+
+-- the byte behind the record that begins at byte p
+abbrev pub behind : List ℕ → ℕ → ℕ
+behind t p = p + headOf (drop p t) .len
 
 -- the record at the cursor
 abbrev pub recordAt : List ℕ → Cursor → Record

@@ -1,5 +1,13 @@
 // The table's refusals.
 use crate::front::Head;
+use crate::front::id_at;
+use crate::index::enter;
+use crate::index::entry_at;
+use crate::index::key_bucket;
+use crate::index::next_at;
+use crate::index::number;
+use crate::index::put;
+use crate::index::reduced;
 use crate::spelling::is_builtin;
 use crate::walk::Cursor;
 use ty::NameId;
@@ -7,34 +15,23 @@ use ty::byte_at;
 use ty::name::id_defined;
 use ty::same_bytes;
 ghost use mathlib.Core.Path.{_≡_};
-ghost use mathlib.Core.Bool.{true, false, _&&_, _||_, not};
+ghost use mathlib.Core.Bool.{_&&_};
 ghost use Prim.Native.Nat.{_+_, _≤_, _<_};
 ghost use lib.Dec.{eqb};
 ghost use lib.ListN.{length, drop, take};
 ghost use Rattle.ty.specs.Choose.{choose};
-ghost use Rattle.symbol.specs.Asked.{Asked};
-ghost use Rattle.symbol.specs.Bucket.{hashOf, pairOf, bucketOf};
-ghost use Rattle.symbol.specs.Refused.{nameBytes, sameKey, hasKey, isBuiltinName, isClass, hasClass, superLate, recordFault};
-ghost use Rattle.symbol.specs.Sections.{entered, sectionsEntered, noSections, refusal, checkedOf};
-ghost use Rattle.symbol.specs.Table.{recordsOf};
+ghost use Rattle.symbol.specs.Asked.{Prepared, Asked};
+ghost use Rattle.symbol.specs.Bucket.{hashOf, bucketOf};
+ghost use Rattle.symbol.specs.Entered.{Begun, Entered};
+ghost use Rattle.symbol.specs.Refused.{tableFault, nameBytes, sameKey, hasKey, isBuiltinName, isClass, hasClass, superLate, recordFault};
+ghost use Rattle.symbol.specs.Accepted.{refusal, checkedOf, IndexRoom, Accepted};
+ghost use Rattle.symbol.specs.Table.{recordsOf, frontRecord};
 ghost use Rattle.symbol.specs.Walk.{At, Stands, recordAt, before};
 
-// Where the records of each kind from 2 on begin.
-pub struct Sections {
-    pub classes: Cursor,
-    pub operators: Cursor,
-    pub functions: Cursor,
-    pub fields: Cursor,
-    pub visibilities: Cursor,
-    pub suspends: Cursor,
-    pub variants: Cursor,
-}
-
-// What the check of a table answers: a number, how many names the table has, and its sections. A refusal has no names and empty sections.
+// What the check of a table answers: a number, and how many names the table has. A refusal has no names.
 pub struct Checked {
     pub number: u8,
     pub names: u16,
-    pub sections: Sections,
 }
 
 // The 24 bytes of the name record at p.
@@ -47,24 +44,25 @@ fn name_at(t: &[u8], p: usize) -> &[u8]
     &t[from..to]
 }
 
-// The records g at c and h at me have one key.
-fn same_key(t: &[u8], c: Cursor, g: Head, me: Cursor, h: Head) -> bool
-    requires { ⌜ Stands (now t) c g × Stands (now t) me h ⌝ }
-    ensures { λ r. ⌜ r ≡ sameKey (recordAt (now (t .entry)) c) (recordAt (now (t .entry)) me) ⌝ }
+// The record at p has the key of the record h at me.
+fn same_key(t: &[u8], p: usize, me: Cursor, h: Head) -> bool
+    requires { ⌜ Begun (now t) p × Stands (now t) me h × (length (now t) ≤ 60000) ⌝ }
+    ensures { λ r. ⌜ r ≡ sameKey (frontRecord (drop p (now (t .entry)))) (recordAt (now (t .entry)) me) ⌝ }
 {
-    if g.kind != h.kind {
+    let kind = byte_at(t, p);
+    if kind != h.kind {
         return false;
     }
-    if g.kind == 1 {
-        return same_bytes(name_at(t, c.at), name_at(t, me.at));
+    if kind == 1 {
+        return same_bytes(name_at(t, p), name_at(t, me.at));
     }
-    if g.kind < 4 {
-        return same_id(g.one, h.one);
+    if kind < 4 {
+        return same_id(id_at(t, p + 1), h.one);
     }
-    if g.kind == 4 {
+    if kind == 4 {
         return false;
     }
-    same_id(g.one, h.one) & same_id(g.two, h.two)
+    same_id(id_at(t, p + 1), h.one) & same_id(id_at(t, p + 3), h.two)
 }
 
 fn same_id(a: u16, b: u16) -> bool
@@ -73,32 +71,23 @@ fn same_id(a: u16, b: u16) -> bool
     a == b
 }
 
-// An earlier record has the key of the record h at me.
-fn key_before(t: &[u8], me: Cursor, h: Head) -> bool
-    requires { ⌜ Stands (now t) me h ⌝ }
+// An earlier record has the key of the record h at me, whose bucket is b.
+fn has_key(t: &[u8], x: &[u16], me: Cursor, h: Head, b: usize) -> bool
+    requires { ⌜ Prepared (now t) (now x) me h b ⌝ }
     ensures { λ r. ⌜ r ≡ hasKey (recordAt (now (t .entry)) me) (before (me .index) (recordsOf (now (t .entry)))) ⌝ }
 {
-    let mut c = Cursor::new();
-    let mut found = false;
-    while c.index < me.index {
-        let s = c.step(t);
-        let g = s.head;
-        found = same_key(t, c, g, me, h) | found;
-        c = s.next;
-    }
-    found
-}
-
-// As key_before, where it may be known that there is none.
-fn key_repeated(t: &[u8], me: Cursor, h: Head, fresh: bool) -> bool
-    requires { ⌜ Stands (now t) me h ⌝ }
-    requires { ⌜ (fresh ≡ true → hasKey (recordAt (now t) me) (before (me .index) (recordsOf (now t))) ≡ false) ⌝ }
-    ensures { λ r. ⌜ r ≡ hasKey (recordAt (now (t .entry)) me) (before (me .index) (recordsOf (now (t .entry)))) ⌝ }
-{
-    if fresh {
+    if h.kind == 4 {
         return false;
     }
-    key_before(t, me, h)
+    let mut v = entry_at(x, 1 + b);
+    while v != 0 {
+        let p = v - 1;
+        if same_key(t, p, me, h) {
+            return true;
+        }
+        v = entry_at(x, next_at(t.len(), p));
+    }
+    false
 }
 
 // The record h at me is a name with a built-in spelling.
@@ -119,19 +108,19 @@ fn is_class(kind: u8, one: u16, id: u16) -> bool
 }
 
 // An earlier record is the class id.
-fn class_before(t: &[u8], me: Cursor, id: u16) -> bool
-    requires { ⌜ At (now t) me ⌝ }
+fn class_before(t: &[u8], x: &[u16], me: Cursor, id: u16) -> bool
+    requires { ⌜ At (now t) me × Entered (now t) (now x) (me .at) × (length (now t) ≤ 60000) ⌝ }
     ensures { λ r. ⌜ r ≡ hasClass id (before (me .index) (recordsOf (now (t .entry)))) ⌝ }
 {
-    let mut c = Cursor::new();
-    let mut found = false;
-    while c.index < me.index {
-        let s = c.step(t);
-        let g = s.head;
-        found = is_class(g.kind, g.one, id) | found;
-        c = s.next;
+    let mut v = entry_at(x, 1 + reduced(number(id), t.len()));
+    while v != 0 {
+        let p = v - 1;
+        if is_class(byte_at(t, p), id_at(t, p + 1), id) {
+            return true;
+        }
+        v = entry_at(x, next_at(t.len(), p));
     }
-    found
+    false
 }
 
 // The record at me, or a later one, is the class id.
@@ -151,10 +140,9 @@ fn class_from(t: &[u8], me: Cursor, id: u16) -> bool
     false
 }
 
-// The record h at me is a class whose superclass has a record, but not an earlier one. It may be known that there is an earlier one.
-fn super_late(t: &[u8], me: Cursor, h: Head, known: bool) -> bool
-    requires { ⌜ Stands (now t) me h ⌝ }
-    requires { ⌜ (known ≡ true → hasClass (h .two) (before (me .index) (recordsOf (now t))) ≡ true) ⌝ }
+// The record h at me is a class whose superclass has a record, but not an earlier one.
+fn super_late(t: &[u8], x: &[u16], me: Cursor, h: Head) -> bool
+    requires { ⌜ Stands (now t) me h × Entered (now t) (now x) (me .at) × (length (now t) ≤ 60000) ⌝ }
     ensures { λ r. ⌜ r ≡ superLate (before (me .index) (recordsOf (now (t .entry)))) (recordAt (now (t .entry)) me) (recordsOf (drop (me .at) (now (t .entry)))) ⌝ }
 {
     if h.kind != 2 {
@@ -163,18 +151,15 @@ fn super_late(t: &[u8], me: Cursor, h: Head, known: bool) -> bool
     if h.two == NameId::NONE {
         return false;
     }
-    if known {
-        return false;
-    }
-    if class_before(t, me, h.two) {
+    if class_before(t, x, me, h.two) {
         return false;
     }
     class_from(t, me, h.two)
 }
 
-// The number of the record h at me, 0 for none; `kind` is the kind before it, `names` how many names are before it.
-fn record_fault(t: &[u8], me: Cursor, h: Head, kind: u8, names: u16, fresh: bool, known: bool) -> u8
-    requires { ⌜ Asked (now t) me h kind names fresh known ⌝ }
+// The number of the record h at me, 0 for none; its bucket is b, `kind` is the kind before it, `names` how many names are before it.
+fn record_fault(t: &[u8], x: &[u16], me: Cursor, h: Head, b: usize, kind: u8, names: u16) -> u8
+    requires { ⌜ Asked (now t) (now x) me h b kind names ⌝ }
     ensures { λ r. ⌜ r ≡ recordFault (before (me .index) (recordsOf (now (t .entry)))) (recordAt (now (t .entry)) me) (recordsOf (drop (me .at) (now (t .entry)))) ⌝ }
 {
     if h.malformed {
@@ -192,10 +177,10 @@ fn record_fault(t: &[u8], me: Cursor, h: Head, kind: u8, names: u16, fresh: bool
     if builtin_name(t, me, h) {
         return 5;
     }
-    if key_repeated(t, me, h, fresh) {
+    if has_key(t, x, me, h, b) {
         return 5;
     }
-    if super_late(t, me, h, known) {
+    if super_late(t, x, me, h) {
         return 6;
     }
     if h.error {
@@ -225,12 +210,6 @@ fn wide(b: u8) -> usize
     b as usize
 }
 
-fn index(id: u16) -> usize
-    ensures { λ r. ⌜ (r ≡ id) × (r < 65536) ⌝ }
-{
-    id as usize
-}
-
 // The bucket of the record h at me.
 fn bucket(t: &[u8], me: Cursor, h: Head) -> usize
     requires { ⌜ Stands (now t) me h ⌝ }
@@ -239,23 +218,7 @@ fn bucket(t: &[u8], me: Cursor, h: Head) -> usize
     if h.kind == 1 {
         return hash(name_at(t, me.at));
     }
-    if h.kind < 4 {
-        return index(h.one);
-    }
-    (index(h.one) * 509 + index(h.two)) % 65536
-}
-
-// Nothing was marked by a key of this kind; functions may repeat.
-fn is_fresh(kind: u8, mark: u8) -> bool
-    ensures { λ r. ⌜ r ≡ (eqb kind 4 || not (eqb mark kind)) ⌝ }
-{
-    (kind == 4) | (!(mark == kind))
-}
-
-fn is_marked(mark: u8) -> bool
-    ensures { λ r. ⌜ r ≡ eqb mark 2 ⌝ }
-{
-    mark == 2
+    key_bucket(h.kind, h.one, h.two)
 }
 
 fn name_count(kind: u8) -> u16
@@ -267,106 +230,46 @@ fn name_count(kind: u8) -> u16
     0
 }
 
-// c where the kind rises past k there.
-fn section(low: u8, high: u8, c: Cursor, k: u8, old: Cursor) -> Cursor
-    ensures { λ r. ⌜ r ≡ entered low high c k old ⌝ }
-{
-    if (low < k) & (k <= high) {
-        return c;
-    }
-    old
-}
-
-impl Sections {
-    fn new() -> Sections
-        ensures { λ r. ⌜ r ≡ noSections ⌝ }
-    {
-        let c = Cursor::new();
-        Sections {
-            classes: c,
-            operators: c,
-            functions: c,
-            fields: c,
-            visibilities: c,
-            suspends: c,
-            variants: c,
-        }
-    }
-
-    // At c the kind rises from low to high.
-    fn enter(self, low: u8, high: u8, c: Cursor) -> Sections
-        ensures { λ r. ⌜ r ≡ sectionsEntered self low high c ⌝ }
-    {
-        Sections {
-            classes: section(low, high, c, 2, self.classes),
-            operators: section(low, high, c, 3, self.operators),
-            functions: section(low, high, c, 4, self.functions),
-            fields: section(low, high, c, 5, self.fields),
-            visibilities: section(low, high, c, 6, self.visibilities),
-            suspends: section(low, high, c, 7, self.suspends),
-            variants: section(low, high, c, 8, self.variants),
-        }
-    }
-}
-
 fn refuse(number: u8) -> Checked
     ensures { λ r. ⌜ r ≡ refusal number ⌝ }
 {
-    let sections = Sections::new();
-    Checked {
-        number,
-        names: 0,
-        sections,
-    }
+    Checked { number, names: 0 }
 }
 
 // Checks the records of a table that is not too long.
-fn check_records(t: &[u8]) -> Checked
-    requires { ⌜ length (now t) ≤ 60000 ⌝ }
+fn check_records(t: &[u8], x: &mut [u16]) -> Checked
+    requires { ⌜ (length (now t) ≤ 60000) × IndexRoom (now t) (now x) ⌝ }
     ensures { λ r. ⌜ r ≡ checkedOf (now (t .entry)) ⌝ }
+    ensures { λ r. ⌜ (tableFault (now (t .entry)) ≡ 0 → Accepted (now (t .entry)) (now (x .exit))) ⌝ }
 {
-    let mut marks = [0u8; 65536];
     let mut c = Cursor::new();
     let mut kind: u8 = 0;
     let mut names: u16 = 0;
-    let mut sections = Sections::new();
     while c.at < t.len() {
         let s = c.step(t);
         let h = s.head;
-        let b = bucket(t, c, h);
-        let over = index(h.two);
-        let f = record_fault(
-            t,
-            c,
-            h,
-            kind,
-            names,
-            is_fresh(h.kind, marks[b]),
-            is_marked(marks[over]),
-        );
+        let b = reduced(bucket(t, c, h), t.len());
+        let f = record_fault(t, x, c, h, b, kind, names);
         if f != 0 {
             return refuse(f);
         }
-        marks[b] = h.kind;
-        sections = sections.enter(kind, h.kind, c);
+        enter(x, t.len(), b, c.at);
         names = names + name_count(h.kind);
         kind = h.kind;
         c = s.next;
     }
-    let all = sections.enter(kind, 8, c);
-    Checked {
-        number: 0,
-        names,
-        sections: all,
-    }
+    put(x, 0, names);
+    Checked { number: 0, names }
 }
 
-// The table's number, 0 where it is accepted, with how many names it has and where its sections begin.
-pub fn check_table(table: &[u8]) -> Checked
+// The table's number, 0 where it is accepted, and how many names it has. The lent index becomes that of an accepted table.
+pub fn check_table(table: &[u8], index: &mut [u16]) -> Checked
+    requires { ⌜ IndexRoom (now table) (now index) ⌝ }
     ensures { λ r. ⌜ r ≡ checkedOf (now (table .entry)) ⌝ }
+    ensures { λ r. ⌜ (tableFault (now (table .entry)) ≡ 0 → Accepted (now (table .entry)) (now (index .exit))) ⌝ }
 {
     if 60000 < table.len() {
         return refuse(1);
     }
-    check_records(table)
+    check_records(table, index)
 }

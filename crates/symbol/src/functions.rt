@@ -1,10 +1,12 @@
 // Reading one function of an accepted table.
 use crate::front::LONGEST;
 use crate::front::id_at;
-use crate::lookups::Place;
+use crate::front::read_record;
+use crate::index::Place;
 use ty::TypeRead;
 use ty::byte_at;
 use ty::read::read_type;
+use ty::tail;
 ghost use mathlib.Core.Path.{_≡_};
 ghost use mathlib.Core.Bool.{true, false};
 ghost use Prim.Native.Nat.{_+_, _≤_, _<_};
@@ -12,6 +14,7 @@ ghost use lib.ListN.{length, getD};
 ghost use Rattle.symbol.specs.Answer.{overloadAt, FunctionAt, FunctionRead};
 ghost use Rattle.symbol.specs.Lookup.{wholeLength, typeLength, paramsFrom};
 ghost use Rattle.symbol.specs.Row.{part, RowAt, paramAdded, noParams, ParamsAre};
+ghost use Rattle.symbol.specs.Walk.{behind};
 
 // The parameters of a function: how many, and of each its name, whether it has a default and is vararg, and where its type lies in the table.
 pub struct Params {
@@ -119,14 +122,12 @@ fn read_params(t: &[u8], from: usize, end: usize, count: usize) -> Params
     p
 }
 
-// The function at a place.
-pub fn read_function(t: &[u8], p: Place) -> Function
-    requires { ⌜ FunctionAt (now t) p ⌝ }
+// The function at a place, whose record ends before `end`.
+fn read_whole(t: &[u8], p: Place, end: usize) -> Function
+    requires { ⌜ FunctionAt (now t) p × (end ≡ behind (now t) (p .at)) ⌝ }
     ensures { λ r. ⌜ FunctionRead (now (t .entry)) (overloadAt (now (t .entry)) p) r ⌝ }
 {
     let at = p.at;
-    let h = p.head;
-    let end = at + h.len;
     let start = at + 8;
     let len = type_length(t, start, end);
     let params = read_params(t, start + len, end, byte_at(t, at + 7) as usize);
@@ -137,4 +138,22 @@ pub fn read_function(t: &[u8], p: Place) -> Function
         len,
         params,
     }
+}
+
+// The function at a place.
+pub fn read_function(t: &[u8], p: Place) -> Function
+    requires { ⌜ FunctionAt (now t) p ⌝ }
+    ensures { λ r. ⌜ FunctionRead (now (t .entry)) (overloadAt (now (t .entry)) p) r ⌝ }
+{
+    let at = p.at;
+    let h = read_record(tail(t, at));
+    read_whole(t, p, at + h.len)
+}
+
+// Whether the function at a place is a builtin.
+pub fn is_builtin_function(t: &[u8], p: Place) -> bool
+    requires { ⌜ FunctionAt (now t) p ⌝ }
+    ensures { λ r. ⌜ r ≡ overloadAt (now (t .entry)) p .builtin ⌝ }
+{
+    byte_at(t, p.at + 6) == 1
 }

@@ -2,6 +2,7 @@
 pub mod checks;
 pub mod front;
 pub mod functions;
+pub mod index;
 pub mod lookups;
 pub mod params;
 pub mod spelling;

@@ -1,23 +1,22 @@
 // The climb along superclasses.
-use crate::checks::Sections;
 use crate::lookups::superclass_of;
 use ty::NameId;
 ghost use mathlib.Core.Path.{_≡_};
 ghost use Rattle.symbol.specs.Lookup.{symbolsOf};
-ghost use Rattle.symbol.specs.Sections.{Accepted};
+ghost use Rattle.symbol.specs.Accepted.{Accepted};
 ghost use Rattle.symbol.specs.Subclass.{isSubclass};
 
 // Whether one class is met on the way up from another.
-pub fn is_subclass(t: &[u8], s: Sections, class: u16, above: u16) -> bool
-    requires { ⌜ Accepted (now t) s ⌝ }
+pub fn is_subclass(t: &[u8], x: &[u16], class: u16, above: u16) -> bool
+    requires { ⌜ Accepted (now t) (now x) ⌝ }
     ensures { λ r. ⌜ r ≡ isSubclass (symbolsOf (now (t .entry))) class above ⌝ }
 {
-    let mut at = superclass_of(t, s, class);
+    let mut at = superclass_of(t, x, class);
     while at != NameId::NONE {
         if at == above {
             return true;
         }
-        at = superclass_of(t, s, at);
+        at = superclass_of(t, x, at);
     }
     false
 }

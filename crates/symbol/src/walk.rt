@@ -4,7 +4,7 @@ use crate::front::read_record;
 ghost use mathlib.Core.Path.{_≡_};
 ghost use Prim.Native.Nat.{_≤_, _<_};
 ghost use lib.ListN.{length};
-ghost use Rattle.symbol.specs.Sections.{start};
+ghost use Rattle.symbol.specs.Accepted.{start};
 ghost use Rattle.symbol.specs.Walk.{StepIs};
 
 // A place in the table: the next record's first byte, and how many records are behind.

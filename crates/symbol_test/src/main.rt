@@ -1,9 +1,8 @@
 // Runs the check of a table and the lookups on tables written out in bytes, each answer being what the definition computes.
-use symbol::checks::Sections;
 use symbol::checks::check_table;
 use symbol::functions::read_function;
+use symbol::index::Found;
 use symbol::lookups;
-use symbol::lookups::Found;
 use symbol::lookups::Mask;
 use symbol::lookups::Part;
 use symbol::lookups::Visibility;
@@ -13,14 +12,15 @@ use ty::same_bytes;
 ghost use mathlib.Core.Path.{_≡_};
 ghost use Rattle.symbol.specs.Lookup.{symbolsOf};
 ghost use Rattle.symbol.specs.Refused.{tableFault};
-ghost use Rattle.symbol.specs.Sections.{Accepted};
+ghost use Rattle.symbol.specs.Accepted.{Accepted};
 ghost use Rattle.symbol_test.specs.Shown.{shown, isType, firstCount, firstResult, builtinIn, behindFirst};
 
 // The table's number.
 fn number(t: &[u8]) -> u8
     ensures { λ r. ⌜ r ≡ tableFault (now (t .entry)) ⌝ }
 {
-    let c = check_table(t);
+    let mut index = [0u16; 20194];
+    let c = check_table(t, &mut index);
     c.number
 }
 
@@ -520,11 +520,11 @@ const TABLE: [u8; 139] = [
 ];
 
 // The mask of a class's operator set.
-fn mask(t: &[u8], s: Sections, class: u16) -> u16
-    requires { ⌜ Accepted (now t) s ⌝ }
+fn mask(t: &[u8], x: &[u16], class: u16) -> u16
+    requires { ⌜ Accepted (now t) (now x) ⌝ }
     ensures { λ r. ⌜ r ≡ shown (symbolsOf (now (t .entry)) .operatorsOf class) ⌝ }
 {
-    let m = lookups::operators_of(t, s, class);
+    let m = lookups::operators_of(t, x, class);
     match m {
         Mask::Is(n) => n,
         Mask::Nothing => NameId::NONE,
@@ -532,11 +532,11 @@ fn mask(t: &[u8], s: Sections, class: u16) -> u16
 }
 
 // A member's visibility.
-fn level(t: &[u8], s: Sections, owner: u16, name: u16) -> u16
-    requires { ⌜ Accepted (now t) s ⌝ }
+fn level(t: &[u8], x: &[u16], owner: u16, name: u16) -> u16
+    requires { ⌜ Accepted (now t) (now x) ⌝ }
     ensures { λ r. ⌜ r ≡ shown (symbolsOf (now (t .entry)) .visibilityOf owner name) ⌝ }
 {
-    let v = lookups::visibility_of(t, s, owner, name);
+    let v = lookups::visibility_of(t, x, owner, name);
     match v {
         Visibility::Is(n) => n as u16,
         Visibility::Nothing => NameId::NONE,
@@ -544,11 +544,11 @@ fn level(t: &[u8], s: Sections, owner: u16, name: u16) -> u16
 }
 
 // Whether a field has that type.
-fn field_is(t: &[u8], s: Sections, owner: u16, name: u16, ty: &[u8]) -> bool
-    requires { ⌜ Accepted (now t) s ⌝ }
+fn field_is(t: &[u8], x: &[u16], owner: u16, name: u16, ty: &[u8]) -> bool
+    requires { ⌜ Accepted (now t) (now x) ⌝ }
     ensures { λ r. ⌜ r ≡ isType (symbolsOf (now (t .entry)) .fieldOf owner name) (now (ty .entry)) ⌝ }
 {
-    let p = lookups::field_of(t, s, owner, name);
+    let p = lookups::field_of(t, x, owner, name);
     match p {
         Part::At { start, len } => {
             let end = start + len;
@@ -559,11 +559,11 @@ fn field_is(t: &[u8], s: Sections, owner: u16, name: u16, ty: &[u8]) -> bool
 }
 
 // How many parameters the first function of a list has.
-fn first_count(t: &[u8], s: Sections, owner: u16, name: u16) -> usize
-    requires { ⌜ Accepted (now t) s ⌝ }
+fn first_count(t: &[u8], x: &[u16], owner: u16, name: u16) -> usize
+    requires { ⌜ Accepted (now t) (now x) ⌝ }
     ensures { λ r. ⌜ r ≡ firstCount (symbolsOf (now (t .entry)) .functionsOf owner name) ⌝ }
 {
-    let f = lookups::first_function(t, s, owner, name);
+    let f = lookups::first_function(t, x, owner, name);
     match f {
         Found::Here(p) => {
             let r = read_function(t, p);
@@ -575,11 +575,11 @@ fn first_count(t: &[u8], s: Sections, owner: u16, name: u16) -> usize
 }
 
 // Whether the first function of a list gives that type.
-fn result_is(t: &[u8], s: Sections, owner: u16, name: u16, ty: &[u8]) -> bool
-    requires { ⌜ Accepted (now t) s ⌝ }
+fn result_is(t: &[u8], x: &[u16], owner: u16, name: u16, ty: &[u8]) -> bool
+    requires { ⌜ Accepted (now t) (now x) ⌝ }
     ensures { λ r. ⌜ r ≡ firstResult (symbolsOf (now (t .entry)) .functionsOf owner name) (now (ty .entry)) ⌝ }
 {
-    let f = lookups::first_function(t, s, owner, name);
+    let f = lookups::first_function(t, x, owner, name);
     match f {
         Found::Here(p) => {
             let r = read_function(t, p);
@@ -592,11 +592,11 @@ fn result_is(t: &[u8], s: Sections, owner: u16, name: u16, ty: &[u8]) -> bool
 }
 
 // Whether the first function of a list is a builtin.
-fn first_builtin(t: &[u8], s: Sections, owner: u16, name: u16) -> bool
-    requires { ⌜ Accepted (now t) s ⌝ }
+fn first_builtin(t: &[u8], x: &[u16], owner: u16, name: u16) -> bool
+    requires { ⌜ Accepted (now t) (now x) ⌝ }
     ensures { λ r. ⌜ r ≡ builtinIn (symbolsOf (now (t .entry)) .functionsOf owner name) ⌝ }
 {
-    let f = lookups::first_function(t, s, owner, name);
+    let f = lookups::first_function(t, x, owner, name);
     match f {
         Found::Here(p) => {
             let r = read_function(t, p);
@@ -607,14 +607,14 @@ fn first_builtin(t: &[u8], s: Sections, owner: u16, name: u16) -> bool
 }
 
 // Whether the second one is.
-fn second_builtin(t: &[u8], s: Sections, owner: u16, name: u16) -> bool
-    requires { ⌜ Accepted (now t) s ⌝ }
+fn second_builtin(t: &[u8], x: &[u16], owner: u16, name: u16) -> bool
+    requires { ⌜ Accepted (now t) (now x) ⌝ }
     ensures { λ r. ⌜ r ≡ builtinIn (behindFirst (symbolsOf (now (t .entry)) .functionsOf owner name)) ⌝ }
 {
-    let f = lookups::first_function(t, s, owner, name);
+    let f = lookups::first_function(t, x, owner, name);
     match f {
         Found::Here(p) => {
-            let g = lookups::next_function(t, p.next, owner, name);
+            let g = lookups::next_function(t, x, p);
             match g {
                 Found::Here(q) => {
                     let r = read_function(t, q);
@@ -630,50 +630,50 @@ fn second_builtin(t: &[u8], s: Sections, owner: u16, name: u16) -> bool
 // Classes and names: superclass, package, `types`, operators, one capital letter.
 fn classes() {
     let t = TABLE;
-    let c = check_table(&t);
-    let s = c.sections;
+    let mut index = [0u16; 20194];
+    let c = check_table(&t, &mut index);
     check::expect(c.number == 0);
     check::expect(c.names == 2);
-    check::expect(lookups::superclass_of(&t, s, 41) == 40);
-    check::expect(lookups::superclass_of(&t, s, 40) == 65535);
-    check::expect(lookups::package_of(&t, s, 41) == 40);
-    check::expect(lookups::in_types(&t, s, 40));
-    check::expect(!lookups::in_types(&t, s, 41));
-    check::expect(is_subclass(&t, s, 41, 40));
-    check::expect(!is_subclass(&t, s, 40, 41));
-    check::expect(mask(&t, s, 40) == 1025);
-    check::expect(mask(&t, s, 41) == 65535);
-    check::expect(lookups::is_capital(&t, s, 40));
-    check::expect(!lookups::is_capital(&t, s, 41));
-    check::expect(!lookups::is_capital(&t, s, 42));
+    check::expect(lookups::superclass_of(&t, &index, 41) == 40);
+    check::expect(lookups::superclass_of(&t, &index, 40) == 65535);
+    check::expect(lookups::package_of(&t, &index, 41) == 40);
+    check::expect(lookups::in_types(&t, &index, 40));
+    check::expect(!lookups::in_types(&t, &index, 41));
+    check::expect(is_subclass(&t, &index, 41, 40));
+    check::expect(!is_subclass(&t, &index, 40, 41));
+    check::expect(mask(&t, &index, 40) == 1025);
+    check::expect(mask(&t, &index, 41) == 65535);
+    check::expect(lookups::is_capital(&t, &index, 40));
+    check::expect(!lookups::is_capital(&t, &index, 41));
+    check::expect(!lookups::is_capital(&t, &index, 42));
 }
 
 // Members: fields, visibilities, suspend functions, variants, each the last record of its run.
 fn members() {
     let t = TABLE;
-    let c = check_table(&t);
-    let s = c.sections;
-    check::expect(field_is(&t, s, 40, 41, b"\x0c\x00"));
-    check::expect(!field_is(&t, s, 41, 41, b"\x0c\x00"));
-    check::expect(level(&t, s, 40, 41) == 3);
-    check::expect(level(&t, s, 41, 41) == 65535);
-    check::expect(lookups::is_suspend(&t, s, 65535, 41));
-    check::expect(!lookups::is_suspend(&t, s, 40, 41));
-    check::expect(lookups::is_variant(&t, s, 40, 6));
-    check::expect(!lookups::is_variant(&t, s, 40, 7));
+    let mut index = [0u16; 20194];
+    let c = check_table(&t, &mut index);
+    check::expect(field_is(&t, &index, 40, 41, b"\x0c\x00"));
+    check::expect(!field_is(&t, &index, 41, 41, b"\x0c\x00"));
+    check::expect(level(&t, &index, 40, 41) == 3);
+    check::expect(level(&t, &index, 41, 41) == 65535);
+    check::expect(lookups::is_suspend(&t, &index, 65535, 41));
+    check::expect(!lookups::is_suspend(&t, &index, 40, 41));
+    check::expect(lookups::is_variant(&t, &index, 40, 6));
+    check::expect(!lookups::is_variant(&t, &index, 40, 7));
 }
 
 // Functions, in table order.
 fn functions() {
     let t = TABLE;
-    let c = check_table(&t);
-    let s = c.sections;
-    check::expect(first_count(&t, s, 40, 41) == 2);
-    check::expect(first_count(&t, s, 41, 41) == 99);
-    check::expect(result_is(&t, s, 40, 41, b"\x0c\x08"));
-    check::expect(!first_builtin(&t, s, 40, 41));
-    check::expect(first_builtin(&t, s, 65535, 41));
-    check::expect(!second_builtin(&t, s, 65535, 41));
+    let mut index = [0u16; 20194];
+    let c = check_table(&t, &mut index);
+    check::expect(first_count(&t, &index, 40, 41) == 2);
+    check::expect(first_count(&t, &index, 41, 41) == 99);
+    check::expect(result_is(&t, &index, 40, 41, b"\x0c\x08"));
+    check::expect(!first_builtin(&t, &index, 40, 41));
+    check::expect(first_builtin(&t, &index, 65535, 41));
+    check::expect(!second_builtin(&t, &index, 65535, 41));
 }
 
 fn main() {

@@ -25,7 +25,7 @@ slot-requires c κs = search needs
 
 -- src/lib.rt:81:13
 copy-out-requires : tie.Need-copy-out-requires
-copy-out-requires c κs = rw (c .slot .ensures) (root-short (c .before .before .before .before .before .before .before .args .s) ((c .before .before .before .before .before .before .before .args .area) .now) ((c .before .before .before .before .before .before .before .args .lens) .now) ((c .before .before .before .before .before .before .before .args .diagnostics) .now) _ (c .before .before .root-number .ensures) (c .before .if1 .taken))
+copy-out-requires c κs = rw (c .slot .ensures) (root-short (c .before .before .before .before .before .before .before .args .s) (c .before .before .before .before .before .before .before .args .area .now) (c .before .before .before .before .before .before .before .args .lens .now) (c .before .before .before .before .before .before .before .args .diagnostics .now) _ (c .before .before .root-number .ensures) (c .before .if1 .taken))
 
 -- src/lib.rt:82:13
 mark-requires : tie.Need-mark-requires

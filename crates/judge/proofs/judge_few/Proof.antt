@@ -12,7 +12,7 @@ slice-aggregate-judge-in-2 : tie.Need-slice-aggregate-judge-in-2
 slice-aggregate-judge-in-2 c = search needs
 
 judge-in-requires : tie.Need-judge-in-requires
-judge-in-requires c κs = (space-few _ _ _ (c .before .before .before .before .before .before .pre .1) (length-replicate {A = ℕ} 2048 0) (length-replicate {A = ℕ} 8 0), (c .before .before .before .before .before .before .pre .0))
+judge-in-requires c κs = (space-few _ _ _ (c .before .before .before .before .before .before .before .pre .1) (length-replicate {A = ℕ} 2048 0) (length-replicate {A = ℕ} 8 0), (c .before .before .before .before .before .before .before .pre .0))
 
 same-length : tie.Need-same-length
 same-length c = search needs

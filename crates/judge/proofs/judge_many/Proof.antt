@@ -12,7 +12,7 @@ slice-aggregate-judge-in-2 : tie.Need-slice-aggregate-judge-in-2
 slice-aggregate-judge-in-2 c = search needs
 
 judge-in-requires : tie.Need-judge-in-requires
-judge-in-requires c κs = (space-many _ _ _ (length-replicate {A = ℕ} 16384 0) (length-replicate {A = ℕ} 64 0), (c .before .before .before .before .before .before .pre))
+judge-in-requires c κs = (space-many _ _ _ (length-replicate {A = ℕ} 16384 0) (length-replicate {A = ℕ} 64 0), (c .before .before .before .before .before .before .before .pre))
 
 same-length : tie.Need-same-length
 same-length c = search needs

@@ -1,15 +1,14 @@
 use borrow.Author.Needs.{needs}
 use borrow.Author.Tests.{eq-eqb}
 use mathlib.Core.Bool.{not}
-use mathlib.Core.Path.{ap, _∙_}
-use Rattle.symbol.proofs.Verdicts.{checked-number, checked-accepted}
+use mathlib.Core.Path.{refl, ap, _∙_}
 use Rattle.symbol.specs.Front.{plainHead, orNone, goodByte, goodBytes, nameHead, classHead, operatorsHead, among, paramStep, runParams, paramsRead, functionWith, functionHead, fieldHead, visibilityHead, suspendHead, variantHead, headBy, headOf}
 use Rattle.symbol.specs.Lookup.{recordsWith, typeLength, paramsFrom, overloadOf, namesIn, capitalIn, symbolsIn}
 use Rattle.symbol.specs.Refused.{sameKey, hasKey, hasClass, superLate, recordFault, faultFrom, tableFault}
 use Rattle.symbol.specs.Spelling.{builtinNames, spelled}
 use Rattle.symbol.specs.Subclass.{climbs, isSubclass}
 use Rattle.symbol.specs.Table.{recordsFrom, countOf}
-use Rattle.symbol.specs.declared.checks.Checked.{Checked}
+use Rattle.symbol.proofs.Rooms.{room-long}
 use Rattle.symbol_test.proofs.functions.Statement.{statement}
 use Rattle.symbol_test.proofs.functions.Tie as tie
 use Rattle.ty.specs.Bytes.{sameBytes}
@@ -22,24 +21,31 @@ functions-spec =
     tie.close
     (tie.spec
     (λ c. search needs)
-    (λ c κs. search needs)
     (λ c. search needs)
-    (λ c κs. checked-accepted _ (c .before .before .check-table .result) (c .before .before .check-table .ensures) (ap (λ (x : Checked). x .number) (c .before .before .check-table .ensures) ∙ checked-number _))
+    (λ c κs. room-long _)
+    (λ c. search needs)
+    (λ c. search needs)
+    (λ c κs. (c .before .before .before .check-table .ensures .1) refl)
     (λ c κs. eq-eqb (c .first-count .result) 2 (c .first-count .ensures))
     (λ c. search needs)
-    (λ c κs. checked-accepted _ (c .before .before .before .before .before .check-table .result) (c .before .before .before .before .before .check-table .ensures) (ap (λ (x : Checked). x .number) (c .before .before .before .before .before .check-table .ensures) ∙ checked-number _))
+    (λ c. search needs)
+    (λ c κs. (c .before .before .before .before .before .before .before .check-table .ensures .1) refl)
     (λ c κs. eq-eqb (c .first-count2 .result) 99 (c .first-count2 .ensures))
     (λ c. search needs)
     (λ c. search needs)
-    (λ c κs. checked-accepted _ (c .before .before .before .before .before .before .before .before .before .check-table .result) (c .before .before .before .before .before .before .before .before .before .check-table .ensures) (ap (λ (x : Checked). x .number) (c .before .before .before .before .before .before .before .before .before .check-table .ensures) ∙ checked-number _))
+    (λ c. search needs)
+    (λ c κs. (c .before .before .before .before .before .before .before .before .before .before .before .before .check-table .ensures .1) refl)
     (λ c κs. (c .result-is .ensures))
     (λ c. search needs)
-    (λ c κs. checked-accepted _ (c .before .before .before .before .before .before .before .before .before .before .before .before .check-table .result) (c .before .before .before .before .before .before .before .before .before .before .before .before .check-table .ensures) (ap (λ (x : Checked). x .number) (c .before .before .before .before .before .before .before .before .before .before .before .before .check-table .ensures) ∙ checked-number _))
+    (λ c. search needs)
+    (λ c κs. (c .before .before .before .before .before .before .before .before .before .before .before .before .before .before .before .before .check-table .ensures .1) refl)
     (λ c κs. ap not (c .first-builtin .ensures))
     (λ c. search needs)
-    (λ c κs. checked-accepted _ (c .before .before .before .before .before .before .before .before .before .before .before .before .before .before .before .check-table .result) (c .before .before .before .before .before .before .before .before .before .before .before .before .before .before .before .check-table .ensures) (ap (λ (x : Checked). x .number) (c .before .before .before .before .before .before .before .before .before .before .before .before .before .before .before .check-table .ensures) ∙ checked-number _))
+    (λ c. search needs)
+    (λ c κs. (c .before .before .before .before .before .before .before .before .before .before .before .before .before .before .before .before .before .before .before .before .check-table .ensures .1) refl)
     (λ c κs. (c .first-builtin2 .ensures))
     (λ c. search needs)
-    (λ c κs. checked-accepted _ (c .before .before .before .before .before .before .before .before .before .before .before .before .before .before .before .before .before .before .check-table .result) (c .before .before .before .before .before .before .before .before .before .before .before .before .before .before .before .before .before .before .check-table .ensures) (ap (λ (x : Checked). x .number) (c .before .before .before .before .before .before .before .before .before .before .before .before .before .before .before .before .before .before .check-table .ensures) ∙ checked-number _))
+    (λ c. search needs)
+    (λ c κs. (c .before .before .before .before .before .before .before .before .before .before .before .before .before .before .before .before .before .before .before .before .before .before .before .before .check-table .ensures .1) refl)
     (λ c κs. ap not (c .second-builtin .ensures))
     (λ c. search needs))

@@ -4,7 +4,7 @@ use borrow.Author.Tests.{eq-eqb}
 use lib.ListN.{length-replicate}
 use mathlib.Core.Path.{_∙_}
 use native.Mathlib.Omega.{arith}
-use Rattle.symbol.proofs.Passes.{long-fault}
+use Rattle.symbol.proofs.Faults.{long-fault}
 use Rattle.symbol.specs.Front.{plainHead, orNone, goodByte, goodBytes, nameHead, classHead, operatorsHead, among, paramStep, runParams, paramsRead, functionWith, functionHead, fieldHead, visibilityHead, suspendHead, variantHead, headBy, headOf}
 use Rattle.symbol.specs.Refused.{sameKey, hasKey, hasClass, superLate, recordFault, faultFrom, tableFault}
 use Rattle.symbol.specs.Spelling.{builtinNames, spelled}

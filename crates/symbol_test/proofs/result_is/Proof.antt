@@ -35,7 +35,7 @@ enum-told : tie.Need-enum-told
 enum-told c = search needs
 
 returns : tie.Need-returns
-returns c = let h = rw (c .before .before .before .before .before .f .given .1) at (c .before .before .before .before .before .before .before .first-function .ensures) in let e : (c .before .before .before .read-function .result .start) + (c .before .before .before .read-function .result .len) - (c .before .before .before .read-function .result .start) ≡ (c .before .before .before .read-function .result .len) = omega arith in rw (h .first) ((c .same-bytes .ensures) ∙ rw e (ap (λ (o : Overload). sameBytes (o .result) (c .before .before .before .before .before .before .before .before .before .before .args .ty .now)) (c .before .before .before .read-function .ensures .same)))
+returns c = let h = rw (c .before .before .before .before .before .f .given .1) at (c .before .before .before .before .before .before .before .first-function .ensures) in let e : (c .before .before .before .read-function .result .start) + (c .before .before .before .read-function .result .len) - (c .before .before .before .read-function .result .start) ≡ (c .before .before .before .read-function .result .len) = omega arith in rw (h .first) ((c .same-bytes .ensures) ∙ rw e (ap (λ (o : Overload). sameBytes (o .result) (c .before .before .before .before .before .before .before .before .before .before .before .args .ty .now)) (c .before .before .before .read-function .ensures .same)))
 
 returns-2 : tie.Need-returns-2
 returns-2 c = let h = rw (c .enum-told .given .1) at (c .before .before .first-function .ensures) in rw h

@@ -11,7 +11,7 @@ enum-known-f : tie.Need-enum-known-f
 enum-known-f c = search needs
 
 next-function-requires : tie.Need-next-function-requires
-next-function-requires c κs = let h = rw (c .before .f .given .1) at (c .before .before .before .first-function .ensures) in (h .here .next, (c .before .before .before .before .before .pre .clean))
+next-function-requires c κs = let h = rw (c .before .f .given .1) at (c .before .before .before .first-function .ensures) in ((c .before .before .before .before .before .before .pre), h .here)
 
 enum-known-g : tie.Need-enum-known-g
 enum-known-g c = search needs

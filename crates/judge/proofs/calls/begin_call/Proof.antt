@@ -22,13 +22,13 @@ listed-requires : tie.Need-listed-requires
 listed-requires c κs = search needs
 
 returns : tie.Need-returns
-returns c = call-none _ _ _ _ _ _ _ (found-none _ _ _ _ _ (c .before .before .before .first-function .ensures) ((c .before .enum-told .given) .1)) (c .no-list .ensures)
+returns c = call-none _ _ _ _ _ _ _ (found-none _ _ _ (c .before .before .before .first-function .ensures) (c .before .enum-told .given .1)) (c .no-list .ensures)
 
 same-length : tie.Need-same-length
 same-length c = search needs
 
 returns-2 : tie.Need-returns-2
-returns-2 c = call-some _ _ _ _ _ _ (found-here _ _ _ _ _ _ (c .before .before .before .before .before .before .before .first-function .ensures) ((c .before .before .before .before .before .enum-told2 .given) .1) .first) (c .before .before .before .before-call .ensures) (c .listed .ensures)
+returns-2 c = call-some _ _ _ _ _ _ (found-here _ _ _ _ (c .before .before .before .before .before .before .before .first-function .ensures) (c .before .before .before .before .before .enum-told2 .given .1) .first) (c .before .before .before .before-call .ensures) (c .listed .ensures)
 
 pub begin-call-spec : {M : Type 1} → statement M
 begin-call-spec =

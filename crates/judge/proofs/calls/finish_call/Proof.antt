@@ -7,7 +7,7 @@ check-call-args-requires : tie.Need-check-call-args-requires
 check-call-args-requires c κs = search needs
 
 store-requires : tie.Need-store-requires
-store-requires c κs = call-store ((c .before .before .before .before .before .before .before .before .before .before .before .before .before .before .before .pre .0)) ((c .before .before .before .before .before .before .before .before .before .before .before .before .before .before .before .pre .2)) (c .before .before .before .before .check-call-args .ensures)
+store-requires c κs = call-store (c .before .before .before .before .before .before .before .before .before .before .before .before .before .before .before .pre .0) (c .before .before .before .before .before .before .before .before .before .before .before .before .before .before .before .pre .2) (c .before .before .before .before .check-call-args .ensures)
 
 finished-requires : tie.Need-finished-requires
 finished-requires c κs = search needs
@@ -22,7 +22,7 @@ same-length-3 : tie.Need-same-length-3
 same-length-3 c = search needs
 
 returns : tie.Need-returns
-returns c = finish-called ((c .before .before .before .before .before .before .before .before .before .before .before .before .before .before .before .before .before .before .before .before .before .before .before .pre .0)) ((c .before .before .before .before .before .before .before .before .before .before .before .before .before .before .before .before .before .before .before .before .before .before .before .pre .2)) (c .before .before .before .before .before .before .before .before .before .before .before .before .check-call-args .ensures) (c .before .before .before .before .before .before .before .store .ensures) (c .finished .ensures)
+returns c = finish-called (c .before .before .before .before .before .before .before .before .before .before .before .before .before .before .before .before .before .before .before .before .before .before .before .pre .0) (c .before .before .before .before .before .before .before .before .before .before .before .before .before .before .before .before .before .before .before .before .before .before .before .pre .2) (c .before .before .before .before .before .before .before .before .before .before .before .before .check-call-args .ensures) (c .before .before .before .before .before .before .before .store .ensures) (c .finished .ensures)
 
 pub finish-call-spec : {M : Type 1} → statement M
 finish-call-spec =

@@ -13,7 +13,7 @@ add-t11 : tie.Need-add-t11
 add-t11 c = omega (arith, ap (λ (p : Skipped). p .nodes) (c .before .before .skip .ensures), (c .before .before .before .before .before .before .before .pre .2))
 
 store-requires : tie.Need-store-requires
-store-requires c κs = kind-store _ _ _ _ _ ((c .before .before .before .before .before .before .before .before .before .pre .0)) ((c .before .before .before .before .before .before .before .before .before .pre .1))
+store-requires c κs = kind-store _ _ _ _ _ (c .before .before .before .before .before .before .before .before .before .pre .0) (c .before .before .before .before .before .before .before .before .before .pre .1)
 
 finished-requires : tie.Need-finished-requires
 finished-requires c κs = search needs
@@ -25,7 +25,7 @@ same-length-2 : tie.Need-same-length-2
 same-length-2 c = search needs
 
 returns : tie.Need-returns
-returns c = finish-unlisted _ _ _ _ _ _ ((c .before .before .before .before .before .before .before .before .before .before .before .before .before .before .before .before .before .pre .0)) ((c .before .before .before .before .before .before .before .before .before .before .before .before .before .before .before .before .before .pre .1)) (c .before .before .before .before .before .before .before .before .before .before .before .before .skip .ensures) (c .before .before .before .before .before .before .before .store .ensures) (c .finished .ensures)
+returns c = finish-unlisted _ _ _ _ _ _ (c .before .before .before .before .before .before .before .before .before .before .before .before .before .before .before .before .before .pre .0) (c .before .before .before .before .before .before .before .before .before .before .before .before .before .before .before .before .before .pre .1) (c .before .before .before .before .before .before .before .before .before .before .before .before .skip .ensures) (c .before .before .before .before .before .before .before .store .ensures) (c .finished .ensures)
 
 pub unlisted-spec : {M : Type 1} → statement M
 unlisted-spec =

@@ -10,7 +10,7 @@ binary-rule-requires : tie.Need-binary-rule-requires
 binary-rule-requires c κs = search needs
 
 finish-rule-requires : tie.Need-finish-rule-requires
-finish-rule-requires c κs = asked-as (c .before .before .before .binary-rule .ensures) ((c .before .before .before .before .before .before .before .before .before .before .pre .1))
+finish-rule-requires c κs = asked-as (c .before .before .before .binary-rule .ensures) (c .before .before .before .before .before .before .before .before .before .before .before .pre .1)
 
 same-length : tie.Need-same-length
 same-length c = search needs

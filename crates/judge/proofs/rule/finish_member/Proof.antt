@@ -10,7 +10,7 @@ member-rule-requires : tie.Need-member-rule-requires
 member-rule-requires c κs = search needs
 
 finish-rule-requires : tie.Need-finish-rule-requires
-finish-rule-requires c κs = asked-as ((c .before .before .before .member-rule .ensures) _) ((c .before .before .before .before .before .before .before .before .before .before .pre .1))
+finish-rule-requires c κs = asked-as ((c .before .before .before .member-rule .ensures) _) (c .before .before .before .before .before .before .before .before .before .before .before .pre .1)
 
 same-length : tie.Need-same-length
 same-length c = search needs

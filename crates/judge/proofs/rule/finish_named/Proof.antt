@@ -7,7 +7,7 @@ add-first : tie.Need-add-first
 add-first c = search needs
 
 store-requires : tie.Need-store-requires
-store-requires c κs = named-store _ _ ((c .before .before .before .before .before .pre .0)) ((c .before .before .before .before .before .pre .1))
+store-requires c κs = named-store _ _ (c .before .before .before .before .before .pre .0) (c .before .before .before .before .before .pre .1)
 
 finished-requires : tie.Need-finished-requires
 finished-requires c κs = search needs
@@ -19,7 +19,7 @@ same-length-2 : tie.Need-same-length-2
 same-length-2 c = search needs
 
 returns : tie.Need-returns
-returns c = finish-named _ _ ((c .before .before .before .before .before .before .before .before .before .before .before .before .before .pre .0)) ((c .before .before .before .before .before .before .before .before .before .before .before .before .before .pre .1)) (c .before .before .before .before .before .before .before .store .ensures) (c .finished .ensures)
+returns c = finish-named _ _ (c .before .before .before .before .before .before .before .before .before .before .before .before .before .pre .0) (c .before .before .before .before .before .before .before .before .before .before .before .before .before .pre .1) (c .before .before .before .before .before .before .before .store .ensures) (c .finished .ensures)
 
 pub finish-named-spec : {M : Type 1} → statement M
 finish-named-spec =

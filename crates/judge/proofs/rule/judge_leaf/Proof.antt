@@ -8,7 +8,7 @@ add-store-part : tie.Need-add-store-part
 add-store-part c = search needs
 
 store-part-requires : tie.Need-store-part-requires
-store-part-requires c κs = ((c .before .before .before .before .before .before .pre .0), (c .before .before .before .before .before .before .pre .1) .room, leaf-short ((c .before .before .before .before .before .before .args .q) .now) ((c .before .before .before .before .before .before .args .len)) ((c .before .before .before .before .before .before .args .s) .at + 1) ((c .before .before .before .before .before .before .pre .1) .short))
+store-part-requires c κs = ((c .before .before .before .before .before .before .pre .0), (c .before .before .before .before .before .before .pre .1 .room), leaf-short (c .before .before .before .before .before .before .args .q .now) (c .before .before .before .before .before .before .args .len) ((c .before .before .before .before .before .before .args .s .at) + 1) (c .before .before .before .before .before .before .pre .1 .short))
 
 add-inside : tie.Need-add-inside
 add-inside c = search needs
@@ -26,7 +26,7 @@ same-length-2 : tie.Need-same-length-2
 same-length-2 c = search needs
 
 returns : tie.Need-returns
-returns c = finish-leaf ((c .before .before .before .before .before .before .before .before .before .before .before .before .before .before .before .pre .1)) ((c .before .before .before .before .before .before .before .before .before .before .before .before .before .before .before .pre .0)) (c .before .before .before .inside .ensures) (c .before .before .before .before .before .before .before .before .store-part .ensures) (c .finished .ensures)
+returns c = finish-leaf (c .before .before .before .before .before .before .before .before .before .before .before .before .before .before .before .pre .1) (c .before .before .before .before .before .before .before .before .before .before .before .before .before .before .before .pre .0) (c .before .before .before .inside .ensures) (c .before .before .before .before .before .before .before .before .store-part .ensures) (c .finished .ensures)
 
 pub judge-leaf-spec : {M : Type 1} → statement M
 judge-leaf-spec =

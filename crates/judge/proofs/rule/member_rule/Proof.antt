@@ -9,7 +9,7 @@ check-member-requires : tie.Need-check-member-requires
 check-member-requires c κs = search needs
 
 returns : tie.Need-returns
-returns c = rw (c .before .slot .ensures) at ((c .check-member .ensures))
+returns c = rw (c .before .slot .ensures) at (c .check-member .ensures)
 
 pub member-rule-spec : {M : Type 1} → statement M
 member-rule-spec = tie.close (tie.spec slot-requires check-member-requires returns)

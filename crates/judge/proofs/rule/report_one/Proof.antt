@@ -16,7 +16,7 @@ same-length : tie.Need-same-length
 same-length c = search needs
 
 returns-2 : tie.Need-returns-2
-returns-2 c = reported-one _ _ _ _ _ _ _ (c .before .before .before .before .before .if1 .left) ((c .before .before .report .ensures) .0) ((c .before .before .report .ensures) .1)
+returns-2 c = reported-one _ _ _ _ _ _ _ (c .before .before .before .before .before .if1 .left) (c .before .before .report .ensures .0) (c .before .before .report .ensures .1)
 
 pub report-one-spec : {M : Type 1} → statement M
 report-one-spec = tie.close (tie.spec returns cast-report report-requires same-length returns-2)

@@ -11,6 +11,6 @@ pub before-method-spec : {M : Type 1} → statement M
 before-method-spec =
     tie.close (tie.spec
     (λ c κs. search needs)
-    (λ c κs. ((c .before .before .before .before .before .before .before .pre .0), omega (arith, (c .before .before .before .report-access .ensures .count), access-few (symbolsOf ((c .before .before .before .before .before .before .before .args .table .now))) ((c .before .before .before .before .before .before .before .args .header)) ((c .before .before .before .before .before .before .before .args .vis)) ((c .before .before .before .before .before .before .before .args .owner)) ((c .before .before .before .before .before .before .before .args .node)), (c .before .before .before .before .before .before .before .pre .1))))
+    (λ c κs. ((c .before .before .before .before .before .before .before .before .pre .0), omega (arith, (c .before .before .before .report-access .ensures .count), access-few (symbolsOf ((c .before .before .before .before .before .before .before .before .args .table .now))) ((c .before .before .before .before .before .before .before .before .args .header)) ((c .before .before .before .before .before .before .before .before .args .vis)) ((c .before .before .before .before .before .before .before .before .args .owner)) ((c .before .before .before .before .before .before .before .before .args .node)), (c .before .before .before .before .before .before .before .before .pre .1))))
     (λ c. search needs)
     (λ c. reported-as (sym (at-append _ _ _)) (reported-append ((c .before .before .before .before .before .before .report-access .ensures)) ((c .before .before .report-suspend .ensures)))))

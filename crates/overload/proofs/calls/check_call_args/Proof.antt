@@ -18,19 +18,19 @@ enum-told : tie.Need-enum-told
 enum-told c = search needs
 
 none-fits-requires : tie.Need-none-fits-requires
-none-fits-requires c κs = let room = (walked-room _ _ _ _ _ _ _ _ _ _ _ ((c .before .before .before .before .before .before .before .before .before .before .before .before .pre .0)) ((c .before .before .before .before .before .walk .ensures)) (args-short _ _ _ ((c .before .before .before .before .before .before .before .before .before .before .before .before .pre .1))) ((c .before .before .before .before .before .before .before .before .before .before .before .before .pre .2))) in omega (arith, room .count)
+none-fits-requires c κs = let room = (walked-room _ _ _ _ _ _ _ _ _ _ _ ((c .before .before .before .before .before .before .before .before .before .before .before .before .before .pre .0)) ((c .before .before .before .before .before .walk .ensures)) (args-short _ _ _ ((c .before .before .before .before .before .before .before .before .before .before .before .before .before .pre .1))) ((c .before .before .before .before .before .before .before .before .before .before .before .before .before .pre .2))) in omega (arith, room .count)
 
 enum-known-first : tie.Need-enum-known-first
 enum-known-first c = search needs
 
 settle-requires : tie.Need-settle-requires
-settle-requires c κs = ((c .before .before .before .before .before .before .before .before .before .before .before .before .before .pre .0), tally-place _ _ _ _ _ _ _ _ ((c .before .before .before .before .before .before .walk .ensures)) _ ((c .before .before .first .given .1)), (c .before .before .before .before .before .before .before .before .before .before .before .before .before .pre .1), (walked-room _ _ _ _ _ _ _ _ _ _ _ ((c .before .before .before .before .before .before .before .before .before .before .before .before .before .pre .0)) ((c .before .before .before .before .before .before .walk .ensures)) (args-short _ _ _ ((c .before .before .before .before .before .before .before .before .before .before .before .before .before .pre .1))) ((c .before .before .before .before .before .before .before .before .before .before .before .before .before .pre .2))))
+settle-requires c κs = ((c .before .before .before .before .before .before .before .before .before .before .before .before .before .before .pre .0), tally-place _ _ _ _ _ _ _ _ ((c .before .before .before .before .before .before .walk .ensures)) _ ((c .before .before .first .given .1)), (c .before .before .before .before .before .before .before .before .before .before .before .before .before .before .pre .1), (walked-room _ _ _ _ _ _ _ _ _ _ _ ((c .before .before .before .before .before .before .before .before .before .before .before .before .before .before .pre .0)) ((c .before .before .before .before .before .before .walk .ensures)) (args-short _ _ _ ((c .before .before .before .before .before .before .before .before .before .before .before .before .before .before .pre .1))) ((c .before .before .before .before .before .before .before .before .before .before .before .before .before .before .pre .2))))
 
 same-length : tie.Need-same-length
 same-length c = search needs
 
 returns : tie.Need-returns
-returns c = resolved _ _ _ _ _ _ _ _ _ _ _ ((c .before .before .before .before .before .before .before .before .before .before .any-own .ensures)) (sym (args-length _ _ _ 0 _)) (settled-nothing _ _ _ _ _ _ _ _ _ _ ((c .before .before .before .before .before .before .before .before .walk .ensures)) ((c .before .before .before .before .enum-told .given .1)) _ (sym (args-length _ _ _ 0 _)) _ _ ((c .before .before .none-fits .ensures) ((c .before .before .before .before .before .before .before .before .before .before .before .before .before .before .before .args .table .now))))
+returns c = resolved _ _ _ _ _ _ _ _ _ _ _ ((c .before .before .before .before .before .before .before .before .before .before .any-own .ensures)) (sym (args-length _ _ _ 0 _)) (settled-nothing _ _ _ _ _ _ _ _ _ _ ((c .before .before .before .before .before .before .before .before .walk .ensures)) ((c .before .before .before .before .enum-told .given .1)) _ (sym (args-length _ _ _ 0 _)) _ _ ((c .before .before .none-fits .ensures) ((c .before .before .before .before .before .before .before .before .before .before .before .before .before .before .before .before .args .table .now))))
 
 same-length-2 : tie.Need-same-length-2
 same-length-2 c = search needs

@@ -9,10 +9,10 @@ use Rattle.overload.proofs.reports.by_index.Tie as tie
 use Rattle.symbol.specs.Lookup.{symbolsOf}
 
 abbrev Inv-loop : tie.InvT-loop
-Inv-loop table sections params area lens args buf₀ count reported₀ i₀ buf reported i = (i ≤ args .count) × (length buf ≡ length buf₀) × IndexFrom (symbolsOf table) table params area lens args buf₀ count buf reported i
+Inv-loop table index params area lens args buf₀ count reported₀ i₀ buf reported i = (i ≤ args .count) × (length buf ≡ length buf₀) × IndexFrom (symbolsOf table) table params area lens args buf₀ count buf reported i
 
 abbrev μ-loop : tie.MeasureT-loop
-μ-loop table sections params area lens args buf₀ count reported₀ i₀ buf reported i = args .count - i
+μ-loop table index params area lens args buf₀ count reported₀ i₀ buf reported i = args .count - i
 
 loop-holds : tie.Need-loop-holds Inv-loop μ-loop
 loop-holds c = (omega arith, refl, index-start _ _ _ _ _ _ _ _)
@@ -24,7 +24,7 @@ returns : tie.Need-returns Inv-loop μ-loop
 returns c = index-past _ _ _ _ _ _ _ _ _ _ _ ((c .before .before .before .before .loop .inv .2)) ((c .if2 .taken))
 
 mismatch-one-requires : tie.Need-mismatch-one-requires Inv-loop μ-loop
-mismatch-one-requires c κs = ((c .before .before .before .before .before .before .before .before .before .before .pre .0), omega arith, omega (arith, (c .before .before .before .before .before .loop .inv .2 .few), (c .before .before .before .before .before .before .before .before .before .before .pre)))
+mismatch-one-requires c κs = ((c .before .before .before .before .before .before .before .before .before .before .before .pre .0), omega arith, omega (arith, (c .before .before .before .before .before .loop .inv .2 .few), (c .before .before .before .before .before .before .before .before .before .before .before .pre)))
 
 add-i : tie.Need-add-i Inv-loop μ-loop
 add-i c = search needs

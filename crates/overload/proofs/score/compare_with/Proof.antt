@@ -13,5 +13,5 @@ pub compare-with-spec : {M : Type 1} → statement M
 unfolding comparedWith
 compare-with-spec = tie.close (tie.spec
     (λ c κs. search needs)
-    (λ c. ((c .compare .ensures .0) ∙ sym (ap (λ (o : Option Param). comparedWith (symbolsOf ((c .before .before .before .before .before .args .table .now))) o ((c .before .before .before .before .before .args .x .now))) (param-there _ _ _ ((c .before .if1 .taken)))), (c .compare .ensures .1)))
-    (λ c. (score-none ∙ sym (ap (λ (o : Option Param). comparedWith (symbolsOf ((c .before .before .before .before .args .table .now))) o ((c .before .before .before .before .args .x .now))) (param-missing _ _ _ ((c .if1 .left)))), omega arith)))
+    (λ c. ((c .compare .ensures .0) ∙ sym (ap (λ (o : Option Param). comparedWith (symbolsOf ((c .before .before .before .before .before .before .args .table .now))) o ((c .before .before .before .before .before .before .args .x .now))) (param-there _ _ _ ((c .before .if1 .taken)))), (c .compare .ensures .1)))
+    (λ c. (score-none ∙ sym (ap (λ (o : Option Param). comparedWith (symbolsOf ((c .before .before .before .before .before .args .table .now))) o ((c .before .before .before .before .before .args .x .now))) (param-missing _ _ _ ((c .if1 .left)))), omega arith)))

@@ -10,4 +10,4 @@ named-one-spec = tie.close (tie.spec
     (λ c. (score-some 0 ∙ named-none _ _ _ _ ((c .if1 .taken)), omega arith))
     (λ c κs. search needs)
     (λ c κs. search needs)
-    (λ c. ((c .compare-with .ensures .0) ∙ named-some _ ((c .before .before .before .before .before .args .table .now)) _ _ _ _ ((c .before .place-of .ensures) ((c .before .before .before .before .before .args .table .now))) ((c .before .before .if1 .left)), (c .compare-with .ensures .1))))
+    (λ c. ((c .compare-with .ensures .0) ∙ named-some _ ((c .before .before .before .before .before .before .args .table .now)) _ _ _ _ ((c .before .place-of .ensures) ((c .before .before .before .before .before .before .args .table .now))) ((c .before .before .if1 .left)), (c .compare-with .ensures .1))))

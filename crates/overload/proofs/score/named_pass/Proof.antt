@@ -13,10 +13,10 @@ use Rattle.overload.specs.Score.{plus, namedOne}
 use Rattle.symbol.specs.Lookup.{symbolsOf}
 
 abbrev Inv-loop : tie.InvT-loop
-Inv-loop table sections params area lens args m₀ i₀ m i = (i ≤ args .count) × (m .score .points ≤ 2 * i) × NamedFrom (symbolsOf table) (paramsIn table params) area lens args (scoreOf (m .score)) (m .marks) i
+Inv-loop table index params area lens args m₀ i₀ m i = (i ≤ args .count) × (m .score .points ≤ 2 * i) × NamedFrom (symbolsOf table) (paramsIn table params) area lens args (scoreOf (m .score)) (m .marks) i
 
 abbrev μ-loop : tie.MeasureT-loop
-μ-loop table sections params area lens args m₀ i₀ m i = args .count - i
+μ-loop table index params area lens args m₀ i₀ m i = args .count - i
 
 loop-holds : tie.Need-loop-holds Inv-loop μ-loop
 loop-holds c = (omega arith, omega arith, named-start _ _ _ _ _)
@@ -37,7 +37,7 @@ element-copy-out-named-turn : tie.Need-element-copy-out-named-turn Inv-loop μ-l
 element-copy-out-named-turn c = search needs
 
 named-turn-requires : tie.Need-named-turn-requires Inv-loop μ-loop
-named-turn-requires c κs = ((c .before .before .before .before .before .before .before .before .pre .0), (c .before .before .before .before .before .before .before .before .pre .1), omega (arith, (c .before .before .before .before .loop .inv .1), (c .before .before .before .before .before .before .before .before .pre .2)))
+named-turn-requires c κs = ((c .before .before .before .before .before .before .before .before .before .pre .0), (c .before .before .before .before .before .before .before .before .before .pre .1), omega (arith, (c .before .before .before .before .loop .inv .1), (c .before .before .before .before .before .before .before .before .before .pre .2)))
 
 add-i : tie.Need-add-i Inv-loop μ-loop
 add-i c = search needs
@@ -50,12 +50,12 @@ loop-again c = (
   omega arith,
   omega (arith, (c .named-turn .ensures .2), (c .before .before .before .before .before .loop .inv .1)),
   named-turn _ _ _ _ _ _ _ _ ((c .before .before .before .before .before .loop .inv .2)) _ _ ((c .before .before .before .before .loop-test .taken))
-      ((c .named-turn .ensures .0) ∙ ap (λ (z : List ℕ). plus (scoreOf ((c .before .before .before .before .before .loop .m .score))) (namedOne (symbolsOf ((c .before .before .before .before .before .before .before .before .before .args .table .now))) (paramsIn ((c .before .before .before .before .before .before .before .before .before .args .table .now)) ((c .before .before .before .before .before .before .before .before .before .args .params))) (nameIn (getD ((c .before .before .before .before .before .before .before .before .before .args .t6 .names)) ((c .before .before .before .before .before .loop .i)) 0)) z)) ((c .before .before .slot .ensures)))
+      ((c .named-turn .ensures .0) ∙ ap (λ (z : List ℕ). plus (scoreOf ((c .before .before .before .before .before .loop .m .score))) (namedOne (symbolsOf ((c .before .before .before .before .before .before .before .before .before .before .args .table .now))) (paramsIn ((c .before .before .before .before .before .before .before .before .before .before .args .table .now)) ((c .before .before .before .before .before .before .before .before .before .before .args .params))) (nameIn (getD ((c .before .before .before .before .before .before .before .before .before .before .args .t6 .names)) ((c .before .before .before .before .before .loop .i)) 0)) z)) ((c .before .before .slot .ensures)))
       ((c .named-turn .ensures .1)),
 )
 
 returns : tie.Need-returns Inv-loop μ-loop
-returns c = (named-score _ _ _ _ _ _ _ _ ((c .before .loop .inv .2)) ((c .loop-test .left)), named-marks _ _ _ _ _ _ _ _ ((c .before .loop .inv .2)) ((c .loop-test .left)), omega (arith, (c .before .loop .inv .1), (c .before .before .before .before .before .pre .2)))
+returns c = (named-score _ _ _ _ _ _ _ _ ((c .before .loop .inv .2)) ((c .loop-test .left)), named-marks _ _ _ _ _ _ _ _ ((c .before .loop .inv .2)) ((c .loop-test .left)), omega (arith, (c .before .loop .inv .1), (c .before .before .before .before .before .before .pre .2)))
 
 pub named-pass-spec : {M : Type 1} → statement M
 named-pass-spec =

@@ -13,4 +13,4 @@ named-turn-spec = tie.close (tie.spec
     (λ c κs. search needs)
     (λ c κs. search needs)
     (λ c κs. search needs)
-    (λ c. ((c .before .add .ensures .0) ∙ ap (λ (z : Option ℕ). plus (scoreOf ((c .before .before .before .before .before .before .before .args .m .score))) z) ((c .before .before .named-one .ensures .0)), (c .mark-one .ensures) ((c .before .before .before .before .before .before .before .args .table .now)), omega (arith, (c .before .add .ensures .1), (c .before .before .named-one .ensures .1)))))
+    (λ c. ((c .before .add .ensures .0) ∙ ap (λ (z : Option ℕ). plus (scoreOf ((c .before .before .before .before .before .before .before .before .args .m .score))) z) ((c .before .before .named-one .ensures .0)), (c .mark-one .ensures) ((c .before .before .before .before .before .before .before .before .args .table .now)), omega (arith, (c .before .add .ensures .1), (c .before .before .named-one .ensures .1)))))

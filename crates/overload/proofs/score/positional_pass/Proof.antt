@@ -17,16 +17,16 @@ use Rattle.symbol.specs.Lookup.{symbolsOf}
 use Rattle.symbol.specs.Symbols.{Param}
 
 abbrev Inv-loop : tie.InvT-loop
-Inv-loop table sections params area lens args j v score₀ i₀ score i = (i ≤ args .count) × (score .points ≤ 2 * i) × (plus (scoreOf score) (unnamedScore (symbolsOf table) (paramIn table params j) v (argsLeft area lens args i (args .count))) ≡ unnamedScore (symbolsOf table) (paramIn table params j) v (argsIn area lens args))
+Inv-loop table index params area lens args j v score₀ i₀ score i = (i ≤ args .count) × (score .points ≤ 2 * i) × (plus (scoreOf score) (unnamedScore (symbolsOf table) (paramIn table params j) v (argsLeft area lens args i (args .count))) ≡ unnamedScore (symbolsOf table) (paramIn table params j) v (argsIn area lens args))
 
 abbrev μ-loop : tie.MeasureT-loop
-μ-loop table sections params area lens args j v score₀ i₀ score i = args .count - i
+μ-loop table index params area lens args j v score₀ i₀ score i = args .count - i
 
 free-place-requires : tie.Need-free-place-requires Inv-loop μ-loop
-free-place-requires c κs = (c .before .before .before .pre .1)
+free-place-requires c κs = (c .before .before .before .before .pre .1)
 
 last-vararg-requires : tie.Need-last-vararg-requires Inv-loop μ-loop
-last-vararg-requires c κs = (c .before .before .before .before .pre .1)
+last-vararg-requires c κs = (c .before .before .before .before .before .pre .1)
 
 loop-holds : tie.Need-loop-holds Inv-loop μ-loop
 loop-holds c = (omega arith, omega arith, unnamed-start _ _ _ _ _ _)
@@ -47,10 +47,10 @@ element-copy-out-unnamed-one : tie.Need-element-copy-out-unnamed-one Inv-loop μ
 element-copy-out-unnamed-one c = search needs
 
 unnamed-one-requires : tie.Need-unnamed-one-requires Inv-loop μ-loop
-unnamed-one-requires c κs = ((c .before .before .before .before .before .before .before .before .before .before .pre .0), (c .before .before .before .before .before .before .before .before .before .before .pre .1))
+unnamed-one-requires c κs = ((c .before .before .before .before .before .before .before .before .before .before .before .pre .0), (c .before .before .before .before .before .before .before .before .before .before .before .pre .1))
 
 add-requires : tie.Need-add-requires Inv-loop μ-loop
-add-requires c κs = (omega (arith, (c .before .before .before .before .before .loop .inv .1), (c .before .before .before .before .before .before .before .before .before .before .before .pre .2)), omega (arith, (c .unnamed-one .ensures .1)))
+add-requires c κs = (omega (arith, (c .before .before .before .before .before .loop .inv .1), (c .before .before .before .before .before .before .before .before .before .before .before .before .pre .2)), omega (arith, (c .unnamed-one .ensures .1)))
 
 add-i : tie.Need-add-i Inv-loop μ-loop
 add-i c = search needs
@@ -64,15 +64,15 @@ loop-again c = (
   omega (arith, (c .add .ensures .1), (c .before .unnamed-one .ensures .1), (c .before .before .before .before .before .before .loop .inv .1)),
   unnamed-turn _ _ _ _ _ _ _ _ ((c .before .before .before .before .before .before .loop .inv .2)) _ ((c .before .before .before .before .before .loop-test .taken))
       ((c .add .ensures .0) ∙ ap (λ (z : Option ℕ). plus (scoreOf ((c .before .before .before .before .before .before .loop .score))) z) ((c .before .unnamed-one .ensures .0)
-      ∙ ap (λ (z : List ℕ). unnamedOne (symbolsOf ((c .before .before .before .before .before .before .before .before .before .before .before .before .args .table .now))) (paramIn ((c .before .before .before .before .before .before .before .before .before .before .before .before .args .table .now)) ((c .before .before .before .before .before .before .before .before .before .before .before .before .args .params)) ((c .before .before .before .before .before .before .before .before .free-place .result))) ((c .before .before .before .before .before .before .before .last-vararg .result)) (nameIn (getD ((c .before .before .before .before .before .before .before .before .before .before .before .before .args .t7 .names)) ((c .before .before .before .before .before .before .loop .i)) 0)) z) ((c .before .before .before .slot .ensures)))),
+      ∙ ap (λ (z : List ℕ). unnamedOne (symbolsOf ((c .before .before .before .before .before .before .before .before .before .before .before .before .before .args .table .now))) (paramIn ((c .before .before .before .before .before .before .before .before .before .before .before .before .before .args .table .now)) ((c .before .before .before .before .before .before .before .before .before .before .before .before .before .args .params)) ((c .before .before .before .before .before .before .before .before .free-place .result))) ((c .before .before .before .before .before .before .before .last-vararg .result)) (nameIn (getD ((c .before .before .before .before .before .before .before .before .before .before .before .before .before .args .t7 .names)) ((c .before .before .before .before .before .before .loop .i)) 0)) z) ((c .before .before .before .slot .ensures)))),
 )
 
 returns : tie.Need-returns Inv-loop μ-loop
 returns c = (
   unnamed-done _ _ _ _ _ _ _ _ ((c .before .loop .inv .2)) ((c .loop-test .left))
-      ∙ ap (λ (f : Option Param). unnamedScore (symbolsOf ((c .before .before .before .before .before .before .before .args .table .now))) f ((c .before .before .last-vararg .result)) (argsIn ((c .before .before .before .before .before .before .before .args .area .now)) ((c .before .before .before .before .before .before .before .args .lens .now)) ((c .before .before .before .before .before .before .before .args .t7)))) (sym ((c .before .before .before .free-place .ensures) ((c .before .before .before .before .before .before .before .args .table .now))))
-      ∙ ap (λ (v : Bool). unnamedScore (symbolsOf ((c .before .before .before .before .before .before .before .args .table .now))) (unmarkedFrom 0 (paramsIn ((c .before .before .before .before .before .before .before .args .table .now)) ((c .before .before .before .before .before .before .before .args .params))) ((c .before .before .before .before .before .before .before .args .marks))) v (argsIn ((c .before .before .before .before .before .before .before .args .area .now)) ((c .before .before .before .before .before .before .before .args .lens .now)) ((c .before .before .before .before .before .before .before .args .t7)))) ((c .before .before .last-vararg .ensures) ((c .before .before .before .before .before .before .before .args .table .now))),
-  omega (arith, (c .before .loop .inv .1), (c .before .before .before .before .before .before .before .pre .2)),
+      ∙ ap (λ (f : Option Param). unnamedScore (symbolsOf ((c .before .before .before .before .before .before .before .before .args .table .now))) f ((c .before .before .last-vararg .result)) (argsIn ((c .before .before .before .before .before .before .before .before .args .area .now)) ((c .before .before .before .before .before .before .before .before .args .lens .now)) ((c .before .before .before .before .before .before .before .before .args .t7)))) (sym ((c .before .before .before .free-place .ensures) ((c .before .before .before .before .before .before .before .before .args .table .now))))
+      ∙ ap (λ (v : Bool). unnamedScore (symbolsOf ((c .before .before .before .before .before .before .before .before .args .table .now))) (unmarkedFrom 0 (paramsIn ((c .before .before .before .before .before .before .before .before .args .table .now)) ((c .before .before .before .before .before .before .before .before .args .params))) ((c .before .before .before .before .before .before .before .before .args .marks))) v (argsIn ((c .before .before .before .before .before .before .before .before .args .area .now)) ((c .before .before .before .before .before .before .before .before .args .lens .now)) ((c .before .before .before .before .before .before .before .before .args .t7)))) ((c .before .before .last-vararg .ensures) ((c .before .before .before .before .before .before .before .before .args .table .now))),
+  omega (arith, (c .before .loop .inv .1), (c .before .before .before .before .before .before .before .before .pre .2)),
 )
 
 pub positional-pass-spec : {M : Type 1} → statement M

@@ -10,4 +10,4 @@ score-function-spec =
     (λ c κs. search needs)
     (λ c κs. search needs)
     (λ c κs. search needs)
-    (λ c. score-is _ (overloadIn ((c .before .before .before .before .before .before .before .before .before .args .table .now)) ((c .before .before .before .before .before .before .before .before .before .args .f))) _ _ _ _ _ ((c .add .ensures .0)) ((c .before .before .before .before .named-pass .ensures .0)) ((c .before .before .before .before .named-pass .ensures .1)) ((c .before .positional-pass .ensures .0))))
+    (λ c. score-is _ (overloadIn ((c .before .before .before .before .before .before .before .before .before .before .args .table .now)) ((c .before .before .before .before .before .before .before .before .before .before .args .f))) _ _ _ _ _ ((c .add .ensures .0)) ((c .before .before .before .before .named-pass .ensures .0)) ((c .before .before .before .before .named-pass .ensures .1)) ((c .before .positional-pass .ensures .0))))

@@ -21,8 +21,8 @@ check-binary-spec =
     let c3 = c .before .before .before in
     let c4 = c3 .before in
     let c5 = c4 .before in
-    let c9 = c5 .before .before .before .before in
-    let a = c9 .args in
+    let c10 = c5 .before .before .before .before .before in
+    let a = c10 .args in
     rw (
       c .alone .ensures (a .table .now) (a .lt .now) (a .rt .now),
       c .before .plain .ensures (a .table .now) (a .lt .now) (a .rt .now),
@@ -44,8 +44,8 @@ check-binary-spec =
     let c5 = c3 .before .before in
     let c6 = c5 .before in
     let c7 = c6 .before in
-    let c11 = c7 .before .before .before .before in
-    let a = c11 .args in
+    let c12 = c7 .before .before .before .before .before in
+    let a = c12 .args in
     rw (
       c .builtin-binary .ensures (a .table .now) (symbolsOf (a .table .now)),
       no-method _ _ _ _ (c3 .operator-overload-return .ensures) ((c .before .enum-told .given) .1),
@@ -59,8 +59,8 @@ check-binary-spec =
     let c6 = c4 .before .before in
     let c7 = c6 .before in
     let c8 = c7 .before in
-    let c12 = c8 .before .before .before .before in
-    let a = c12 .args in
+    let c13 = c8 .before .before .before .before .before in
+    let a = c13 .args in
     rw (
       c .alone2 .ensures (a .table .now) (a .lt .now) (a .rt .now),
       c .before .plain2 .ensures (a .table .now) (a .lt .now) (a .rt .now),
@@ -75,8 +75,8 @@ check-binary-spec =
     let c7 = c5 .before .before in
     let c8 = c7 .before in
     let c9 = c8 .before in
-    let c13 = c9 .before .before .before .before in
-    let a = c13 .args in
+    let c14 = c9 .before .before .before .before .before in
+    let a = c14 .args in
     let g = c3 .method .given in
     rw (
       c .alone3 .ensures (a .table .now) (a .lt .now) (a .rt .now),

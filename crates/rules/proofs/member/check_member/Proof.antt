@@ -23,8 +23,8 @@ check-member-spec =
     (λ c κs. search needs)
     (λ c.
     let c3 = c .before .before .before in
-    let c6 = c3 .before .before .before in
-    let a = c6 .args in
+    let c7 = c3 .before .before .before .before in
+    let a = c7 .args in
     λ y.
     rw (
       c .alone .ensures (a .table .now) (a .object .now) y,
@@ -39,8 +39,8 @@ check-member-spec =
     let c3 = c .before .before .before in
     let c4 = c3 .before in
     let c6 = c4 .before .before in
-    let c9 = c6 .before .before .before in
-    let a = c9 .args in
+    let c10 = c6 .before .before .before .before in
+    let a = c10 .args in
     λ y.
     rw (
       c .alone2 .ensures (a .table .now) (a .object .now) y,
@@ -61,8 +61,8 @@ check-member-spec =
     let c6 = c5 .before in
     let c7 = c6 .before in
     let c8 = c7 .before in
-    let c11 = c8 .before .before .before in
-    let a = c11 .args in
+    let c12 = c8 .before .before .before .before in
+    let a = c12 .args in
     λ y.
     rw (
       c .behind .ensures (a .table .now) (a .object .now) y,

@@ -13,35 +13,35 @@ kind-member-spec =
     (λ c κs. search needs)
     (λ c κs. search needs)
     (λ c y.
-    let c5 = c .before .before .before .before .before in
-    rw (c .named-member .ensures (c5 .args .object .now) y, c .before .name-of .ensures) (search chain depth 16))
-    (λ c κs. search needs)
-    (λ c.
-    let c5 = c .before .before .before .before .before in
-    let a = c5 .args in
-    λ y.
-    rw (c .string-member .ensures (a .table .now) (a .object .now) y) (search chain depth 16))
+    let c6 = c .before .before .before .before .before .before in
+    rw (c .named-member .ensures (c6 .args .object .now) y, c .before .name-of .ensures) (search chain depth 16))
     (λ c κs. search needs)
     (λ c.
     let c6 = c .before .before .before .before .before .before in
     let a = c6 .args in
     λ y.
-    rw (c .element-member .ensures (a .table .now) (a .object .now) y) (search chain depth 16))
+    rw (c .string-member .ensures (a .table .now) (a .object .now) y) (search chain depth 16))
     (λ c κs. search needs)
     (λ c.
     let c7 = c .before .before .before .before .before .before .before in
     let a = c7 .args in
     λ y.
-    rw (c .map-member .ensures (a .table .now) (a .object .now) y) (search chain depth 16))
+    rw (c .element-member .ensures (a .table .now) (a .object .now) y) (search chain depth 16))
     (λ c κs. search needs)
     (λ c.
     let c8 = c .before .before .before .before .before .before .before .before in
     let a = c8 .args in
     λ y.
+    rw (c .map-member .ensures (a .table .now) (a .object .now) y) (search chain depth 16))
+    (λ c κs. search needs)
+    (λ c.
+    let c9 = c .before .before .before .before .before .before .before .before .before in
+    let a = c9 .args in
+    λ y.
     rw (c .plain .ensures (a .table .now) (a .object .now) y) (search chain depth 16))
     (λ c κs. search needs)
     (λ c.
-    let c8 = c .before .before .before .before .before .before .before .before in
-    let a = c8 .args in
+    let c9 = c .before .before .before .before .before .before .before .before .before in
+    let a = c9 .args in
     λ y.
     rw (c .fails .ensures (a .table .now) (a .object .now) y) (search chain depth 16)))

@@ -13,17 +13,17 @@ named-member-spec =
     (λ c κs. search needs)
     (λ c x y.
     let c2 = c .before .before in
-    let c4 = c2 .before .before in
-    rw (c .variable-member .ensures (c4 .args .table .now) x y, ← c2 .is-variable-name .ensures) (search chain depth 16))
+    let c5 = c2 .before .before .before in
+    rw (c .variable-member .ensures (c5 .args .table .now) x y, ← c2 .is-variable-name .ensures) (search chain depth 16))
     (λ c κs. search needs)
     (λ c x y.
     let c3 = c .before .before .before in
-    let c5 = c3 .before .before in
-    rw (c .pair-member .ensures (c5 .args .table .now) x y, ← c3 .is-variable-name .ensures) (search chain depth 16))
+    let c6 = c3 .before .before .before in
+    rw (c .pair-member .ensures (c6 .args .table .now) x y, ← c3 .is-variable-name .ensures) (search chain depth 16))
     (λ c κs. search needs)
     (λ c x y.
     let c4 = c .before .before .before .before in
-    let c6 = c4 .before .before in
-    rw (c .collection-member .ensures (c6 .args .table .now) x y, ← c4 .is-variable-name .ensures) (search chain depth 16))
+    let c7 = c4 .before .before .before in
+    rw (c .collection-member .ensures (c7 .args .table .now) x y, ← c4 .is-variable-name .ensures) (search chain depth 16))
     (λ c κs. search needs)
     (λ c x y. rw (c .class-member .ensures x y, ← c .before .before .before .before .is-variable-name .ensures) (search chain depth 16)))

@@ -7,13 +7,13 @@ use Rattle.rules.proofs.method.climb.Statement.{statement}
 use Rattle.rules.proofs.method.climb.Tie as tie
 
 abbrev Inv-loop : tie.InvT-loop
-Inv-loop table sections op class at₀ at = Going table op class at
+Inv-loop table index op class at₀ at = Going table op class at
 
 abbrev μ-loop : tie.MeasureT-loop
-μ-loop table sections op class at₀ at = height table at
+μ-loop table index op class at₀ at = height table at
 
 loop-holds : tie.Need-loop-holds Inv-loop μ-loop
-loop-holds c = going-first (c .before .args .table .now) _ _
+loop-holds c = going-first (c .before .before .args .table .now) _ _
 
 operators-of-requires : tie.Need-operators-of-requires Inv-loop μ-loop
 operators-of-requires c κs = search needs
@@ -26,8 +26,8 @@ returns c =
     let c2 = c .before .before in
     let c3 = c2 .before in
     let c4 = c3 .before in
-    let c6 = c4 .before .before in
-    sym (no-set (c6 .args .table .now) _ _ _ (c3 .loop-test .taken) (c4 .loop .inv) _ (c2 .operators-of .ensures) (c .enum-told .given .1))
+    let c7 = c4 .before .before .before in
+    sym (no-set (c7 .args .table .now) _ _ _ (c3 .loop-test .taken) (c4 .loop .inv) _ (c2 .operators-of .ensures) (c .enum-told .given .1))
 
 enum-known-set : tie.Need-enum-known-set Inv-loop μ-loop
 enum-known-set c = search needs
@@ -48,10 +48,10 @@ returns-2 c =
     let c6 = c4 .before .before in
     let c7 = c6 .before in
     let c8 = c7 .before in
-    let c10 = c8 .before .before in
+    let c11 = c8 .before .before .before in
     let x = c4 .set .given in
     (c .first-result .ensures)
-    ∙ sym (has-method (c10 .args .table .now) _ _ _ (c7 .loop-test .taken) (c8 .loop .inv) _ (x .0 .0) (c6 .operators-of .ensures) (x .1)
+    ∙ sym (has-method (c11 .args .table .now) _ _ _ (c7 .loop-test .taken) (c8 .loop .inv) _ (x .0 .0) (c6 .operators-of .ensures) (x .1)
     (sym (c2 .has-operator .ensures) ∙ c .before .if1 .taken))
 
 superclass-of-requires : tie.Need-superclass-of-requires Inv-loop μ-loop
@@ -60,8 +60,8 @@ superclass-of-requires c κs = search needs
 loop-less : tie.Need-loop-less Inv-loop μ-loop
 loop-less c =
     let c7 = c .before .before .before .before .before .before .before in
-    let c10 = c7 .before .before .before in
-    rw (c .superclass-of .ensures) (super-below (c10 .args .table .now) (c10 .pre .0 .clean) _ (c7 .loop-test .taken))
+    let c11 = c7 .before .before .before .before in
+    rw (c .superclass-of .ensures) (super-below (c11 .args .table .now) (c11 .pre .0 .clean) _ (c7 .loop-test .taken))
 
 loop-again : tie.Need-loop-again Inv-loop μ-loop
 loop-again c =
@@ -70,13 +70,13 @@ loop-again c =
     let c6 = c4 .before .before in
     let c7 = c6 .before in
     let c8 = c7 .before in
-    let c10 = c8 .before .before in
+    let c11 = c8 .before .before .before in
     let x = c4 .set .given in
-    rw (c .superclass-of .ensures) (going-up (c10 .args .table .now) _ _ _ (c7 .loop-test .taken) (c8 .loop .inv) _ (x .0 .0) (c6 .operators-of .ensures) (x .1) (c10 .pre .0 .clean)
+    rw (c .superclass-of .ensures) (going-up (c11 .args .table .now) _ _ _ (c7 .loop-test .taken) (c8 .loop .inv) _ (x .0 .0) (c6 .operators-of .ensures) (x .1) (c11 .pre .0 .clean)
     (sym (c2 .has-operator .ensures) ∙ c .before .if1 .left))
 
 returns-3 : tie.Need-returns-3 Inv-loop μ-loop
-returns-3 c = sym (going-end (c .before .before .before .args .table .now) _ _ _ (c .before .loop .inv) (c .loop-test .left))
+returns-3 c = sym (going-end (c .before .before .before .before .args .table .now) _ _ _ (c .before .loop .inv) (c .loop-test .left))
 
 pub climb-spec : {M : Type 1} → statement M
 climb-spec =

@@ -11,6 +11,6 @@ operator-overload-return-spec =
     tie.close (tie.spec
     (λ c κs. search needs)
     (λ c κs. search needs)
-    (λ c κs. ((c .before .before .before .before .before .pre), leb-true _ _ (and-left _ _ (c .before .if1 .taken))))
+    (λ c κs. ((c .before .before .before .before .before .before .pre), leb-true _ _ (and-left _ _ (c .before .if1 .taken))))
     (λ c. rw (c .climb .ensures, c .before .name-of .ensures, ← c .before .before .before .kind-of .ensures) (search chain depth 16))
     (λ c. rw (← c .before .kind-of .ensures) (search chain depth 16)))

@@ -19,40 +19,12 @@ returns : tie.Need-returns
 unfolding bucketOf
 returns c = let x = stands-own (c .before .before .before .before .before .args .t .now) (c .before .before .before .before .before .args .me) (c .before .before .before .before .before .args .h) (c .before .before .before .before .before .pre) in let q : (c .hash .result) ≡ hashOf 24 (nameBytes (recordAt (c .before .before .before .before .before .args .t .now) (c .before .before .before .before .before .args .me))) = (c .hash .ensures .0) ∙ ap (hashOf 24) ((c .before .name-at .ensures) ∙ name-bytes (c .before .before .before .before .before .args .t .now) (c .before .before .before .before .before .args .me) (c .before .before .before .before .before .args .h) (c .before .before .before .before .before .pre) (c .before .before .if1 .taken)) in (rw (← x) (search chain depth 14), (c .hash .ensures .1))
 
-index-requires : tie.Need-index-requires
-index-requires c κs = search needs
+key-bucket-requires : tie.Need-key-bucket-requires
+key-bucket-requires c κs = search needs
 
 returns-2 : tie.Need-returns-2
 unfolding bucketOf
-returns-2 c = let x = stands-own (c .before .before .before .before .before .before .args .t .now) (c .before .before .before .before .before .before .args .me) (c .before .before .before .before .before .before .args .h) (c .before .before .before .before .before .before .pre) in (rw ((c .index .ensures .0), ← x) (search chain depth 14), omega (arith, (c .index .ensures .1)))
-
-index-requires-2 : tie.Need-index-requires-2
-index-requires-2 c κs = search needs
-
-mul-result : tie.Need-mul-result
-mul-result c = search needs
-
-index-requires-3 : tie.Need-index-requires-3
-index-requires-3 c κs = search needs
-
-add-result : tie.Need-add-result
-add-result c = search needs
-
-returns-3 : tie.Need-returns-3
-unfolding bucketOf
-returns-3 c = let x = stands-own (c .before .before .before .before .before .before .before .args .t .now) (c .before .before .before .before .before .before .before .args .me) (c .before .before .before .before .before .before .before .args .h) (c .before .before .before .before .before .before .before .pre) in (rw ((c .before .index2 .ensures .0), (c .index3 .ensures .0), ← x) (search chain depth 14), omega arith)
+returns-2 c = let x = stands-own (c .before .before .before .before .args .t .now) (c .before .before .before .before .args .me) (c .before .before .before .before .args .h) (c .before .before .before .before .pre) in (rw (← x) (search chain depth 14), (c .key-bucket .ensures .1))
 
 pub bucket-spec : {M : Type 1} → statement M
-bucket-spec =
-    tie.close
-    (tie.spec
-    name-at-requires
-    hash-requires
-    returns
-    index-requires
-    returns-2
-    index-requires-2
-    mul-result
-    index-requires-3
-    add-result
-    returns-3)
+bucket-spec = tie.close (tie.spec name-at-requires hash-requires returns key-bucket-requires returns-2)

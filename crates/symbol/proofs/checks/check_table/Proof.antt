@@ -1,7 +1,8 @@
 use borrow.Author.Needs.{needs}
 use mathlib.Core.Path.{_∙_}
 use native.Mathlib.Omega.{arith}
-use Rattle.symbol.proofs.Passes.{refused, long-fault}
+use Rattle.symbol.proofs.Faults.{long-fault}
+use Rattle.symbol.proofs.Passes.{refused}
 use Rattle.symbol.proofs.checks.check_table.Statement.{statement}
 use Rattle.symbol.proofs.checks.check_table.Tie as tie
 
@@ -9,13 +10,16 @@ refuse-requires : tie.Need-refuse-requires
 refuse-requires c κs = search needs
 
 returns : tie.Need-returns
-returns c = (c .refuse .ensures) ∙ refused (c .before .before .before .args .table .now) 1 (long-fault (c .before .before .before .args .table .now) (c .before .if1 .taken)) (λ z. omega arith)
+returns c = ((c .refuse .ensures) ∙ refused (c .before .before .before .before .args .table .now) 1 (long-fault (c .before .before .before .before .args .table .now) (c .before .if1 .taken)) (λ z. omega arith), λ z. absurd (omega (arith, long-fault (c .before .before .before .before .args .table .now) (c .before .if1 .taken))))
 
 check-records-requires : tie.Need-check-records-requires
 check-records-requires c κs = search needs
+
+same-length : tie.Need-same-length
+same-length c = search needs
 
 returns-2 : tie.Need-returns-2
 returns-2 c = search needs
 
 pub check-table-spec : {M : Type 1} → statement M
-check-table-spec = tie.close (tie.spec refuse-requires returns check-records-requires returns-2)
+check-table-spec = tie.close (tie.spec refuse-requires returns check-records-requires same-length returns-2)

@@ -1,62 +1,27 @@
 use borrow.Author.Needs.{needs}
+use Prim.Native.Nat.{_+_}
+use lib.ListN.{length-drop}
+use mathlib.Core.Path.{ap}
 use native.Mathlib.Omega.{arith}
-use Rattle.symbol.proofs.Calls.{function-long, function-room, function-count, function-row, function-read}
+use Rattle.symbol.specs.declared.front.Head.{Head}
 use Rattle.symbol.proofs.functions.read_function.Statement.{statement}
 use Rattle.symbol.proofs.functions.read_function.Tie as tie
 
-add-end : tie.Need-add-end
-add-end c = omega (arith, (c .before .before .before .pre .inside))
+tail-requires : tie.Need-tail-requires
+tail-requires c κs = search needs
 
-add-start : tie.Need-add-start
-add-start c = omega (arith, function-long (c .before .before .before .args .t .now) (c .before .before .before .args .p) (c .before .before .before .pre), (c .before .before .before .pre .inside))
+read-record-requires : tie.Need-read-record-requires
+read-record-requires c κs = rw (c .tail .ensures) (omega (arith, length-drop (c .before .before .args .p .at) (c .before .before .args .t .now), (c .before .before .pre .some)))
 
-type-length-requires : tie.Need-type-length-requires
-type-length-requires c κs = (omega (arith, function-long (c .before .before .before .args .t .now) (c .before .before .before .args .p) (c .before .before .before .pre)), (c .before .before .before .pre .inside))
+add-read-whole : tie.Need-add-read-whole
+add-read-whole c = let h = rw (c .before .before .tail .ensures) at (c .before .read-record .ensures) in omega (arith, h .high, length-drop (c .before .before .before .before .args .p .at) (c .before .before .before .before .args .t .now), (c .before .before .before .before .pre .some))
 
-add-read-params : tie.Need-add-read-params
-add-read-params c = omega (arith, function-room (c .before .before .before .before .args .t .now) (c .before .before .before .before .args .p) (c .before .before .before .before .pre) (c .type-length .result) (c .type-length .ensures), (c .before .before .before .before .pre .inside))
-
-add-byte-at : tie.Need-add-byte-at
-add-byte-at c = omega (arith, function-long (c .before .before .before .before .args .t .now) (c .before .before .before .before .args .p) (c .before .before .before .before .pre), (c .before .before .before .before .pre .inside))
-
-byte-at-requires : tie.Need-byte-at-requires
-byte-at-requires c κs = search needs
-
-cast-read-params : tie.Need-cast-read-params
-cast-read-params c = search needs
-
-read-params-requires : tie.Need-read-params-requires
-read-params-requires c κs = (function-room (c .before .before .before .before .before .args .t .now) (c .before .before .before .before .before .args .p) (c .before .before .before .before .before .pre) (c .before .type-length .result) (c .before .type-length .ensures), (c .before .before .before .before .before .pre .inside), function-count (c .before .before .before .before .before .args .t .now) (c .before .before .before .before .before .args .p) (c .before .before .before .before .before .pre) (c .before .type-length .result) (c .before .type-length .ensures) (c .byte-at .result) (c .byte-at .ensures), function-row (c .before .before .before .before .before .args .t .now) (c .before .before .before .before .before .args .p) (c .before .before .before .before .before .pre) (c .before .type-length .result) (c .before .type-length .ensures) (c .byte-at .result) (c .byte-at .ensures))
-
-add-byte-at-2 : tie.Need-add-byte-at-2
-add-byte-at-2 c = omega (arith, function-long (c .before .before .before .before .before .before .args .t .now) (c .before .before .before .before .before .before .args .p) (c .before .before .before .before .before .before .pre), (c .before .before .before .before .before .before .pre .inside))
-
-byte-at-requires-2 : tie.Need-byte-at-requires-2
-byte-at-requires-2 c κs = search needs
-
-add-byte-at-3 : tie.Need-add-byte-at-3
-add-byte-at-3 c = omega (arith, function-long (c .before .before .before .before .before .before .before .args .t .now) (c .before .before .before .before .before .before .before .args .p) (c .before .before .before .before .before .before .before .pre), (c .before .before .before .before .before .before .before .pre .inside))
-
-byte-at-requires-3 : tie.Need-byte-at-requires-3
-byte-at-requires-3 c κs = search needs
+read-whole-requires : tie.Need-read-whole-requires
+read-whole-requires c κs = let h = rw (c .before .before .tail .ensures) at (c .before .read-record .ensures) in ((c .before .before .before .before .pre), ap (λ (x : Head). (c .before .before .before .before .args .p .at) + x .len) (h .same))
 
 returns : tie.Need-returns
-returns c = function-read (c .before .before .before .before .before .before .before .before .args .t .now) (c .before .before .before .before .before .before .before .before .args .p) (c .before .before .before .before .before .before .before .before .pre) (c .before .before .before .before .type-length .result) (c .before .before .before .before .type-length .ensures) (c .before .before .before .byte-at .result) (c .before .before .before .byte-at .ensures) (c .byte-at3 .result) (c .before .byte-at2 .result) (c .byte-at3 .ensures) (c .before .byte-at2 .ensures) (c .before .before .read-params .result) (c .before .before .read-params .ensures)
+returns c = search needs
 
 pub read-function-spec : {M : Type 1} → statement M
 read-function-spec =
-    tie.close
-    (tie.spec
-    add-end
-    add-start
-    type-length-requires
-    add-read-params
-    add-byte-at
-    byte-at-requires
-    cast-read-params
-    read-params-requires
-    add-byte-at-2
-    byte-at-requires-2
-    add-byte-at-3
-    byte-at-requires-3
-    returns)
+    tie.close (tie.spec tail-requires read-record-requires add-read-whole read-whole-requires returns)

@@ -1,32 +1,39 @@
 use borrow.Author.Needs.{needs}
-use mathlib.Core.Path.{refl, ap}
+use Prim.Native.Nat.{_+_}
+use lib.ListN.{length-drop, drop}
+use mathlib.Core.Path.{_≡_, ap, refl}
 use native.Mathlib.Omega.{arith}
-use Rattle.symbol.proofs.Finds.{place-fits, place-part}
+use Rattle.symbol.proofs.Finds.{place-fits, place-inside, place-part}
+use Rattle.symbol.specs.Front.{headOf}
+use Rattle.symbol.specs.Lookup.{symbolsIn}
+use Rattle.symbol.specs.declared.front.Head.{Head}
 use Rattle.symbol.proofs.lookups.field_of.Statement.{statement}
 use Rattle.symbol.proofs.lookups.field_of.Tie as tie
-use Rattle.symbol.specs.Lookup.{symbolsIn}
-use Rattle.symbol.specs.Sections.{sectionsOf}
-use Rattle.symbol.specs.declared.checks.Sections.{Sections}
 
 seek-requires : tie.Need-seek-requires
-unfolding sectionsOf
-seek-requires c κs = (ap (λ (z : Sections). z .fields) (c .before .pre .sections), (c .before .pre .clean))
+seek-requires c κs = ((c .before .before .pre), omega arith)
 
 enum-known-f : tie.Need-enum-known-f
 enum-known-f c = search needs
 
-add-t9 : tie.Need-add-t9
-add-t9 c = let h = rw (c .before .before .before .f .given .1) at (c .before .before .before .before .before .seek .ensures) in omega (arith, h .inside)
+tail-requires : tie.Need-tail-requires
+tail-requires c κs = search needs
 
-sub-t10 : tie.Need-sub-t10
-sub-t10 c = let h = rw (c .before .before .before .before .f .given .1) at (c .before .before .before .before .before .before .seek .ensures) in place-fits (c .before .before .before .before .before .before .before .before .args .t .now) _ 5 (c .before .before .before .before .before .before .before .before .args .owner) (c .before .before .before .before .before .before .before .before .args .name) (c .before .before .before .before .f .given .0 .0) h .field refl
+read-record-requires : tie.Need-read-record-requires
+read-record-requires c κs = let h = rw (c .before .before .f .given .1) at (c .before .before .before .before .seek .ensures) in rw (c .tail .ensures) (omega (arith, length-drop (c .before .before .f .given .0 .0 .at) (c .before .before .before .before .before .before .before .args .t .now), h .some))
+
+add-t10 : tie.Need-add-t10
+add-t10 c = let h = rw (c .before .before .before .before .f .given .1) at (c .before .before .before .before .before .before .seek .ensures) in let g = rw (c .before .before .tail .ensures) at (c .before .read-record .ensures) in let n : (c .before .read-record .result .len) ≡ headOf (drop (c .before .before .before .before .f .given .0 .0 .at) (c .before .before .before .before .before .before .before .before .before .args .t .now)) .len = ap (λ (x : Head). x .len) (g .same) in let l = place-fits (c .before .before .before .before .before .before .before .before .before .args .t .now) _ 5 (c .before .before .before .before .before .before .before .before .before .args .owner) (c .before .before .before .before .before .before .before .before .before .args .name) (c .before .before .before .before .f .given .0 .0) h .field refl in omega (arith, h .some, length-drop (c .before .before .before .before .f .given .0 .0 .at) (c .before .before .before .before .before .before .before .before .before .args .t .now), place-inside (c .before .before .before .before .before .before .before .before .before .args .t .now) _ 5 (c .before .before .before .before .before .before .before .before .before .args .owner) (c .before .before .before .before .before .before .before .before .before .args .name) (c .before .before .before .before .f .given .0 .0) h)
+
+sub-t11 : tie.Need-sub-t11
+sub-t11 c = let h = rw (c .before .before .before .before .before .f .given .1) at (c .before .before .before .before .before .before .before .seek .ensures) in let g = rw (c .before .before .before .tail .ensures) at (c .before .before .read-record .ensures) in let n : (c .before .before .read-record .result .len) ≡ headOf (drop (c .before .before .before .before .before .f .given .0 .0 .at) (c .before .before .before .before .before .before .before .before .before .before .args .t .now)) .len = ap (λ (x : Head). x .len) (g .same) in let l = place-fits (c .before .before .before .before .before .before .before .before .before .before .args .t .now) _ 5 (c .before .before .before .before .before .before .before .before .before .before .args .owner) (c .before .before .before .before .before .before .before .before .before .before .args .name) (c .before .before .before .before .before .f .given .0 .0) h .field refl in omega arith
 
 enum-told : tie.Need-enum-told
 enum-told c = search needs
 
 returns : tie.Need-returns
 unfolding symbolsIn
-returns c = let h = rw (c .before .before .before .before .f .given .1) at (c .before .before .before .before .before .before .seek .ensures) in let n = place-fits (c .before .before .before .before .before .before .before .before .args .t .now) _ 5 (c .before .before .before .before .before .before .before .before .args .owner) (c .before .before .before .before .before .before .before .before .args .name) (c .before .before .before .before .f .given .0 .0) h .field refl in (rw (h .first, place-part (c .before .before .before .before .before .before .before .before .args .t .now) _ 5 (c .before .before .before .before .before .before .before .before .args .owner) (c .before .before .before .before .before .before .before .before .args .name) (c .before .before .before .before .f .given .0 .0) h 5), omega (arith, h .inside))
+returns c = let h = rw (c .before .before .before .before .before .f .given .1) at (c .before .before .before .before .before .before .before .seek .ensures) in let g = rw (c .before .before .before .tail .ensures) at (c .before .before .read-record .ensures) in let n : (c .before .before .read-record .result .len) ≡ headOf (drop (c .before .before .before .before .before .f .given .0 .0 .at) (c .before .before .before .before .before .before .before .before .before .before .args .t .now)) .len = ap (λ (x : Head). x .len) (g .same) in let l = place-fits (c .before .before .before .before .before .before .before .before .before .before .args .t .now) _ 5 (c .before .before .before .before .before .before .before .before .before .before .args .owner) (c .before .before .before .before .before .before .before .before .before .before .args .name) (c .before .before .before .before .before .f .given .0 .0) h .field refl in (rw (h .first, n, place-part (c .before .before .before .before .before .before .before .before .before .before .args .t .now) _ 5 (c .before .before .before .before .before .before .before .before .before .before .args .owner) (c .before .before .before .before .before .before .before .before .before .before .args .name) (c .before .before .before .before .before .f .given .0 .0) h 5), omega (arith, place-inside (c .before .before .before .before .before .before .before .before .before .before .args .t .now) _ 5 (c .before .before .before .before .before .before .before .before .before .before .args .owner) (c .before .before .before .before .before .before .before .before .before .before .args .name) (c .before .before .before .before .before .f .given .0 .0) h))
 
 returns-2 : tie.Need-returns-2
 unfolding symbolsIn
@@ -34,4 +41,4 @@ returns-2 c = let e = rw (c .enum-told .given .1) at (c .before .before .seek .e
 
 pub field-of-spec : {M : Type 1} → statement M
 field-of-spec =
-    tie.close (tie.spec seek-requires enum-known-f add-t9 sub-t10 enum-told returns returns-2)
+    tie.close (tie.spec seek-requires enum-known-f tail-requires read-record-requires add-t10 sub-t11 enum-told returns returns-2)

@@ -1,14 +1,12 @@
 use borrow.Author.Needs.{needs}
+use native.Mathlib.Omega.{arith}
 use mathlib.Core.Path.{ap}
 use Rattle.symbol.proofs.lookups.is_variant.Statement.{statement}
 use Rattle.symbol.proofs.lookups.is_variant.Tie as tie
 use Rattle.symbol.specs.Lookup.{symbolsIn}
-use Rattle.symbol.specs.Sections.{sectionsOf}
-use Rattle.symbol.specs.declared.checks.Sections.{Sections}
 
 seek-requires : tie.Need-seek-requires
-unfolding sectionsOf
-seek-requires c κs = (ap (λ (z : Sections). z .variants) (c .before .pre .sections), (c .before .pre .clean))
+seek-requires c κs = ((c .before .before .pre), omega arith)
 
 enum-told : tie.Need-enum-told
 enum-told c = search needs

@@ -1,28 +1,32 @@
 use borrow.Author.Needs.{needs}
-use mathlib.Core.Path.{ap}
+use native.Mathlib.Omega.{arith}
+use Rattle.symbol.proofs.Finds.{place-two}
+use Rattle.symbol.specs.Lookup.{symbolsIn}
 use Rattle.symbol.proofs.lookups.operators_of.Statement.{statement}
 use Rattle.symbol.proofs.lookups.operators_of.Tie as tie
-use Rattle.symbol.specs.Lookup.{symbolsIn}
-use Rattle.symbol.specs.Sections.{sectionsOf}
-use Rattle.symbol.specs.declared.checks.Sections.{Sections}
 
 seek-requires : tie.Need-seek-requires
-unfolding sectionsOf
-seek-requires c κs = (ap (λ (z : Sections). z .operators) (c .before .pre .sections), (c .before .pre .clean))
+seek-requires c κs = ((c .before .before .pre), omega arith)
 
 enum-known-f : tie.Need-enum-known-f
 enum-known-f c = search needs
+
+add-id-at : tie.Need-add-id-at
+add-id-at c = let h = rw (c .before .before .f .given .1) at (c .before .before .before .before .seek .ensures) in omega (arith, h .some)
+
+id-at-requires : tie.Need-id-at-requires
+id-at-requires c κs = search needs
 
 enum-told : tie.Need-enum-told
 enum-told c = search needs
 
 returns : tie.Need-returns
 unfolding symbolsIn
-returns c = let h = rw (c .before .before .f .given .1) at (c .before .before .before .before .seek .ensures) in rw (h .first, ← h .own)
+returns c = let h = rw (c .before .before .before .f .given .1) at (c .before .before .before .before .before .seek .ensures) in rw (h .first, place-two (c .before .before .before .before .before .before .before .before .args .t .now) _ 3 (c .before .before .before .before .before .before .before .before .args .class) 0 (c .before .before .before .f .given .0 .0) h (omega arith), (c .id-at .ensures))
 
 returns-2 : tie.Need-returns-2
 unfolding symbolsIn
 returns-2 c = let e = rw (c .enum-told .given .1) at (c .before .before .seek .ensures) in rw e
 
 pub operators-of-spec : {M : Type 1} → statement M
-operators-of-spec = tie.close (tie.spec seek-requires enum-known-f enum-told returns returns-2)
+operators-of-spec = tie.close (tie.spec seek-requires enum-known-f add-id-at id-at-requires enum-told returns returns-2)

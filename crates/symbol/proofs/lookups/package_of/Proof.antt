@@ -1,22 +1,19 @@
 use borrow.Author.Needs.{needs}
 use mathlib.Core.Path.{refl, sym, ap, _∙_}
 use native.Mathlib.Omega.{arith}
-use Rattle.symbol.proofs.Finds.{place-fits, place-id}
+use Rattle.symbol.proofs.Finds.{place-fits, place-inside, place-id}
 use Rattle.symbol.proofs.lookups.package_of.Statement.{statement}
 use Rattle.symbol.proofs.lookups.package_of.Tie as tie
 use Rattle.symbol.specs.Lookup.{symbolsIn}
-use Rattle.symbol.specs.Sections.{sectionsOf}
-use Rattle.symbol.specs.declared.checks.Sections.{Sections}
 
 seek-requires : tie.Need-seek-requires
-unfolding sectionsOf
-seek-requires c κs = (ap (λ (z : Sections). z .classes) (c .before .pre .sections), (c .before .pre .clean))
+seek-requires c κs = ((c .before .before .pre), omega arith)
 
 enum-known-f : tie.Need-enum-known-f
 enum-known-f c = search needs
 
 add-id-at : tie.Need-add-id-at
-add-id-at c = let h = rw (c .before .before .f .given .1) at (c .before .before .before .before .seek .ensures) in omega (arith, h .inside)
+add-id-at c = let h = rw (c .before .before .f .given .1) at (c .before .before .before .before .seek .ensures) in omega (arith, place-inside (c .before .before .before .before .before .before .before .args .t .now) _ 2 (c .before .before .before .before .before .before .before .args .class) 0 (c .before .before .f .given .0 .0) h)
 
 id-at-requires : tie.Need-id-at-requires
 id-at-requires c κs = search needs
@@ -26,7 +23,7 @@ enum-told c = search needs
 
 returns : tie.Need-returns
 unfolding symbolsIn
-returns c = let h = rw (c .before .before .before .f .given .1) at (c .before .before .before .before .before .seek .ensures) in let n = place-fits (c .before .before .before .before .before .before .before .args .t .now) _ 2 (c .before .before .before .before .before .before .before .args .class) 0 (c .before .before .before .f .given .0 .0) h .class refl in rw (h .first) ((c .id-at .ensures) ∙ sym (place-id (c .before .before .before .before .before .before .before .args .t .now) _ 2 (c .before .before .before .before .before .before .before .args .class) 0 (c .before .before .before .f .given .0 .0) h 5 (omega arith)))
+returns c = let h = rw (c .before .before .before .f .given .1) at (c .before .before .before .before .before .seek .ensures) in let n = place-fits (c .before .before .before .before .before .before .before .before .args .t .now) _ 2 (c .before .before .before .before .before .before .before .before .args .class) 0 (c .before .before .before .f .given .0 .0) h .class refl in rw (h .first) ((c .id-at .ensures) ∙ sym (place-id (c .before .before .before .before .before .before .before .before .args .t .now) _ 2 (c .before .before .before .before .before .before .before .before .args .class) 0 (c .before .before .before .f .given .0 .0) h 5 (omega arith)))
 
 returns-2 : tie.Need-returns-2
 unfolding symbolsIn

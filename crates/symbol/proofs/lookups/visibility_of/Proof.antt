@@ -1,22 +1,19 @@
 use borrow.Author.Needs.{needs}
 use mathlib.Core.Path.{refl, ap}
 use native.Mathlib.Omega.{arith}
-use Rattle.symbol.proofs.Finds.{place-fits, place-byte}
+use Rattle.symbol.proofs.Finds.{place-fits, place-inside, place-byte}
 use Rattle.symbol.proofs.lookups.visibility_of.Statement.{statement}
 use Rattle.symbol.proofs.lookups.visibility_of.Tie as tie
 use Rattle.symbol.specs.Lookup.{symbolsIn}
-use Rattle.symbol.specs.Sections.{sectionsOf}
-use Rattle.symbol.specs.declared.checks.Sections.{Sections}
 
 seek-requires : tie.Need-seek-requires
-unfolding sectionsOf
-seek-requires c κs = (ap (λ (z : Sections). z .visibilities) (c .before .pre .sections), (c .before .pre .clean))
+seek-requires c κs = ((c .before .before .pre), omega arith)
 
 enum-known-f : tie.Need-enum-known-f
 enum-known-f c = search needs
 
 add-byte-at : tie.Need-add-byte-at
-add-byte-at c = let h = rw (c .before .before .f .given .1) at (c .before .before .before .before .seek .ensures) in omega (arith, h .inside)
+add-byte-at c = let h = rw (c .before .before .f .given .1) at (c .before .before .before .before .seek .ensures) in omega (arith, place-inside (c .before .before .before .before .before .before .before .args .t .now) _ 6 (c .before .before .before .before .before .before .before .args .owner) (c .before .before .before .before .before .before .before .args .name) (c .before .before .f .given .0 .0) h)
 
 byte-at-requires : tie.Need-byte-at-requires
 byte-at-requires c κs = search needs
@@ -26,7 +23,7 @@ enum-told c = search needs
 
 returns : tie.Need-returns
 unfolding symbolsIn
-returns c = let h = rw (c .before .before .before .f .given .1) at (c .before .before .before .before .before .seek .ensures) in let n = place-fits (c .before .before .before .before .before .before .before .args .t .now) _ 6 (c .before .before .before .before .before .before .before .args .owner) (c .before .before .before .before .before .before .before .args .name) (c .before .before .before .f .given .0 .0) h .visibility refl in rw (h .first, place-byte (c .before .before .before .before .before .before .before .args .t .now) _ 6 (c .before .before .before .before .before .before .before .args .owner) (c .before .before .before .before .before .before .before .args .name) (c .before .before .before .f .given .0 .0) h 5 (omega arith), (c .byte-at .ensures))
+returns c = let h = rw (c .before .before .before .f .given .1) at (c .before .before .before .before .before .seek .ensures) in let n = place-fits (c .before .before .before .before .before .before .before .before .args .t .now) _ 6 (c .before .before .before .before .before .before .before .before .args .owner) (c .before .before .before .before .before .before .before .before .args .name) (c .before .before .before .f .given .0 .0) h .visibility refl in rw (h .first, place-byte (c .before .before .before .before .before .before .before .before .args .t .now) _ 6 (c .before .before .before .before .before .before .before .before .args .owner) (c .before .before .before .before .before .before .before .before .args .name) (c .before .before .before .f .given .0 .0) h 5 (omega arith), (c .byte-at .ensures))
 
 returns-2 : tie.Need-returns-2
 unfolding symbolsIn

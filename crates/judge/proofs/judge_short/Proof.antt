@@ -1,0 +1,20 @@
+use borrow.Author.Needs.{needs}
+use Rattle.symbol.proofs.Rooms.{room-short}
+use Rattle.judge.proofs.judge_short.Statement.{statement}
+use Rattle.judge.proofs.judge_short.Tie as tie
+
+slice-aggregate-judge-with : tie.Need-slice-aggregate-judge-with
+slice-aggregate-judge-with c = search needs
+
+judge-with-requires : tie.Need-judge-with-requires
+judge-with-requires c κs = (room-short _ (c .before .before .before .before .before .pre .0), (c .before .before .before .before .before .pre .1))
+
+same-length : tie.Need-same-length
+same-length c = search needs
+
+returns : tie.Need-returns
+returns c = search needs
+
+pub judge-short-spec : {M : Type 1} → statement M
+judge-short-spec =
+    tie.close (tie.spec slice-aggregate-judge-with judge-with-requires same-length returns)

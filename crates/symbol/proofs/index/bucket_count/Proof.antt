@@ -1,0 +1,15 @@
+use borrow.Author.Needs.{needs}
+use mathlib.Core.Path.{sym}
+use native.Mathlib.Omega.{arith}
+use Rattle.symbol.proofs.Buckets.{buckets-many, buckets-few}
+use Rattle.symbol.proofs.index.bucket_count.Statement.{statement}
+use Rattle.symbol.proofs.index.bucket_count.Tie as tie
+
+returns : tie.Need-returns
+returns c = let e = buckets-many _ (c .if1 .taken) in (sym e, omega arith)
+
+returns-2 : tie.Need-returns-2
+returns-2 c = let e = buckets-few _ (c .if1 .left) in (sym e, omega arith)
+
+pub bucket-count-spec : {M : Type 1} → statement M
+bucket-count-spec = tie.close (tie.spec returns returns-2)
