@@ -11,7 +11,8 @@ use oracle::table_number;
 use std::collections::HashSet;
 use std::io::{BufWriter, Write};
 
-const PROFILES: [Profile; 5] = [Profile::Damaged, Profile::Boundary, Profile::Random, Profile::Rich, Profile::Operators];
+const PROFILES: [Profile; 5] =
+    [Profile::Damaged, Profile::Boundary, Profile::Random, Profile::Rich, Profile::Operators];
 
 fn stop(message: &str) -> ! {
     eprintln!("tables: {}", message);
