@@ -2,6 +2,7 @@
 //! cut out of its sources at build time, behind document 01's bytes.
 
 pub mod answer;
+pub mod args;
 pub mod bytes;
 pub mod coverage;
 pub mod diagnostic;

@@ -6,6 +6,7 @@
 //! taken. The first file has one question after another: the number of the table's names and the question's length
 //! (2 bytes each, low byte first), and the question. The second has their numbers (0, or 8 to 11), a line each.
 
+use oracle::args::Args;
 use oracle::gen::{self, Profile};
 use oracle::name::BUILT_IN;
 use oracle::{question_number, table, table_number};
@@ -13,31 +14,8 @@ use std::io::{BufWriter, Write};
 
 const PROFILES: [Profile; 5] = [Profile::Damaged, Profile::Boundary, Profile::Random, Profile::Rich, Profile::Calls];
 
-fn stop(message: &str) -> ! {
-    eprintln!("questions: {}", message);
-    eprintln!("usage: questions --seed S --count N --longest L --stdin FILE --stdout FILE");
-    std::process::exit(2)
-}
-
 fn main() -> std::io::Result<()> {
-    let (mut seed, mut count, mut longest) = (1, 1000, 65_535);
-    let (mut stdin, mut stdout) = (String::new(), String::new());
-    let args: Vec<String> = std::env::args().skip(1).collect();
-    for pair in args.chunks(2) {
-        let [option, value] = pair else { stop("an option without a value") };
-        let number = || value.parse::<u64>().unwrap_or_else(|_| stop(&format!("{} is no number", value)));
-        match option.as_str() {
-            "--seed" => seed = number(),
-            "--count" => count = number(),
-            "--longest" => longest = number().min(65_535),
-            "--stdin" => stdin = value.clone(),
-            "--stdout" => stdout = value.clone(),
-            _ => stop(&format!("unknown option {}", option)),
-        }
-    }
-    if stdin.is_empty() || stdout.is_empty() {
-        stop("--stdin or --stdout is missing");
-    }
+    let Args { seed, count, longest, stdin, stdout } = Args::of_process("questions");
     let mut questions = BufWriter::new(std::fs::File::create(&stdin)?);
     let mut numbers = BufWriter::new(std::fs::File::create(&stdout)?);
     let mut written = [0u64; 12];
