@@ -1,4 +1,17 @@
-//! The library's functions on bytes. `include/aura_judge.h` declares the same for C.
+//! The library's functions on bytes, for callers who want them as they are: nothing is allocated, and every byte that
+//! the library writes can be seen. `include/aura_judge.h` declares the same for C.
+//!
+//! ```
+//! use aura_judge::raw::{judge, Fields, ANSWER_SIZE};
+//!
+//! // `!!` on an Int: one diagnostic.
+//! let question = [0xff, 0xff, 0xff, 0xff, 0, 2, 6, 0, 0];
+//! let (mut diagnostics, mut answer) = ([0; 10], [0; ANSWER_SIZE]);
+//! assert_eq!(judge(&[], &question, &mut diagnostics, &mut answer), 0);
+//! let fields = Fields::of(&answer);
+//! assert_eq!((fields.number, fields.pass, fields.len, fields.count), (0, 0, 1, 1));
+//! assert_eq!(diagnostics, [13, 0, 0, 0, 0, 0, 0, 0, 0, 0]);
+//! ```
 
 extern "C" {
     fn aura_judge_answer_size() -> usize;

@@ -1,6 +1,6 @@
 //! One case: what the Rust says for some buffer lengths, and what the proved judge does.
 
-use crate::proved::{self, ANSWER_SIZE};
+use aura_judge::raw::{self, Fields, ANSWER_SIZE};
 use oracle::answer::{diagnostics, finish, inside, refusal, run};
 use oracle::diagnostic::Diagnostic;
 use oracle::gen::Case;
@@ -76,8 +76,7 @@ impl Said {
         let Given { number, answer: bytes, buffer } = given;
         expected.fill(0);
         let right = self.answer(expected);
-        let answer = proved::read(bytes);
-        let rest = &bytes[ANSWER_SIZE..];
+        let (answer, rest) = read(bytes);
         if *number == right.number && answer == right && rest.iter().all(|b| *b == 0) && *buffer == &*expected {
             return Ok(*number);
         }
@@ -143,7 +142,7 @@ impl Space {
         self.answer.resize(ANSWER_SIZE + 2 * GUARD + length % 3, POISON);
         let end = self.answer.len() - GUARD;
         let answer = &mut self.answer[GUARD..end];
-        let number = proved::call(&case.table, &case.question, &mut lent[GUARD..GUARD + length], answer);
+        let number = raw::judge(&case.table, &case.question, &mut lent[GUARD..GUARD + length], answer);
         let around = [&lent[..GUARD], &lent[GUARD + length..], &self.answer[..GUARD], &self.answer[end..]];
         if around.iter().any(|part| part.iter().any(|b| *b != POISON)) {
             return Err(described(case, length, "bytes outside the lent slices were written"));
@@ -162,6 +161,13 @@ impl Space {
 /// What differs, with the case's bytes before it.
 pub fn described(case: &Case, length: usize, what: &str) -> String {
     format!("table {}\nquestion {}\nbuffer of {} bytes\n{}", hex(&case.table), hex(&case.question), length, what)
+}
+
+/// The answer that the first 268 bytes say, and the bytes behind them.
+pub fn read(bytes: &[u8]) -> (Answer, &[u8]) {
+    let (answer, rest) = bytes.split_first_chunk::<ANSWER_SIZE>().expect("an answer has 268 bytes");
+    let Fields { number, pass, len, count, ty } = Fields::of(answer);
+    (Answer { number, pass, ty: *ty, len: len as usize, count: count as usize }, rest)
 }
 
 /// An answer as the program prints it, where its numbers allow that.

@@ -1,6 +1,7 @@
 //! The interface, and a small number of cases of every profile.
 
-use compare::proved::{answer_size, call, read, ANSWER_SIZE, TOO_SHORT};
+use aura_judge::raw::{answer_size, judge, ANSWER_SIZE, TOO_SHORT};
+use compare::case::read;
 use compare::run::{sweeps, Batch, Run};
 use oracle::gen::PROFILES;
 
@@ -9,8 +10,8 @@ fn the_named_examples_agree() {
     for example in oracle::examples::all() {
         let mut buffer = vec![7; 65_535];
         let mut bytes = [7; ANSWER_SIZE];
-        let number = call(&example.table, &example.question, &mut buffer, &mut bytes);
-        let answer = read(&bytes);
+        let number = judge(&example.table, &example.question, &mut buffer, &mut bytes);
+        let (answer, _) = read(&bytes);
         assert_eq!(number, answer.number, "{}", example.name);
         assert_eq!(oracle::print_answer(&answer, &buffer), example.printed(), "{}", example.name);
     }
@@ -31,7 +32,7 @@ fn an_answer_slice_that_is_too_short_is_said() {
     let question = [255, 255, 255, 255, 0, 2, 6, 0, 0];
     for room in 0..ANSWER_SIZE {
         let (mut buffer, mut bytes) = ([7; 10], vec![7; room]);
-        assert_eq!(call(&[], &question, &mut buffer, &mut bytes), TOO_SHORT);
+        assert_eq!(judge(&[], &question, &mut buffer, &mut bytes), TOO_SHORT);
         assert!(buffer.iter().chain(&bytes).all(|b| *b == 0), "{} bytes", room);
     }
 }
@@ -40,7 +41,7 @@ fn an_answer_slice_that_is_too_short_is_said() {
 fn bytes_behind_the_answer_are_zero() {
     let question = [255, 255, 255, 255, 0, 2, 6, 0, 0];
     let (mut buffer, mut bytes) = ([7; 10], vec![7; 1_000]);
-    assert_eq!(call(&[], &question, &mut buffer, &mut bytes), 0);
+    assert_eq!(judge(&[], &question, &mut buffer, &mut bytes), 0);
     assert_eq!(buffer, [13, 0, 0, 0, 0, 0, 0, 0, 0, 0]);
     let mut right = vec![0; 1_000];
     right[2] = 1;

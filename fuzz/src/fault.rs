@@ -1,6 +1,6 @@
 //! A wrong judge in the proved one's place, to try that a run can fail. AURA_FUZZ_FAULT says which.
 
-use compare::proved;
+use aura_judge::raw;
 use std::arch::asm;
 use std::hint::black_box;
 
@@ -65,7 +65,7 @@ impl Fault {
 
     /// The proved judge's answer, made wrong.
     pub fn judge(self, table: &[u8], question: &[u8], buffer: &mut [u8], answer: &mut [u8]) -> u8 {
-        let number = proved::call(table, question, buffer, answer);
+        let number = raw::judge(table, question, buffer, answer);
         let last = buffer.len().wrapping_sub(1);
         match self {
             Fault::None => {}

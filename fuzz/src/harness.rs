@@ -3,8 +3,8 @@
 use crate::counts;
 use crate::fault::Fault;
 use crate::pages::{At, Pages, POISON};
+use aura_judge::raw::ANSWER_SIZE;
 use compare::case::{described, Given, Said};
-use compare::proved::ANSWER_SIZE;
 use oracle::answer::BUFFER;
 use oracle::gen::Case;
 use oracle::sample::hex;
