@@ -1,5 +1,4 @@
 -- The definitions on small cases, by computation. Assumes nothing.
-use Prim.Native.Nat.{ℕ}
 use lib.ListN.{replicate}
 use mathlib.Core.List.{[], _∷_}
 use mathlib.Core.Path.{_≡_, refl}

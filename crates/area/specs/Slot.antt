@@ -1,6 +1,6 @@
 -- Where the types of a question's nodes are kept while it is judged: an area of slots of 256 bytes, and the lengths of what lies in them.
 -- Node n's type is in slot n. Document 01: at most 64 nodes ("Table and question"), a type in 256 bytes ("Answer").
-use Prim.Native.Nat.{ℕ, _+_, _*_, _≤_, _<_}
+use Prim.Native.Nat.{ℕ, _*_, _≤_, _<_}
 use mathlib.Core.Path.{_≡_}
 use mathlib.Core.List.{List, [], _∷_, map}
 use lib.ListN.{length, getD, take, drop, set}

@@ -1,14 +1,12 @@
 -- Every record of an accepted table draws no number. Assumes nothing.
-use Prim.Native.Nat.{ℕ, zero, suc, _+_, _≤_, _<_}
+use Prim.Native.Nat.{ℕ, zero, suc, _≤_, _<_}
 use borrow.Author.Tests.{ne-eqb}
-use lib.Dec.{eqb, ltb}
-use lib.ListN.{length, getD, drop}
+use lib.ListN.{length, drop}
 use lib.Seq.{drop-cons}
-use mathlib.Core.Bool.{Bool, false, _&&_, _||_}
+use mathlib.Core.Bool.{false}
 use mathlib.Core.List.{List, [], _∷_}
-use mathlib.Core.Path.{_≡_, refl, sym, ap, _∙_, subst}
+use mathlib.Core.Path.{_≡_, refl, sym, _∙_, subst}
 use native.Mathlib.Omega.{arith, not-le}
-use Rattle.ty.proofs.Choice.{passed}
 use Rattle.ty.specs.Choose.{choose}
 use Rattle.symbol.proofs.Cleans.{Clean, clean-record}
 use Rattle.symbol.proofs.Faults.{fault-stop, fault-on, short-fault, long-fault}

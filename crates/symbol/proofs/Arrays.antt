@@ -1,7 +1,7 @@
 -- Parameters read into arrays, one after the other. Assumes nothing.
-use Prim.Native.Nat.{ℕ, zero, suc, _+_, _-_, _*_, _≤_, _<_, _%_, min}
+use Prim.Native.Nat.{ℕ, zero, suc, _+_, _-_, _*_, _≤_, _<_, _%_}
 use lib.Dec.{eqb, leb}
-use lib.ListN.{length, getD, drop, take, set, length-set, length-drop, length-take, length-replicate}
+use lib.ListN.{length, getD, drop, take, length-set, length-drop, length-take, length-replicate}
 use lib.Seq.{drop-drop, getD-drop, getD-take, take-take, getD-set-same, getD-set-other}
 use borrow.Author.Tests.{eq-eqb, eqb-true}
 use mathlib.Core.Bool.{Bool, true, false, true≢false}
@@ -14,7 +14,7 @@ use Rattle.ty.specs.Bytes.{idAt}
 use Rattle.symbol.proofs.Own.{drop-take}
 use Rattle.symbol.specs.Answer.{paramAt, paramsRow}
 use Rattle.symbol.specs.Lookup.{typeLength, paramOf, paramsFrom}
-use Rattle.symbol.specs.Row.{part, TypeAt, RowAt, paramAdded, noParams, ParamsAre}
+use Rattle.symbol.specs.Row.{part, RowAt, paramAdded, noParams, ParamsAre}
 use Rattle.symbol.specs.Symbols.{Param}
 use Rattle.symbol.specs.declared.functions.Params.{Params}
 

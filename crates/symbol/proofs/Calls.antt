@@ -2,9 +2,8 @@
 use Prim.Native.Nat.{ℕ, _+_, _-_, _≤_, _<_}
 use lib.Dec.{eqb}
 use lib.ListN.{length, getD, drop, take}
-use mathlib.Core.Bool.{Bool, false}
 use mathlib.Core.List.{List}
-use mathlib.Core.Path.{_≡_, refl, sym, ap, _∙_, subst}
+use mathlib.Core.Path.{_≡_, sym, ap, _∙_}
 use native.Mathlib.Omega.{arith}
 use Rattle.symbol.proofs.Arrays.{part-from, part-length, part-byte, part-take}
 use Rattle.symbol.proofs.Finds.{sits-own, sits-inside}
@@ -14,7 +13,6 @@ use Rattle.symbol.specs.Answer.{overloadAt, FunctionAt, FunctionRead, pa
 use Rattle.symbol.specs.Front.{headOf}
 use Rattle.symbol.specs.Lookup.{typeLength, paramsFrom, overloadOf}
 use Rattle.symbol.specs.Row.{part, RowAt, ParamsAre}
-use Rattle.symbol.specs.Symbols.{Param}
 use Rattle.symbol.specs.Table.{frontRecord}
 use Rattle.symbol.specs.Walk.{behind}
 use Rattle.symbol.specs.declared.front.Head.{Head}

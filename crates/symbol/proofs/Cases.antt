@@ -1,17 +1,16 @@
 -- Worked tables, computed from the definitions: an accepted one with its lookups, and one for each number. Assumes nothing.
 use Prim.Native.Nat.{ℕ}
 use mathlib.Core.Path.{_≡_, refl}
-use mathlib.Core.Bool.{Bool, true, false}
+use mathlib.Core.Bool.{true, false}
 use mathlib.Core.List.{List, [], _∷_, _++_}
-use mathlib.Core.Option.{Option, none, some}
+use mathlib.Core.Option.{some}
 use lib.ListN.{replicate}
 use Rattle.ty.specs.Choose.{choose}
 use Rattle.ty.specs.Bytes.{sameBytes}
 use Rattle.ty.specs.Read.{bodyLength, children, idIn, itemOf, itemAt, stopped, readFrom, readType}
-use Rattle.symbol.specs.Symbols.{Param, Overload}
 use Rattle.symbol.specs.Spelling.{builtinNames, spelled}
 use Rattle.symbol.specs.Front.{plainHead, orNone, goodByte, goodBytes, nameHead, classHead, operatorsHead, among, paramStep, runParams, paramsRead, functionWith, functionHead, fieldHead, visibilityHead, suspendHead, variantHead, headBy, headOf}
-use Rattle.symbol.specs.Table.{recordsFrom, recordsOf, countOf}
+use Rattle.symbol.specs.Table.{recordsFrom, countOf}
 use Rattle.symbol.specs.Refused.{sameKey, hasKey, hasClass, superLate, recordFault, faultFrom, tableFault}
 use Rattle.symbol.specs.Lookup.{recordsWith, typeLength, paramsFrom, overloadOf, namesIn, capitalIn, symbolsIn, symbolsOf}
 use Rattle.symbol.specs.Subclass.{climbs, isSubclass}

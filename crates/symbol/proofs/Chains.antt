@@ -1,24 +1,24 @@
 -- The index of the records before a byte, and one record more. Assumes nothing.
-use Prim.Native.Nat.{ℕ, zero, suc, _+_, _-_, _*_, _/_, _≤_, _<_}
+use Prim.Native.Nat.{ℕ, zero, suc, _+_, _-_, _≤_, _<_}
 use borrow.Author.Tests.{eqb-true, eq-eqb, ne-eqb, le-leb, lt-leb, leb-true, leb-false}
 use lib.Dec.{eqb, leb}
 use lib.ListN.{length, getD, drop, set, length-drop, length-set}
 use lib.Seq.{getD-set-same, getD-set-other}
-use mathlib.Core.Bool.{Bool, true, false, true≢false, false≢true}
-use mathlib.Core.List.{List, [], _∷_}
+use mathlib.Core.Bool.{Bool, true, false, true≢false}
+use mathlib.Core.List.{List}
 use mathlib.Core.Logic.{_⊎_, inl, inr, ⊎-elim}
 use mathlib.Core.Path.{_≡_, refl, sym, ap, _∙_, subst}
 use native.Mathlib.Omega.{arith, not-le}
 use Rattle.ty.specs.Choose.{choose}
 use Rattle.symbol.proofs.Buckets.{bucket-below}
-use Rattle.symbol.proofs.Finds.{Reached, reach, sits-cons, sits-own, sits-at, sits-next, sits-later, sits-inside, sits-length}
+use Rattle.symbol.proofs.Finds.{Reached, reach, sits-cons, sits-at, sits-next, sits-later, sits-length}
 use Rattle.symbol.proofs.Records.{at-start, records-joined, at-more}
 use Rattle.symbol.proofs.Sizes.{head-long}
 use Rattle.symbol.specs.Bucket.{bucketOf}
-use Rattle.symbol.specs.Entered.{clipped, Begun, Entered, linkAt, entered}
+use Rattle.symbol.specs.Entered.{clipped, Entered, linkAt, entered}
 use Rattle.symbol.specs.Front.{headOf}
 use Rattle.symbol.specs.Index.{bucketCount, bucketIn, firstAt, lastAt, nextAt, nextIn, nextFrom, indexSize}
-use Rattle.symbol.specs.Table.{Record, frontRecord, recordsOf, joined}
+use Rattle.symbol.specs.Table.{frontRecord, recordsOf, joined}
 use Rattle.symbol.specs.Walk.{At, Sits, behind}
 
 -- ---- where records begin

@@ -1,10 +1,10 @@
 -- What holds of a record that draws no number. Assumes nothing.
-use Prim.Native.Nat.{ℕ, zero, suc, _≤_}
+use Prim.Native.Nat.{ℕ, suc, _≤_}
 use borrow.Author.Tests.{ltb-false}
 use lib.Dec.{ltb}
 use mathlib.Core.Bool.{Bool, true, false, not, true≢false, _||_}
 use mathlib.Core.List.{List}
-use mathlib.Core.Path.{_≡_, refl, sym, ap, _∙_}
+use mathlib.Core.Path.{_≡_, refl, sym}
 use native.Mathlib.Omega.{arith}
 use Rattle.ty.specs.Choose.{choose}
 use Rattle.ty.specs.Name.{idDefined}

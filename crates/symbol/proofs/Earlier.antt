@@ -4,9 +4,9 @@ use borrow.Author.Tests.{eqb-true, eq-eqb}
 use lib.Dec.{eqb}
 use lib.ListN.{length, getD, drop, length-drop}
 use lib.Seq.{getD-drop}
-use mathlib.Core.Bool.{Bool, true, false, _&&_, _||_, true≢false, false≢true}
+use mathlib.Core.Bool.{Bool, true, false, _&&_, _||_, true≢false}
 use mathlib.Core.List.{List, [], _∷_}
-use mathlib.Core.Logic.{_⊎_, inl, inr, ⊎-elim}
+use mathlib.Core.Logic.{_⊎_, ⊎-elim}
 use mathlib.Core.Path.{_≡_, refl, sym, ap, _∙_, subst}
 use native.Mathlib.Omega.{arith, not-le}
 use Rattle.ty.proofs.Choice.{and-left, and-right}
@@ -24,7 +24,6 @@ use Rattle.symbol.specs.Index.{bucketCount, bucketIn, firstAt, nextAt, n
 use Rattle.symbol.specs.Refused.{sameKey, hasKey, isClass, hasClass}
 use Rattle.symbol.specs.Table.{Record, frontRecord, recordsOf}
 use Rattle.symbol.specs.Walk.{At, Sits, behind, before, Stands}
-use Rattle.symbol.specs.declared.front.Head.{Head}
 use Rattle.symbol.specs.declared.walk.Cursor.{Cursor}
 
 -- some record of a list passes a test

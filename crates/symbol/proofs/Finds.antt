@@ -7,7 +7,6 @@ use lib.Seq.{drop-drop, getD-drop, length-take-le}
 use mathlib.Core.Bool.{Bool, true, false, _&&_, _||_, false≢true}
 use mathlib.Core.List.{List, [], _∷_}
 use mathlib.Core.Path.{_≡_, refl, sym, ap, _∙_, subst}
-use native.Mathlib.Nat.{not-suc-le-zero}
 use native.Mathlib.Omega.{arith, not-le}
 use Rattle.ty.proofs.Choice.{and-left, and-right}
 use Rattle.ty.specs.Bytes.{idAt}
@@ -27,7 +26,7 @@ use Rattle.symbol.specs.Lookup.{isOf, recordsWith}
 use Rattle.symbol.specs.Refused.{tableFault}
 use Rattle.symbol.specs.Searched.{Searched, withAt}
 use Rattle.symbol.specs.Table.{Record, recordsOf, frontRecord}
-use Rattle.symbol.specs.Walk.{At, Sits, behind, StepIs, recordAt, before}
+use Rattle.symbol.specs.Walk.{At, Sits, behind, before}
 use Rattle.symbol.specs.declared.front.Head.{Head}
 use Rattle.symbol.specs.declared.index.Place.{Place}
 use Rattle.symbol.specs.declared.walk.Cursor.{Cursor}

@@ -2,11 +2,11 @@
 use Prim.Native.Nat.{ℕ, zero, suc, _+_, _-_, _≤_, _<_, max}
 use borrow.Author.Tests.{eqb-true, ltb-true, ltb-false, lt-ltb}
 use lib.Dec.{eqb, ltb}
-use lib.ListN.{length, getD, take, drop, length-drop, length-take, length-map}
+use lib.ListN.{length, getD, take, drop, length-drop, length-map}
 use lib.Seq.{length-take-le, take-all}
 use mathlib.Core.Bool.{Bool, true, false, true≢false}
 use mathlib.Core.List.{List, [], _∷_, _++_, map}
-use mathlib.Core.Option.{Option, none, some}
+use mathlib.Core.Option.{none, some}
 use mathlib.Core.Path.{_≡_, refl, sym, ap, _∙_, subst}
 use native.Mathlib.Nat.{not-suc-le-zero}
 use native.Mathlib.Omega.{arith}
@@ -16,23 +16,21 @@ use Rattle.ty.proofs.Sized.{whole}
 use Rattle.ty.specs.Bytes.{Ty, plainTy, kindOf, idAt}
 use Rattle.ty.specs.Choose.{choose}
 use Rattle.ty.specs.Kind.{errorKind}
-use Rattle.ty.specs.Name.{idDefined, firstTableId, noId}
+use Rattle.ty.specs.Name.{idDefined, firstTableId}
 use Rattle.ty.specs.Read.{bodyLength, children, idIn, itemOf, itemAt, stopped, readFrom, readType, longestType}
-use Rattle.ty.specs.declared.read.TypeRead.the-variants.{Whole, Cut, Malformed, Endless}
-use Rattle.ty.specs.declared.read.TypeRead.{TypeRead}
+use Rattle.ty.specs.declared.read.TypeRead.the-variants.{Whole}
 use Rattle.symbol.proofs.Accepts.{CleanFrom, accepted-clean, accepted-short}
 use Rattle.symbol.proofs.Bounds.{head-bounded}
-use Rattle.symbol.proofs.Cleans.{Clean}
 use Rattle.symbol.proofs.Names.{Distinct, names-distinct}
 use Rattle.symbol.proofs.Own.{head-own}
 use Rattle.symbol.proofs.Records.{records-here, records-end}
 use Rattle.symbol.proofs.Sizes.{head-by}
-use Rattle.symbol.proofs.Wholes.{FunctionWhole, function-whole, FieldWhole, field-whole}
+use Rattle.symbol.proofs.Wholes.{function-whole, field-whole}
 use Rattle.symbol.specs.Front.{plainHead, visibilityHead, headBy, headOf}
-use Rattle.symbol.specs.Lookup.{isOf, recordsWith, typeLength, paramOf, paramsFrom, overloadOf, fieldIn, visibilityIn, symbolsIn, symbolsOf}
+use Rattle.symbol.specs.Lookup.{isOf, recordsWith, typeLength, paramsFrom, overloadOf, fieldIn, visibilityIn, symbolsIn, symbolsOf}
 use Rattle.symbol.specs.Refused.{tableFault}
 use Rattle.symbol.specs.Row.{TypeAt, RowAt}
-use Rattle.symbol.specs.Symbols.{Param, Overload}
+use Rattle.symbol.specs.Symbols.{Overload}
 use Rattle.symbol.specs.Table.{Record, frontRecord, recordsOf, countOf, nameCount}
 use Rattle.symbol.specs.declared.front.Head.{Head}
 

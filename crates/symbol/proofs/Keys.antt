@@ -3,7 +3,7 @@ use Prim.Native.Nat.{ℕ}
 use lib.ListN.{drop}
 use mathlib.Core.Bool.{Bool, true, false}
 use mathlib.Core.List.{List}
-use mathlib.Core.Path.{_≡_, refl, sym, ap, _∙_}
+use mathlib.Core.Path.{_≡_, sym, ap, _∙_}
 use Rattle.symbol.proofs.Records.{here-cons}
 use Rattle.symbol.specs.Front.{headOf}
 use Rattle.symbol.specs.Refused.{isClass, hasClass}

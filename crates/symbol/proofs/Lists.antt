@@ -1,7 +1,7 @@
 -- A function that was found, as an overload. Assumes nothing.
 use Prim.Native.Nat.{ℕ, _+_}
-use lib.ListN.{length, getD, drop}
-use mathlib.Core.List.{List, [], _∷_, map}
+use lib.ListN.{length, getD}
+use mathlib.Core.List.{List, map}
 use mathlib.Core.Path.{_≡_, ap, _∙_, subst}
 use native.Mathlib.Omega.{arith}
 use Rattle.symbol.proofs.Finds.{place-one, place-key, next-all}
@@ -11,9 +11,8 @@ use Rattle.symbol.specs.Index.{nextAt}
 use Rattle.symbol.specs.Searched.{withAt}
 use Rattle.ty.specs.Bytes.{idAt}
 use Rattle.symbol.specs.declared.index.Place.{Place}
-use Rattle.symbol.specs.Lookup.{recordsWith, overloadOf}
-use Rattle.symbol.specs.Table.{Record, recordsOf}
-use Rattle.symbol.specs.Walk.{behind}
+use Rattle.symbol.specs.Lookup.{overloadOf}
+use Rattle.symbol.specs.Table.{Record}
 use Rattle.symbol.specs.declared.index.Found.the-variants.{Nothing, Here}
 use Rattle.symbol.specs.declared.index.Found.{Found}
 

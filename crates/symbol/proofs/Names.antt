@@ -1,15 +1,14 @@
 -- The parameters' names of a function that repeats none are distinct. Assumes nothing.
 use Prim.Native.Nat.{ℕ, zero, suc, _+_, _≤_, _<_, max}
-use borrow.Author.Tests.{eqb-true, eq-eqb}
+use borrow.Author.Tests.{eq-eqb}
 use lib.Dec.{eqb}
-use lib.ListN.{length, getD, drop, set, length-set, length-replicate}
+use lib.ListN.{length, getD, drop, set, length-set}
 use lib.Seq.{getD-drop, getD-set-same, getD-set-other}
-use mathlib.Core.Bool.{Bool, true, false, true≢false, _||_}
+use mathlib.Core.Bool.{true, false, true≢false, _||_}
 use mathlib.Core.List.{List, [], _∷_}
 use mathlib.Core.Path.{_≡_, refl, sym, ap, _∙_, subst}
 use native.Mathlib.Omega.{arith}
 use native.Mathlib.Numerals.{add-one}
-use Rattle.ty.proofs.Choice.{by-choice}
 use Rattle.ty.specs.Bytes.{idAt}
 use Rattle.ty.specs.Read.{readType, longestType}
 use Rattle.ty.specs.declared.read.TypeRead.the-variants.{Whole, Cut, Malformed, Endless}
@@ -17,7 +16,7 @@ use Rattle.ty.specs.declared.read.TypeRead.{TypeRead}
 use Rattle.symbol.proofs.Cleans.{or-false}
 use Rattle.symbol.proofs.Turns.{param-onward, first-inside}
 use Rattle.symbol.proofs.Wholes.{FunctionWhole, ParamTo, step-to, step-behind}
-use Rattle.symbol.specs.Front.{among, paramWith, paramStep, runParams, resultWith, firstReading, paramsRead, orNone, headOf}
+use Rattle.symbol.specs.Front.{among, paramStep, runParams, resultWith, firstReading, paramsRead, orNone, headOf}
 use Rattle.symbol.specs.Lookup.{typeLength, paramsFrom}
 use Rattle.symbol.specs.Symbols.{Param}
 use Rattle.symbol.specs.declared.params.Reading.{Reading}

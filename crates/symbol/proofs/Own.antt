@@ -1,23 +1,22 @@
 -- A record is read from its own bytes: what stands behind its end is not looked at. Assumes nothing.
-use Prim.Native.Nat.{ℕ, zero, suc, _+_, _-_, _≤_, _<_, min, max}
+use Prim.Native.Nat.{ℕ, zero, suc, _+_, _-_, _≤_, _<_, max}
 use borrow.Author.Tests.{eq-eqb, eqb-true, ltb-true, ltb-false, le-ltb}
 use lib.Dec.{eqb, ltb}
 use lib.ListN.{length, getD, take, drop, length-take}
 use lib.Seq.{getD-take, take-all}
-use mathlib.Core.Bool.{Bool, true, false, not, true≢false, _&&_, _||_}
+use mathlib.Core.Bool.{Bool, true, false, not, true≢false}
 use mathlib.Core.List.{List, [], _∷_}
-use mathlib.Core.Path.{_≡_, refl, sym, ap, ap₂, _∙_}
+use mathlib.Core.Path.{_≡_, refl, sym, ap, _∙_}
 use native.Mathlib.Omega.{arith}
 use Rattle.ty.proofs.Choice.{by-choice, chosen, passed, chain}
 use Rattle.ty.proofs.Moved.{reads-taken}
 use Rattle.ty.specs.Bytes.{idAt}
-use Rattle.ty.specs.Choose.{choose}
 use Rattle.ty.specs.Read.{readType, longestType}
 use Rattle.ty.specs.declared.read.TypeRead.the-variants.{Whole, Cut, Malformed, Endless}
 use Rattle.ty.specs.declared.read.TypeRead.{TypeRead}
 use Rattle.symbol.proofs.Bounds.{head-bounded}
 use Rattle.symbol.proofs.Turns.{param-onward, first-inside, run-inside, read-inside}
-use Rattle.symbol.specs.Front.{brokenHead, plainHead, orNone, goodByte, goodBytes, nameHead, classHead, operatorsHead, paramWith, paramStep, runParams, resultWith, firstReading, paramsRead, functionWith, functionHead, fieldWith, fieldHead, visibilityHead, suspendHead, variantHead, headBy, headOf}
+use Rattle.symbol.specs.Front.{plainHead, orNone, goodBytes, nameHead, classHead, operatorsHead, paramWith, paramStep, runParams, resultWith, firstReading, paramsRead, functionWith, functionHead, fieldWith, fieldHead, visibilityHead, suspendHead, variantHead, headBy, headOf}
 use Rattle.symbol.specs.declared.front.Head.{Head}
 use Rattle.symbol.specs.declared.params.Reading.{Reading}
 

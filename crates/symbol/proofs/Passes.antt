@@ -19,7 +19,7 @@ use Rattle.symbol.specs.Entered.{Entered, EntryAsked, entered}
 use Rattle.symbol.specs.Index.{bucketCount, bucketIn, firstAt, lastAt, nextAt}
 use Rattle.symbol.specs.Front.{headOf}
 use Rattle.symbol.specs.Refused.{lastKind, recordFault, faultFrom, tableFault}
-use Rattle.symbol.specs.Accepted.{start, refusal, acceptance, checkedOf, IndexRoom, Accepted}
+use Rattle.symbol.specs.Accepted.{start, refusal, checkedOf, IndexRoom, Accepted}
 use Rattle.symbol.specs.Table.{Record, recordsOf, countOf, nameCount}
 use Rattle.symbol.specs.Walk.{At, StepIs, recordAt, before, behind}
 use Rattle.symbol.specs.declared.checks.Checked.{Checked}

@@ -1,5 +1,5 @@
 -- A search among the built-in spellings. Assumes nothing.
-use Prim.Native.Nat.{ℕ, zero, suc, _+_, _-_, _*_, _≤_, _<_}
+use Prim.Native.Nat.{ℕ, suc, _+_, _-_, _*_, _≤_, _<_}
 use lib.ListN.{take, drop}
 use lib.Seq.{drop-drop}
 use mathlib.Core.Bool.{Bool, true, false, not, _&&_, false≢true}

@@ -1,5 +1,4 @@
 -- Records with one key have one bucket. Assumes nothing.
-use Prim.Native.Nat.{ℕ}
 use borrow.Author.Tests.{eqb-true}
 use lib.Dec.{eqb, ltb}
 use mathlib.Core.Bool.{Bool, true, false, _&&_, _||_, false≢true}
@@ -9,7 +8,7 @@ use Rattle.ty.proofs.Choice.{and-left, and-right}
 use Rattle.ty.proofs.Same.{same-eq}
 use Rattle.ty.specs.Bytes.{sameBytes}
 use Rattle.ty.specs.Choose.{choose}
-use Rattle.symbol.specs.Bucket.{hashOf, keyBucket, bucketOf}
+use Rattle.symbol.specs.Bucket.{keyBucket, bucketOf}
 use Rattle.symbol.specs.Front.{headOf}
 use Rattle.symbol.specs.Refused.{nameBytes, sameKey, hasKey}
 use Rattle.symbol.specs.Table.{Record}

@@ -10,7 +10,6 @@ use mathlib.Core.Path.{_≡_, refl, sym, ap, _∙_}
 use native.Mathlib.Omega.{arith}
 use Rattle.ty.proofs.Choice.{by-choice}
 use Rattle.ty.specs.Bytes.{idAt}
-use Rattle.ty.specs.Choose.{choose}
 use Rattle.ty.specs.Read.{readType, longestType}
 use Rattle.ty.specs.declared.read.TypeRead.the-variants.{Whole, Cut, Malformed, Endless}
 use Rattle.ty.specs.declared.read.TypeRead.{TypeRead}
@@ -19,9 +18,8 @@ use Rattle.symbol.proofs.Records.{record-own, record-part}
 use Rattle.symbol.proofs.Turns.{read-inside}
 use Rattle.symbol.specs.Front.{brokenHead, plainHead, nameHead, classHead, operatorsHead, paramsRead, functionWith, functionHead, fieldWith, fieldHead, visibilityHead, suspendHead, variantHead, headBy, headOf}
 use Rattle.symbol.specs.Refused.{nameBytes}
-use Rattle.symbol.specs.Walk.{At, Stands, recordAt}
+use Rattle.symbol.specs.Walk.{Stands, recordAt}
 use Rattle.symbol.specs.declared.front.Head.{Head}
-use Rattle.symbol.specs.declared.params.Reading.{Reading}
 use Rattle.symbol.specs.declared.walk.Cursor.{Cursor}
 
 -- the length n goes with the kind k

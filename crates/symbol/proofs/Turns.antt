@@ -9,7 +9,6 @@ use mathlib.Core.Path.{_≡_, refl, ap}
 use native.Mathlib.Omega.{arith}
 use Rattle.ty.proofs.Choice.{by-choice}
 use Rattle.ty.specs.Bytes.{idAt}
-use Rattle.ty.specs.Choose.{choose}
 use Rattle.ty.specs.Read.{readType, longestType}
 use Rattle.ty.specs.declared.read.TypeRead.the-variants.{Whole, Cut, Malformed, Endless}
 use Rattle.ty.specs.declared.read.TypeRead.{TypeRead}

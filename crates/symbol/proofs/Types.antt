@@ -1,5 +1,5 @@
 -- A type that is read inside a record ends inside it. Assumes nothing.
-use Prim.Native.Nat.{ℕ, _+_, _≤_}
+use Prim.Native.Nat.{ℕ, _≤_}
 use lib.ListN.{length, drop, length-drop}
 use mathlib.Core.List.{List}
 use mathlib.Core.Path.{_≡_, refl}

@@ -1,10 +1,10 @@
 -- A function record without Error that is not broken has whole types. Assumes nothing.
-use Prim.Native.Nat.{ℕ, zero, suc, _+_, _-_, _≤_, _<_, max}
+use Prim.Native.Nat.{ℕ, zero, suc, _+_, _-_, _≤_, max}
 use borrow.Author.Tests.{eq-eqb, eqb-true, ltb-false}
 use lib.Dec.{eqb, ltb}
 use lib.ListN.{length, getD, drop, set, length-drop}
 use lib.Seq.{drop-drop}
-use mathlib.Core.Bool.{Bool, true, false, not, true≢false, false≢true, _||_}
+use mathlib.Core.Bool.{Bool, true, false, not, true≢false, _||_}
 use mathlib.Core.List.{List}
 use mathlib.Core.Path.{_≡_, refl, sym, ap, _∙_, subst}
 use native.Mathlib.Omega.{arith}
@@ -18,8 +18,8 @@ use Rattle.ty.specs.declared.read.TypeRead.{TypeRead}
 use Rattle.symbol.proofs.Cleans.{or-false}
 use Rattle.symbol.proofs.Own.{whole-before}
 use Rattle.symbol.proofs.Sizes.{head-by}
-use Rattle.symbol.proofs.Turns.{param-onward, first-inside, run-inside}
-use Rattle.symbol.specs.Front.{brokenHead, plainHead, orNone, nameHead, classHead, operatorsHead, among, paramWith, paramStep, runParams, resultWith, firstReading, paramsRead, functionRead, functionWith, functionHead, fieldWith, fieldHead, visibilityHead, suspendHead, variantHead, headBy, headOf}
+use Rattle.symbol.proofs.Turns.{param-onward, first-inside}
+use Rattle.symbol.specs.Front.{orNone, among, paramWith, paramStep, runParams, resultWith, firstReading, paramsRead, functionWith, functionHead, fieldWith, fieldHead, headBy, headOf}
 use Rattle.symbol.specs.Lookup.{wholeLength, typeLength}
 use Rattle.symbol.specs.Row.{TypeAt, RowAt}
 use Rattle.symbol.specs.declared.front.Head.{Head}

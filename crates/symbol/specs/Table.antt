@@ -1,8 +1,7 @@
 -- A table as the list of its records, each its own bytes.
 use Prim.Native.Nat.{ℕ, zero, suc, _+_, _-_}
-use mathlib.Core.Bool.{Bool}
 use mathlib.Core.List.{List, [], _∷_, _++_}
-use lib.ListN.{take, drop}
+use lib.ListN.{take}
 use lib.Dec.{eqb}
 use Rattle.ty.specs.Choose.{choose}
 use Rattle.symbol.specs.Front.{headOf}

@@ -1,7 +1,7 @@
 use borrow.Author.Needs.{needs}
 use borrow.Author.Tests.{eq-eqb}
 use mathlib.Core.Bool.{not}
-use mathlib.Core.Path.{refl, ap, _∙_}
+use mathlib.Core.Path.{refl, ap}
 use Rattle.symbol.specs.Front.{plainHead, orNone, goodByte, goodBytes, nameHead, classHead, operatorsHead, among, paramStep, runParams, paramsRead, functionWith, functionHead, fieldHead, visibilityHead, suspendHead, variantHead, headBy, headOf}
 use Rattle.symbol.specs.Lookup.{recordsWith, typeLength, paramsFrom, overloadOf, namesIn, capitalIn, symbolsIn}
 use Rattle.symbol.specs.Refused.{sameKey, hasKey, hasClass, superLate, recordFault, faultFrom, tableFault}

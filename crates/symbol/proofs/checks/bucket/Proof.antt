@@ -1,6 +1,5 @@
 use borrow.Author.Needs.{needs}
 use mathlib.Core.Path.{_≡_, ap, _∙_}
-use native.Mathlib.Omega.{arith}
 use Rattle.symbol.proofs.Sizes.{stands-own, name-room, name-bytes}
 use Rattle.symbol.proofs.checks.bucket.Statement.{statement}
 use Rattle.symbol.proofs.checks.bucket.Tie as tie

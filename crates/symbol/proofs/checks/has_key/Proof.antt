@@ -1,7 +1,7 @@
 use borrow.Author.Needs.{needs}
-use Prim.Native.Nat.{ℕ, _-_}
+use Prim.Native.Nat.{_-_}
 use lib.ListN.{length}
-use mathlib.Core.Path.{refl, sym, ap, _∙_}
+use mathlib.Core.Path.{sym, ap, _∙_}
 use native.Mathlib.Omega.{arith}
 use Rattle.symbol.proofs.Buckets.{bucket-below, buckets-bound}
 use Rattle.symbol.proofs.Earlier.{any-key, key-in, Walking, walking-start, walking-at, walking-yes, walking-on, walking-less, walking-end}

@@ -1,4 +1,3 @@
-use borrow.Author.Needs.{needs}
 use native.Mathlib.Omega.{arith}
 use Rattle.symbol.proofs.Buckets.{buckets-many, buckets-few}
 use Rattle.symbol.proofs.index.reduced.Statement.{statement}

@@ -1,5 +1,4 @@
 use borrow.Author.Needs.{needs}
-use Prim.Native.Nat.{_+_}
 use lib.ListN.{length-drop, drop}
 use mathlib.Core.Path.{_≡_, ap, refl}
 use native.Mathlib.Omega.{arith}

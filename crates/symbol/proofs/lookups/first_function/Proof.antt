@@ -1,5 +1,4 @@
 use native.Mathlib.Omega.{arith}
-use mathlib.Core.Path.{ap}
 use Rattle.symbol.proofs.Lists.{function-found}
 use Rattle.symbol.proofs.lookups.first_function.Statement.{statement}
 use Rattle.symbol.proofs.lookups.first_function.Tie as tie

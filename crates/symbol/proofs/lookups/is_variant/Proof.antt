@@ -1,6 +1,5 @@
 use borrow.Author.Needs.{needs}
 use native.Mathlib.Omega.{arith}
-use mathlib.Core.Path.{ap}
 use Rattle.symbol.proofs.lookups.is_variant.Statement.{statement}
 use Rattle.symbol.proofs.lookups.is_variant.Tie as tie
 use Rattle.symbol.specs.Lookup.{symbolsIn}

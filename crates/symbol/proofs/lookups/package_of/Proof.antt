@@ -1,5 +1,5 @@
 use borrow.Author.Needs.{needs}
-use mathlib.Core.Path.{refl, sym, ap, _∙_}
+use mathlib.Core.Path.{refl, sym, _∙_}
 use native.Mathlib.Omega.{arith}
 use Rattle.symbol.proofs.Finds.{place-fits, place-inside, place-id}
 use Rattle.symbol.proofs.lookups.package_of.Statement.{statement}

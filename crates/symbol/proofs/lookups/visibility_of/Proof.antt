@@ -1,5 +1,5 @@
 use borrow.Author.Needs.{needs}
-use mathlib.Core.Path.{refl, ap}
+use mathlib.Core.Path.{refl}
 use native.Mathlib.Omega.{arith}
 use Rattle.symbol.proofs.Finds.{place-fits, place-inside, place-byte}
 use Rattle.symbol.proofs.lookups.visibility_of.Statement.{statement}
