@@ -1,14 +1,13 @@
 -- What the copy loops and the stores leave. Assumes nothing.
-use Prim.Native.Nat.{ℕ, suc, _+_, _-_, _*_, _≤_, _<_}
-use lib.ListN.{length, getD, take, drop, set, replicate, length-drop}
-use lib.Seq.{sets, drop-set-lt, drop-drop, take-all, set-at, append-snoc, take-suc, length-take-le}
+use Prim.Native.Nat.{ℕ, _+_, _-_, _*_, _≤_, _<_}
+use lib.ListN.{length, getD, take, drop, set, length-drop}
+use lib.Seq.{sets, drop-set-lt, drop-drop, take-all}
 use mathlib.Core.List.{List, [], _∷_, _++_}
 use mathlib.Core.Path.{_≡_, refl, sym, ap, _∙_}
 use native.Mathlib.Numerals.{add-one, towards-suc}
 use native.Mathlib.Omega.{arith}
 use Rattle.area.proofs.Lists.{part-length, part-next, sets-snoc, sets-behind, drop-take}
 use Rattle.area.proofs.Slots.{slot-in, slot-length, stored-as}
-use Rattle.area.specs.Padding.{padded}
 use Rattle.area.specs.Slot.{Lent, Slot, Stored, store, storeLen, slotOf}
 use Rattle.ty.proofs.Ends.{inner-last}
 use Rattle.ty.specs.Bytes.{Ty, innerOf}
@@ -51,30 +50,6 @@ fill-byte a₀ p s i a h is =
 pub fill-all : (a₀ : List ℕ) (p : ℕ) (s : List ℕ) (i : ℕ) (a : List ℕ) → length s ≤ i → a ≡ filled a₀ p s 0 i → a ≡ sets a₀ p s
 unfolding filled
 fill-all a₀ p s i a h is = is ∙ ap (λ (ws : List ℕ). sets a₀ p ws) (take-all i s h)
-
--- ---- `copy_out`: i bytes of t are in front of zeros
-unfoldable pub fronted : List ℕ → ℕ → List ℕ
-fronted t i = take i t ++ replicate (256 - i) 0
-
-pub front-zero : (t : List ℕ) → replicate 256 0 ≡ fronted t 0
-unfolding fronted
-front-zero t = refl
-
-pub front-next : (t : List ℕ) (i : ℕ) (x : List ℕ) → x ≡ fronted t i → i < 256 → i < length t → set x i (getD t i 0) ≡ fronted t (i + 1)
-unfolding fronted
-front-next t i x is h room =
-    let v : ℕ = getD t i 0 in
-    let z : 256 - i ≡ suc (256 - (i + 1)) = omega arith in
-    rw is
-    (ap (λ (k : ℕ). set (take i t ++ replicate k 0) i v) z
-    ∙ set-at (take i t) 0 (replicate (256 - (i + 1)) 0) v i (length-take-le i t (omega arith))
-    ∙ sym (append-snoc (take i t) v (replicate (256 - (i + 1)) 0))
-    ∙ ap (λ (l : List ℕ). l ++ replicate (256 - (i + 1)) 0) (sym (take-suc t i 0 room) ∙ ap (λ (k : ℕ). take k t) (sym (add-one i))))
-
-pub front-done : (t : List ℕ) (i : ℕ) (x : List ℕ) → x ≡ fronted t i → i ≡ length t → x ≡ padded 256 t
-unfolding fronted padded
-front-done t i x is e =
-    is ∙ ap (λ (k : ℕ). take k t ++ replicate (256 - k) 0) e ∙ ap (λ (l : List ℕ). l ++ replicate (256 - length t) 0) (take-all (length t) t (omega arith))
 
 -- ---- the stores
 pub stored-bytes : (a a′ l : List ℕ) (node : ℕ) (t : Ty) (n : ℕ) → a′ ≡ sets a (256 * node) t → n ≡ length t → Stored a a′ l (set l node n) node t

@@ -7,7 +7,6 @@ ghost use lib.Seq.{sets};
 ghost use Rattle.ty.specs.Kind.{errorKind, pointerKind, listKind, namedKind, functionKind};
 ghost use Rattle.ty.specs.Bytes.{plainTy, innerOf, sameBytes};
 ghost use Rattle.area.specs.Diagnostic.{putOne, countLimit};
-ghost use Rattle.area.specs.Padding.{padded};
 ghost use Rattle.area.specs.Slot.{Lent, Slot, Stored, slotOf, slotSize};
 ghost use Rattle.area.specs.Source.{typeFrom, Storable};
 use ty::Kind;
@@ -85,21 +84,7 @@ pub fn is_error(s: &[u8]) -> bool
     ty::same_bytes(s, &[Kind::ERROR])
 }
 
-// The bytes of a type with zeros behind it, as an answer has them.
-pub fn copy_out(t: &[u8]) -> [u8; 256]
-    requires { ⌜ length (now t) ≤ slotSize ⌝ }
-    ensures { λ r. ⌜ r ≡ padded slotSize (now (t .entry)) ⌝ }
-{
-    let mut bytes = [0u8; 256];
-    let mut i = 0;
-    while i < t.len() {
-        bytes[i] = t[i];
-        i += 1;
-    }
-    bytes
-}
-
-// The bytes of s go to a place of the area.
+// The bytes of s go to a place of some bytes.
 pub fn copy_in(area: &mut [u8], to: usize, s: &[u8])
     requires { ⌜ to + length (now s) ≤ length (now area) ⌝ }
     ensures { λ _. ⌜ now (area .exit) ≡ sets (now (area .entry)) to (now (s .entry)) ⌝ }

@@ -2,26 +2,22 @@
 use Prim.Native.Nat.{ℕ, _≤_, _<_}
 use borrow.Author.Tests.{lt-ltb, le-ltb}
 use lib.Dec.{ltb}
-use lib.ListN.{length, replicate, length-replicate}
+use lib.ListN.{length, take, drop, replicate, length-replicate}
 use lib.Seq.{sets}
 use mathlib.Core.Bool.{true, false}
-use mathlib.Core.List.{List, []}
+use mathlib.Core.List.{List, [], _++_}
 use mathlib.Core.Path.{_≡_, refl, sym, ap, _∙_, subst}
-use native.Mathlib.Omega.{arith}
-use Rattle.area.proofs.Lists.{sets-zeros}
 use Rattle.area.specs.Padding.{padded}
-use Rattle.aura_c.specs.Layout.{littleEndian, bytesOf, answerSize, tooShort, resultOf, answerSlice, diagnosticsSlice}
+use Rattle.aura_c.proofs.Stored.{joined}
+use Rattle.aura_c.specs.Layout.{bytesOf, answerSize, tooShort, resultOf, answerSlice, diagnosticsSlice}
+use Rattle.judge.specs.Answer.{outcomeIs}
+use Rattle.judge.specs.declared.Outcome.{Outcome}
 use Rattle.ty.proofs.Choice.{chosen, passed}
 use Rattle.typing.proofs.Sized.{Sized, sized}
 use Rattle.typing.specs.Answer.{Answer, zeros, answerOf, bufferOf}
 
 pub cleared-length : {z : List ℕ} (b : List ℕ) → z ≡ replicate (length b) 0 → length z ≡ length b
 cleared-length b e = ap length e ∙ length-replicate {A = ℕ} (length b) 0
-
--- an answer has 268 bytes
-bytes-length : (a : Answer) → Sized a → length (bytesOf a) ≡ answerSize
-unfolding bytesOf littleEndian
-bytes-length a s = omega (arith, s .ty)
 
 -- what is told of a table and a question: the result, the answer slice and the diagnostics
 abbrev Told : List ℕ → List ℕ → ℕ → ℕ → ℕ → List ℕ → List ℕ → Type 0
@@ -34,14 +30,13 @@ module _ (t q : List ℕ) (lent room : ℕ) where
       let k : ltb room answerSize ≡ true = lt-ltb room answerSize h in
       (chosen _ tooShort tooShort _ k refl, (chosen _ b (zeros room) _ k e, chosen _ d (zeros lent) _ k f))
 
-  pub told : {b d z : List ℕ} (a : Answer) → answerSize ≤ room → a ≡ answerOf t q lent → z ≡ replicate room 0 → b ≡ sets z 0 (bytesOf a) → d ≡ bufferOf t q lent
-      → Told t q lent room (a .number) b d
-  unfolding resultOf answerSlice diagnosticsSlice padded
-  told {b} {d} {z} a h e g f k =
+  pub told : {b d z : List ℕ} (a : Outcome) (ty : List ℕ) → answerSize ≤ room → outcomeIs a ty ≡ answerOf t q lent → z ≡ replicate room 0
+      → b ≡ sets (take 12 z ++ (ty ++ drop 256 (drop 12 z))) 0 (bytesOf (outcomeIs a [])) → d ≡ bufferOf t q lent → Told t q lent room (a .number) b d
+  unfolding resultOf answerSlice diagnosticsSlice
+  told {b} {d} {z} a ty h e g f k =
       let w : ltb room answerSize ≡ false = le-ltb room answerSize h in
-      let s : Sized a = subst (λ (x : Answer). Sized x) (sym e) (sized t q lent) in
-      let n : length (bytesOf a) ≤ room = omega (arith, bytes-length a s) in
-      let p : b ≡ padded room (bytesOf a) = f ∙ ap (λ (x : List ℕ). sets x 0 (bytesOf a)) g ∙ sets-zeros [] (bytesOf a) room n in (
+      let s : Sized (outcomeIs a ty) = subst (λ (x : Answer). Sized x) (sym e) (sized t q lent) in
+      let p : b ≡ padded room (bytesOf (outcomeIs a ty)) = joined room a ty h (s .ty) g f in (
         passed _ (a .number) _ (answerOf t q lent .number) w (ap (λ (x : Answer). x .number) e),
         (
           passed _ b _ (padded room (bytesOf (answerOf t q lent))) w (p ∙ ap (λ (x : Answer). padded room (bytesOf x)) e),

@@ -1,16 +1,19 @@
 // The judge for C and Rust: a static library whose functions take numbers and byte slices. include/aura_judge.h declares them.
 ghost use mathlib.Core.Path.{_≡_};
+ghost use mathlib.Core.List.{[]};
 ghost use Prim.Native.Nat.{_+_, _%_, _≤_};
 ghost use lib.ListN.{length};
 ghost use lib.Seq.{sets};
-ghost use Rattle.judge.specs.Answer.{answerIs};
+ghost use Rattle.judge.specs.Answer.{outcomeIs};
 ghost use Rattle.aura_c.specs.Layout.{littleEndian, bytesOf, answerSize, resultOf, answerSlice, diagnosticsSlice};
 use area::clear;
-use area::copy_in;
-use judge::Answer;
-use judge::judge;
+use judge::Outcome;
+use judge::judge_into;
 
 const ANSWER_SIZE: usize = 268;
+
+// Where the type stands in an answer.
+const TYPE_AT: usize = 12;
 
 const TOO_SHORT: u8 = 255;
 
@@ -21,29 +24,42 @@ fn low_byte(n: usize) -> u8
     (n % 256) as u8
 }
 
-// n goes into k bytes from `at` on, low byte first.
-fn put_number(n: usize, k: usize, out: &mut [u8], at: usize)
-    requires { ⌜ at + k ≤ length (now out) ⌝ }
-    ensures { λ _. ⌜ now (out .exit) ≡ sets (now (out .entry)) at (littleEndian k n) ⌝ }
+// n goes into two bytes from `at` on, low byte first.
+fn put_two(n: usize, out: &mut [u8], at: usize)
+    requires { ⌜ at + 2 ≤ length (now out) ⌝ }
+    ensures { λ _. ⌜ now (out .exit) ≡ sets (now (out .entry)) at (littleEndian 2 n) ⌝ }
 {
-    if k == 0 {
-        return;
-    }
     out[at] = low_byte(n);
-    put_number(n / 256, k - 1, out, at + 1);
+    out[at + 1] = low_byte(n / 256);
 }
 
-// An answer goes to the front of `out`.
-fn put_answer(a: Answer, out: &mut [u8])
+// n goes into four bytes.
+fn put_four(n: usize, out: &mut [u8], at: usize)
+    requires { ⌜ at + 4 ≤ length (now out) ⌝ }
+    ensures { λ _. ⌜ now (out .exit) ≡ sets (now (out .entry)) at (littleEndian 4 n) ⌝ }
+{
+    put_two(n, out, at);
+    put_two(n / 256 / 256, out, at + 2);
+}
+
+// n goes into eight bytes.
+fn put_eight(n: usize, out: &mut [u8], at: usize)
+    requires { ⌜ at + 8 ≤ length (now out) ⌝ }
+    ensures { λ _. ⌜ now (out .exit) ≡ sets (now (out .entry)) at (littleEndian 8 n) ⌝ }
+{
+    put_four(n, out, at);
+    put_four(n / 256 / 256 / 256 / 256, out, at + 4);
+}
+
+// What stands before an answer's type goes to the front of `out`.
+fn put_outcome(a: Outcome, out: &mut [u8])
     requires { ⌜ answerSize ≤ length (now out) ⌝ }
-    ensures { λ _. ⌜ now (out .exit) ≡ sets (now (out .entry)) 0 (bytesOf (answerIs a)) ⌝ }
+    ensures { λ _. ⌜ now (out .exit) ≡ sets (now (out .entry)) 0 (bytesOf (outcomeIs a [])) ⌝ }
 {
     out[0] = a.number;
     out[1] = a.pass;
-    put_number(a.len, 2, out, 2);
-    put_number(a.count, 8, out, 4);
-    let ty = a.ty;
-    copy_in(out, 12, &ty);
+    put_two(a.len, out, 2);
+    put_eight(a.count, out, 4);
 }
 
 // How many bytes an answer has.
@@ -72,7 +88,12 @@ pub extern "C" fn aura_judge(
         clear(diagnostics);
         return TOO_SHORT;
     }
-    let a = judge(table, question, diagnostics);
-    put_answer(a, answer);
+    let a = judge_into(
+        table,
+        question,
+        diagnostics,
+        &mut answer[TYPE_AT..ANSWER_SIZE],
+    );
+    put_outcome(a, answer);
     a.number
 }

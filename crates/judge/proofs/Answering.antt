@@ -3,26 +3,26 @@ use Prim.Native.Nat.{ℕ, zero, suc, _+_, _-_, _*_, _≤_}
 use borrow.Author.Tests.{eq-eqb, ne-eqb, ltb-false, eqb-true}
 use lib.Dec.{eqb, ltb}
 use lib.ListN.{length, getD, length-take, length-replicate}
+use lib.Seq.{sets}
 use mathlib.Core.Bool.{Bool, true, false, _&&_}
 use mathlib.Core.List.{List, [], _∷_}
 use mathlib.Core.Path.{_≡_, refl, sym, ap, subst, _∙_}
 use native.Mathlib.Omega.{arith}
 use Rattle.area.proofs.Diagnostics.{putAll-length, put-padded}
+use Rattle.area.proofs.Lists.{sets-zeros}
 use Rattle.area.specs.Diagnostic.{Diag, recordLength, records, putAll}
 use Rattle.area.specs.Padding.{padded}
 use Rattle.area.specs.Slot.{Held, slotOf}
 use Rattle.judge.proofs.Spaces.{tree-room}
-use Rattle.judge.specs.Answer.{answerIs, Answered, markIs, rootNumber, rootAnswer, RootIs}
+use Rattle.judge.specs.Answer.{outcomeIs, Answered, markIs, rootNumber, rootAnswer, RootIs}
 use Rattle.judge.specs.Contract.{NodeAsked, NodeIs}
-use Rattle.judge.specs.declared.Answer.{Answer}
+use Rattle.judge.specs.declared.Outcome.{Outcome}
 use Rattle.judge.specs.declared.progress.State.{State}
 use Rattle.question.proofs.Accepted.{accepted}
 use Rattle.question.specs.Header.{headerOf}
 use Rattle.question.specs.Parse.{treeOf}
 use Rattle.question.specs.Refused.{questionFault}
-use Rattle.question.specs.Tree.{bytes}
 use Rattle.question.specs.declared.Header.{Header}
-use Rattle.question.specs.declared.Names.{Names}
 use Rattle.symbol.specs.Front.{headOf}
 use Rattle.symbol.specs.Refused.{tableFault}
 use Rattle.symbol.specs.Accepted.{checkedOf}
@@ -48,12 +48,12 @@ unfolding rootNumber
 number-short len count lent = by-choice (λ (n : ℕ). n ≡ 0 → len ≤ answerBytes) _ (λ _ z. absurd (omega arith)) (λ e _. ltb-false answerBytes len e)
 
 module _ (s : State) (a l b : List ℕ) (n : ℕ) (is : n ≡ rootNumber (getD l 0 0) (s .count) (length b)) where
-  pub root-no : (n ≡ 0 → ⊥) → (r : Answer) → answerIs r ≡ refused n → (b′ : List ℕ) → b′ ≡ zeros (length b) → RootIs s a l b b′ r
+  pub root-no : (n ≡ 0 → ⊥) → (r : of.Answer) → r ≡ refused n → (b′ : List ℕ) → b′ ≡ zeros (length b) → RootIs s a l b b′ r
   unfolding rootAnswer
   root-no h r e b′ f =
       record { answer = rw (← is) (e ∙ sym (choose-no _ _ _ (ne-eqb n 0 h))); buffer = rw (← is) (f ∙ sym (choose-no _ _ _ (ne-eqb n 0 h))) }
 
-  pub root-yes : n ≡ 0 → (r : Answer) → answerIs r ≡ record { number = n; pass = markIs s; ty = padded answerBytes (slotOf a l 0); len = getD l 0 0; count = s .count } → RootIs s a l b b r
+  pub root-yes : n ≡ 0 → (r : of.Answer) → r ≡ record { number = n; pass = markIs s; ty = padded answerBytes (slotOf a l 0); len = getD l 0 0; count = s .count } → RootIs s a l b b r
   unfolding rootAnswer
   root-yes z r e =
       record {
@@ -159,7 +159,7 @@ module _ (lent : ℕ) (s : State) (j : Judged) (a l b : List ℕ) (held : Held a
 
 -- ---- a refusal before anything is judged
 module _ (t q : List ℕ) (lent : ℕ) where
-  faulty : (faultOf t q ≡ 0 → ⊥) → (r : Answer) → answerIs r ≡ refused (faultOf t q) → (b : List ℕ) → b ≡ zeros lent → Answered t q lent r b
+  faulty : (faultOf t q ≡ 0 → ⊥) → (r : of.Answer) → r ≡ refused (faultOf t q) → (b : List ℕ) → b ≡ zeros lent → Answered t q lent r b
   unfolding answerOf bufferOf choose
   faulty h r e b f =
       let a : answerOf t q lent ≡ refused (faultOf t q) = rw (ne-eqb (faultOf t q) 0 h) in
@@ -171,7 +171,7 @@ module _ (t q : List ℕ) (lent : ℕ) where
   unfolding checkedOf
   checked-number = by-choice (λ (c : Checked). c .number ≡ tableFault t) _ (λ e. sym (eqb-true (tableFault t) 0 e)) (λ e. refl)
 
-  pub ret-table : (c : Checked) → c ≡ checkedOf t → (c .number ≡ 0 → ⊥) → (r : Answer) → answerIs r ≡ refused (c .number) → (b : List ℕ) → b ≡ zeros lent → Answered t q lent r b
+  pub ret-table : (c : Checked) → c ≡ checkedOf t → (c .number ≡ 0 → ⊥) → (r : of.Answer) → r ≡ refused (c .number) → (b : List ℕ) → b ≡ zeros lent → Answered t q lent r b
   unfolding faultOf
   ret-table c e h r f b g =
       let n : c .number ≡ tableFault t = ap (λ (z : Checked). z .number) e ∙ checked-number in
@@ -182,18 +182,22 @@ module _ (t q : List ℕ) (lent : ℕ) where
     pub table-ok : tableFault t ≡ 0
     table-ok = sym (ap (λ (z : Checked). z .number) e ∙ checked-number) ∙ ok
 
-    names-are : _≡_ {A = Names} (record { count = c .names }) (namesOf t)
+    pub names-checked : c .names ≡ nameCount (recordsOf t)
     unfolding checkedOf
-    names-are = ap (λ (z : Checked). record { count = z .names }) (e ∙ choose-yes _ _ _ (eq-eqb (tableFault t) 0 table-ok))
+    names-checked = ap (λ (z : Checked). z .names) (e ∙ choose-yes _ _ _ (eq-eqb (tableFault t) 0 table-ok))
 
-    pub ret-question : (n : ℕ) → n ≡ questionFault (record { count = c .names }) q → (n ≡ 0 → ⊥) → (r : Answer) → answerIs r ≡ refused n → (b : List ℕ) → b ≡ zeros lent → Answered t q lent r b
+  module _ (clean : tableFault t ≡ 0) {m : ℕ} (counted : m ≡ nameCount (recordsOf t)) {n : ℕ} (is : n ≡ questionFault (record { count = m }) q) where
+    names-are : n ≡ questionFault (namesOf t) q
+    names-are = is ∙ ap (λ (k : ℕ). questionFault (record { count = k }) q) counted
+
+    pub ret-question : (n ≡ 0 → ⊥) → (r : of.Answer) → r ≡ refused n → (b : List ℕ) → b ≡ zeros lent → Answered t q lent r b
     unfolding faultOf
-    ret-question n f h r g b i =
-        let k : faultOf t q ≡ n = choose-yes _ _ _ (eq-eqb (tableFault t) 0 table-ok) ∙ ap (λ (N : Names). questionFault N q) (sym names-are) ∙ sym f in
+    ret-question h r g b i =
+        let k : faultOf t q ≡ n = choose-yes _ _ _ (eq-eqb (tableFault t) 0 clean) ∙ sym names-are in
         faulty (λ z. h (sym k ∙ z)) r (g ∙ ap refused (sym k)) b i
 
-    pub question-ok : (n : ℕ) → n ≡ questionFault (record { count = c .names }) q → n ≡ 0 → questionFault (namesOf t) q ≡ 0
-    question-ok n f z = ap (λ (N : Names). questionFault N q) (sym names-are) ∙ sym f ∙ z
+    pub question-ok : n ≡ 0 → questionFault (namesOf t) q ≡ 0
+    question-ok z = sym names-are ∙ z
 
   -- ---- the judgement
   module _ (clean : tableFault t ≡ 0) (fine : questionFault (namesOf t) q ≡ 0) where
@@ -221,7 +225,7 @@ module _ (t q : List ℕ) (lent : ℕ) where
           let cnt : s .count ≡ 0 + length (judgementOf t q .diags) = ap (λ (z : State). z .count) (root-node .reached .result) in
           omega (arith, root-node .few, w .tree .few)
 
-      pub ret-judged : {b′ : List ℕ} {r : Answer} → RootIs s a l b b′ r → Answered t q lent r b′
+      pub ret-judged : {b′ : List ℕ} {r : of.Answer} → RootIs s a l b b′ r → Answered t q lent r b′
       unfolding bufferOf
       ret-judged {b′} {r} w =
           let j : Judged = judgementOf t q in
@@ -236,6 +240,16 @@ module _ (t q : List ℕ) (lent : ℕ) where
                 ∙ ap (λ (z : of.Answer). choose (eqb (z .number) 0) (padded lent (records (j .diags))) (zeros lent)) (sym ans);
           }
 
+-- ---- a refusal's type is all zero, as the type's bytes were
+pub refused-blank : (r : Outcome) (ty : List ℕ) (n : ℕ) → ty ≡ zeros answerBytes → outcomeIs r (zeros answerBytes) ≡ refused n → outcomeIs r ty ≡ refused n
+refused-blank r ty n e f = ap (λ (w : List ℕ). outcomeIs r w) e ∙ f
+
+-- ---- a type goes to the front of zeros
+pub type-padded : (ty ty′ u t : List ℕ) → ty ≡ zeros answerBytes → ty′ ≡ sets ty 0 u → u ≡ t → length t ≤ answerBytes → ty′ ≡ padded answerBytes t
+unfolding padded
+type-padded ty ty′ u t e f g h =
+    f ∙ ap (λ (w : List ℕ). sets w 0 u) e ∙ ap (λ (w : List ℕ). sets (zeros answerBytes) 0 w) g ∙ sets-zeros [] t answerBytes h
+
 -- ---- a buffer that is all zero
 pub zeros-length : (b : List ℕ) (n : ℕ) → b ≡ zeros n → length b ≡ n
 zeros-length b n e = ap (λ (w : List ℕ). length w) e ∙ length-replicate n 0
@@ -243,13 +257,13 @@ zeros-length b n e = ap (λ (w : List ℕ). length w) e ∙ length-replicate n 0
 pub zeros-own : (b : List ℕ) (n : ℕ) → b ≡ zeros n → b ≡ zeros (length b)
 zeros-own b n e = e ∙ ap zeros (sym (zeros-length b n e))
 
-pub answered-as : (t q : List ℕ) (m n : ℕ) → m ≡ n → (r : Answer) (b : List ℕ) → Answered t q m r b → Answered t q n r b
+pub answered-as : (t q : List ℕ) (m n : ℕ) → m ≡ n → (r : of.Answer) (b : List ℕ) → Answered t q m r b → Answered t q n r b
 answered-as t q m n e r b w = subst (λ (k : ℕ). Answered t q k r b) e w
 
 -- ---- demands 1 and 3 of this very answer
-module _ {t q : List ℕ} {lent : ℕ} {r : Answer} {b : List ℕ} (w : Answered t q lent r b) where
-  pub answer-1 : Demand1 t q lent (answerIs r) b
+module _ {t q : List ℕ} {lent : ℕ} {r : of.Answer} {b : List ℕ} (w : Answered t q lent r b) where
+  pub answer-1 : Demand1 t q lent r b
   answer-1 = rw (w .answer, w .buffer) (demand1 t q lent)
 
-  pub answer-3 : tableFault t ≡ 0 → questionFault (namesOf t) q ≡ 0 → Demand3 t q lent (answerIs r) b
+  pub answer-3 : tableFault t ≡ 0 → questionFault (namesOf t) q ≡ 0 → Demand3 t q lent r b
   answer-3 e f = rw (w .answer, w .buffer) (demand3 t q lent e f)

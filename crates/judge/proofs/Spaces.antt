@@ -1,12 +1,14 @@
 -- Laws of the slots that a question needs: a short question has few nodes. Assumes nothing.
 use Prim.Native.Nat.{ℕ, _+_, _*_, _≤_}
 use borrow.Author.Tests.{le-leb, leb-true}
+use lib.Dec.{leb}
 use lib.ListN.{length}
 use mathlib.Core.List.{List}
 use mathlib.Core.Path.{_≡_}
 use native.Mathlib.Omega.{arith}
 use Rattle.area.proofs.Slots.{lent-still}
-use Rattle.judge.specs.Contract.{shortQuestion, fewSlots, slotsFor, Space}
+use Rattle.area.specs.Slot.{slotCount}
+use Rattle.judge.specs.Contract.{shortQuestion, fewSlots, middleQuestion, someSlots, slotsFor, Space}
 use Rattle.question.proofs.Reading.{room-of}
 use Rattle.question.specs.Stands.{At, Ats}
 use Rattle.question.specs.Tree.{Node, Row, leaf, binary, unary, named, member, call, method, nil, cons, size, sizes, bytes, bytess}
@@ -14,11 +16,15 @@ use Rattle.ty.proofs.Choice.{by-choice, choose-yes}
 
 pub slots-few : (n : ℕ) → slotsFor n ≤ 64
 unfolding slotsFor
-slots-few n = by-choice (λ (m : ℕ). m ≤ 64) _ (λ _. omega arith) (λ _. omega arith)
+slots-few n =
+    by-choice (λ (m : ℕ). m ≤ 64) _ (λ _. omega arith) λ _.
+    by-choice (λ (m : ℕ). m ≤ 64) _ (λ _. omega arith) (λ _. omega arith)
 
 slots-some : (n : ℕ) → 1 ≤ slotsFor n
 unfolding slotsFor
-slots-some n = by-choice (λ (m : ℕ). 1 ≤ m) _ (λ _. omega arith) (λ _. omega arith)
+slots-some n =
+    by-choice (λ (m : ℕ). 1 ≤ m) _ (λ _. omega arith) λ _.
+    by-choice (λ (m : ℕ). 1 ≤ m) _ (λ _. omega arith) (λ _. omega arith)
 
 -- ---- what is lent
 pub some-slots : {q a l : List ℕ} → Space q a l → 1 ≤ length l
@@ -31,6 +37,13 @@ pub space-few : (q a l : List ℕ) → length q ≤ shortQuestion → length a �
 unfolding slotsFor
 space-few q a l h e f =
     let n : slotsFor (length q) ≡ fewSlots = choose-yes _ _ _ (le-leb (length q) shortQuestion h) in
+    record { lent = record { wide = omega arith; long = omega arith }; enough = omega arith }
+
+pub space-some : (q a l : List ℕ) → length q ≤ middleQuestion → length a ≡ 8192 → length l ≡ someSlots → Space q a l
+unfolding slotsFor
+space-some q a l h e f =
+    let n : slotsFor (length q) ≤ someSlots
+    = by-choice (λ (m : ℕ). m ≤ someSlots) _ (λ _. omega arith) (λ _. omega (arith, choose-yes (leb (length q) middleQuestion) someSlots slotCount (le-leb (length q) middleQuestion h))) in
     record { lent = record { wide = omega arith; long = omega arith }; enough = omega arith }
 
 pub space-many : (q a l : List ℕ) → length a ≡ 16384 → length l ≡ 64 → Space q a l
@@ -57,4 +70,5 @@ mutual
 pub tree-room : (q : List ℕ) (t : Node) (at : ℕ) → At q t at → 5 + bytes t ≡ length q → size t ≤ 64 → size t ≤ slotsFor (length q)
 unfolding slotsFor
 tree-room q t at s e few =
-    by-choice (λ (m : ℕ). size t ≤ m) _ (λ b. omega (arith, two-bytes q t at s, leb-true (length q) shortQuestion b)) (λ _. few)
+    by-choice (λ (m : ℕ). size t ≤ m) _ (λ b. omega (arith, two-bytes q t at s, leb-true (length q) shortQuestion b)) λ _.
+    by-choice (λ (m : ℕ). size t ≤ m) _ (λ b. omega (arith, two-bytes q t at s, leb-true (length q) middleQuestion b)) (λ _. few)

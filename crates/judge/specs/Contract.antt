@@ -41,9 +41,16 @@ shortQuestion = 21
 abbrev pub fewSlots : ℕ
 fewSlots = 8
 
+-- and one of at most 69 at most 32
+abbrev pub middleQuestion : ℕ
+middleQuestion = 69
+
+abbrev pub someSlots : ℕ
+someSlots = 32
+
 -- how many slots are enough for a question of n bytes
 unfoldable pub slotsFor : ℕ → ℕ
-slotsFor n = choose (leb n shortQuestion) fewSlots slotCount
+slotsFor n = choose (leb n shortQuestion) fewSlots (choose (leb n middleQuestion) someSlots slotCount)
 
 -- an area and lengths are lent, and they are enough for the question q
 pub record Space (q a l : List ℕ) : Type 0 where

@@ -5,7 +5,7 @@ pub mod progress;
 pub mod rule;
 
 use area::clear;
-use area::copy_out;
+use area::copy_in;
 use area::slot;
 use cycle::judge_node;
 use progress::State;
@@ -18,13 +18,14 @@ ghost use Prim.Native.Nat.{_≤_, _<_};
 ghost use lib.ListN.{length};
 ghost use Rattle.area.specs.Slot.{Lent};
 ghost use Rattle.question.specs.Refused.{questionFault};
-ghost use Rattle.symbol.specs.Accepted.{IndexRoom};
+ghost use Rattle.symbol.specs.Accepted.{Accepted, IndexRoom};
 ghost use Rattle.symbol.specs.Refused.{tableFault};
-ghost use Rattle.typing.specs.Answer.{namesOf, zeros, refused as refusedAs};
+ghost use Rattle.symbol.specs.Table.{recordsOf, nameCount};
+ghost use Rattle.typing.specs.Answer.{namesOf, answerBytes, zeros, refused as refusedAs};
 ghost use Rattle.typing.specs.Demand1.{Demand1};
 ghost use Rattle.typing.specs.Demand3.{Demand3};
-ghost use Rattle.judge.specs.Answer.{answerIs, Answered, Ready, shortTable, markIs, rootNumber, RootIs};
-ghost use Rattle.judge.specs.Contract.{Space, shortQuestion};
+ghost use Rattle.judge.specs.Answer.{answerIs, outcomeIs, Answered, Ready, shortTable, middleTable, markIs, rootNumber, RootIs};
+ghost use Rattle.judge.specs.Contract.{Space, shortQuestion, middleQuestion};
 
 // The answer: refusal number (0 for none), pass mark, the type in 256 bytes with zeros behind its length, that length, and how many diagnostics there are.
 pub struct Answer {
@@ -35,21 +36,33 @@ pub struct Answer {
     pub count: usize,
 }
 
+// An answer without its type, whose 256 bytes are lent.
+pub struct Outcome {
+    pub len: usize,
+    pub count: usize,
+    pub number: u8,
+    pub pass: u8,
+}
+
 // A table of so many bytes has a small index.
 const SHORT_TABLE: usize = 2048;
+
+// A table of so many bytes has an index of middle size.
+const MIDDLE_TABLE: usize = 16384;
 
 // A question of so many bytes has at most 8 nodes.
 const SHORT_QUESTION: usize = 21;
 
+// A question of so many bytes has at most 32 nodes.
+const MIDDLE_QUESTION: usize = 69;
+
 // A refusal: zeros everywhere but the number.
-fn refused(number: u8) -> Answer
-    ensures { λ r. ⌜ answerIs r ≡ refusedAs number ⌝ }
+fn refused(number: u8) -> Outcome
+    ensures { λ r. ⌜ outcomeIs r (zeros answerBytes) ≡ refusedAs number ⌝ }
 {
-    let ty = [0u8; 256];
-    Answer {
+    Outcome {
         number,
         pass: 0,
-        ty,
         len: 0,
         count: 0,
     }
@@ -77,20 +90,25 @@ fn root_number(len: usize, count: usize, lent: usize) -> u8
 }
 
 // The answer once the tree is judged: its root's type lies in slot 0.
-fn answer_root(s: State, area: &[u8], lens: &[usize], diagnostics: &mut [u8]) -> Answer
-    requires { ⌜ Lent (now area) (now lens) × (0 < length (now lens)) × (s .count ≤ 4294967296) ⌝ }
-    ensures { λ r. ⌜ RootIs s (now (area .entry)) (now (lens .entry)) (now (diagnostics .entry)) (now (diagnostics .exit)) r ⌝ }
+fn answer_root(
+    s: State,
+    area: &[u8],
+    lens: &[usize],
+    diagnostics: &mut [u8],
+    ty: &mut [u8],
+) -> Outcome
+    requires { ⌜ Lent (now area) (now lens) × (0 < length (now lens)) × (s .count ≤ 4294967296) × (now ty ≡ zeros answerBytes) ⌝ }
+    ensures { λ r. ⌜ RootIs s (now (area .entry)) (now (lens .entry)) (now (diagnostics .entry)) (now (diagnostics .exit)) (outcomeIs r (now (ty .exit))) ⌝ }
 {
     let count = s.count;
     let len = lens[0];
     let number = root_number(len, count, diagnostics.len());
     if number == 0 {
-        let ty = copy_out(slot(area, lens, 0));
+        copy_in(ty, 0, slot(area, lens, 0));
         let pass = mark(s);
-        return Answer {
+        return Outcome {
             number,
             pass,
-            ty,
             len,
             count,
         };
@@ -107,9 +125,10 @@ fn judge_in(
     area: &mut [u8],
     lens: &mut [usize],
     diagnostics: &mut [u8],
-) -> Answer
-    requires { ⌜ Space (now question) (now area) (now lens) × Ready (now table) (now index) (now question) (now diagnostics) ⌝ }
-    ensures { λ r. ⌜ Answered (now (table .entry)) (now (question .entry)) (length (now (diagnostics .entry))) r (now (diagnostics .exit)) ⌝ }
+    ty: &mut [u8],
+) -> Outcome
+    requires { ⌜ Space (now question) (now area) (now lens) × Ready (now table) (now index) (now question) (now diagnostics) (now ty) ⌝ }
+    ensures { λ r. ⌜ Answered (now (table .entry)) (now (question .entry)) (length (now (diagnostics .entry))) (outcomeIs r (now (ty .exit))) (now (diagnostics .exit)) ⌝ }
 {
     let header = read_header(question);
     let start = State {
@@ -128,88 +147,205 @@ fn judge_in(
         lens,
         diagnostics,
     );
-    answer_root(s, area, lens, diagnostics)
+    answer_root(s, area, lens, diagnostics, ty)
 }
 
 // Judges an accepted question with slots for 8 nodes.
-fn judge_few(table: &[u8], index: &[u16], question: &[u8], diagnostics: &mut [u8]) -> Answer
-    requires { ⌜ Ready (now table) (now index) (now question) (now diagnostics) × (length (now question) ≤ shortQuestion) ⌝ }
-    ensures { λ r. ⌜ Answered (now (table .entry)) (now (question .entry)) (length (now (diagnostics .entry))) r (now (diagnostics .exit)) ⌝ }
+fn judge_few(
+    table: &[u8],
+    index: &[u16],
+    question: &[u8],
+    diagnostics: &mut [u8],
+    ty: &mut [u8],
+) -> Outcome
+    requires { ⌜ Ready (now table) (now index) (now question) (now diagnostics) (now ty) × (length (now question) ≤ shortQuestion) ⌝ }
+    ensures { λ r. ⌜ Answered (now (table .entry)) (now (question .entry)) (length (now (diagnostics .entry))) (outcomeIs r (now (ty .exit))) (now (diagnostics .exit)) ⌝ }
 {
     let mut area = [0u8; 2048];
     let mut lens = [0usize; 8];
-    judge_in(table, index, question, &mut area, &mut lens, diagnostics)
+    judge_in(
+        table,
+        index,
+        question,
+        &mut area,
+        &mut lens,
+        diagnostics,
+        ty,
+    )
+}
+
+// Judges an accepted question with slots for 32 nodes.
+fn judge_some(
+    table: &[u8],
+    index: &[u16],
+    question: &[u8],
+    diagnostics: &mut [u8],
+    ty: &mut [u8],
+) -> Outcome
+    requires { ⌜ Ready (now table) (now index) (now question) (now diagnostics) (now ty) × (length (now question) ≤ middleQuestion) ⌝ }
+    ensures { λ r. ⌜ Answered (now (table .entry)) (now (question .entry)) (length (now (diagnostics .entry))) (outcomeIs r (now (ty .exit))) (now (diagnostics .exit)) ⌝ }
+{
+    let mut area = [0u8; 8192];
+    let mut lens = [0usize; 32];
+    judge_in(
+        table,
+        index,
+        question,
+        &mut area,
+        &mut lens,
+        diagnostics,
+        ty,
+    )
 }
 
 // Judges an accepted question with slots for 64 nodes.
-fn judge_many(table: &[u8], index: &[u16], question: &[u8], diagnostics: &mut [u8]) -> Answer
-    requires { ⌜ Ready (now table) (now index) (now question) (now diagnostics) ⌝ }
-    ensures { λ r. ⌜ Answered (now (table .entry)) (now (question .entry)) (length (now (diagnostics .entry))) r (now (diagnostics .exit)) ⌝ }
+fn judge_many(
+    table: &[u8],
+    index: &[u16],
+    question: &[u8],
+    diagnostics: &mut [u8],
+    ty: &mut [u8],
+) -> Outcome
+    requires { ⌜ Ready (now table) (now index) (now question) (now diagnostics) (now ty) ⌝ }
+    ensures { λ r. ⌜ Answered (now (table .entry)) (now (question .entry)) (length (now (diagnostics .entry))) (outcomeIs r (now (ty .exit))) (now (diagnostics .exit)) ⌝ }
 {
     let mut area = [0u8; 16384];
     let mut lens = [0usize; 64];
-    judge_in(table, index, question, &mut area, &mut lens, diagnostics)
+    judge_in(
+        table,
+        index,
+        question,
+        &mut area,
+        &mut lens,
+        diagnostics,
+        ty,
+    )
 }
 
 // Judges an accepted question; little is cleared for a short one.
-fn judge_accepted(table: &[u8], index: &[u16], question: &[u8], diagnostics: &mut [u8]) -> Answer
-    requires { ⌜ Ready (now table) (now index) (now question) (now diagnostics) ⌝ }
-    ensures { λ r. ⌜ Answered (now (table .entry)) (now (question .entry)) (length (now (diagnostics .entry))) r (now (diagnostics .exit)) ⌝ }
+fn judge_accepted(
+    table: &[u8],
+    index: &[u16],
+    question: &[u8],
+    diagnostics: &mut [u8],
+    ty: &mut [u8],
+) -> Outcome
+    requires { ⌜ Ready (now table) (now index) (now question) (now diagnostics) (now ty) ⌝ }
+    ensures { λ r. ⌜ Answered (now (table .entry)) (now (question .entry)) (length (now (diagnostics .entry))) (outcomeIs r (now (ty .exit))) (now (diagnostics .exit)) ⌝ }
 {
     if question.len() <= SHORT_QUESTION {
-        return judge_few(table, index, question, diagnostics);
+        return judge_few(table, index, question, diagnostics, ty);
     }
-    judge_many(table, index, question, diagnostics)
+    if question.len() <= MIDDLE_QUESTION {
+        return judge_some(table, index, question, diagnostics, ty);
+    }
+    judge_many(table, index, question, diagnostics, ty)
+}
+
+// Judges a question against an accepted table, which has so many names.
+fn judge_checked(
+    table: &[u8],
+    index: &[u16],
+    names: u16,
+    question: &[u8],
+    diagnostics: &mut [u8],
+    ty: &mut [u8],
+) -> Outcome
+    requires { ⌜ Accepted (now table) (now index) × (names ≡ nameCount (recordsOf (now table))) × (now diagnostics ≡ zeros (length (now diagnostics))) × (now ty ≡ zeros answerBytes) ⌝ }
+    ensures { λ r. ⌜ Answered (now (table .entry)) (now (question .entry)) (length (now (diagnostics .entry))) (outcomeIs r (now (ty .exit))) (now (diagnostics .exit)) ⌝ }
+{
+    let number = check_question(question, Names { count: names });
+    if number != 0 {
+        return refused(number);
+    }
+    judge_accepted(table, index, question, diagnostics, ty)
 }
 
 // Judges a question against a table, whose index is made in what is lent for it.
-fn judge_with(table: &[u8], index: &mut [u16], question: &[u8], diagnostics: &mut [u8]) -> Answer
-    requires { ⌜ IndexRoom (now table) (now index) × (now diagnostics ≡ zeros (length (now diagnostics))) ⌝ }
-    ensures { λ r. ⌜ Answered (now (table .entry)) (now (question .entry)) (length (now (diagnostics .entry))) r (now (diagnostics .exit)) ⌝ }
+fn judge_with(
+    table: &[u8],
+    index: &mut [u16],
+    question: &[u8],
+    diagnostics: &mut [u8],
+    ty: &mut [u8],
+) -> Outcome
+    requires { ⌜ IndexRoom (now table) (now index) × (now diagnostics ≡ zeros (length (now diagnostics))) × (now ty ≡ zeros answerBytes) ⌝ }
+    ensures { λ r. ⌜ Answered (now (table .entry)) (now (question .entry)) (length (now (diagnostics .entry))) (outcomeIs r (now (ty .exit))) (now (diagnostics .exit)) ⌝ }
 {
     let checked = check_table(table, index);
     if checked.number != 0 {
         return refused(checked.number);
     }
-    let number = check_question(
-        question,
-        Names {
-            count: checked.names,
-        },
-    );
-    if number != 0 {
-        return refused(number);
+    judge_checked(table, index, checked.names, question, diagnostics, ty)
+}
+
+// Judges a question against an empty table, of which an index of one entry is enough.
+fn judge_empty(table: &[u8], question: &[u8], diagnostics: &mut [u8], ty: &mut [u8]) -> Outcome
+    requires { ⌜ (length (now table) ≡ 0) × (now diagnostics ≡ zeros (length (now diagnostics))) × (now ty ≡ zeros answerBytes) ⌝ }
+    ensures { λ r. ⌜ Answered (now (table .entry)) (now (question .entry)) (length (now (diagnostics .entry))) (outcomeIs r (now (ty .exit))) (now (diagnostics .exit)) ⌝ }
+{
+    let index = [0u16; 1];
+    judge_checked(table, &index, 0, question, diagnostics, ty)
+}
+
+// Judges a question against a short table; 1,461 entries are enough for its index.
+fn judge_short(table: &[u8], question: &[u8], diagnostics: &mut [u8], ty: &mut [u8]) -> Outcome
+    requires { ⌜ (length (now table) ≤ shortTable) × (now diagnostics ≡ zeros (length (now diagnostics))) × (now ty ≡ zeros answerBytes) ⌝ }
+    ensures { λ r. ⌜ Answered (now (table .entry)) (now (question .entry)) (length (now (diagnostics .entry))) (outcomeIs r (now (ty .exit))) (now (diagnostics .exit)) ⌝ }
+{
+    let mut index = [0u16; 1461];
+    judge_with(table, &mut index, question, diagnostics, ty)
+}
+
+// Judges a question against a table of middle length; 11,163 entries are enough for its index.
+fn judge_middle(table: &[u8], question: &[u8], diagnostics: &mut [u8], ty: &mut [u8]) -> Outcome
+    requires { ⌜ (length (now table) ≤ middleTable) × (now diagnostics ≡ zeros (length (now diagnostics))) × (now ty ≡ zeros answerBytes) ⌝ }
+    ensures { λ r. ⌜ Answered (now (table .entry)) (now (question .entry)) (length (now (diagnostics .entry))) (outcomeIs r (now (ty .exit))) (now (diagnostics .exit)) ⌝ }
+{
+    let mut index = [0u16; 11163];
+    judge_with(table, &mut index, question, diagnostics, ty)
+}
+
+// Judges a question against a table; 34,243 entries are enough for the index of the longest.
+fn judge_long(table: &[u8], question: &[u8], diagnostics: &mut [u8], ty: &mut [u8]) -> Outcome
+    requires { ⌜ (now diagnostics ≡ zeros (length (now diagnostics))) × (now ty ≡ zeros answerBytes) ⌝ }
+    ensures { λ r. ⌜ Answered (now (table .entry)) (now (question .entry)) (length (now (diagnostics .entry))) (outcomeIs r (now (ty .exit))) (now (diagnostics .exit)) ⌝ }
+{
+    let mut index = [0u16; 34243];
+    judge_with(table, &mut index, question, diagnostics, ty)
+}
+
+// Judges a question against a table: the answer, its type in what is lent for it, and the diagnostics in the lent buffer. Little is cleared for a short table.
+pub fn judge_into(table: &[u8], question: &[u8], diagnostics: &mut [u8], ty: &mut [u8]) -> Outcome
+    requires { ⌜ now ty ≡ zeros answerBytes ⌝ }
+    ensures { λ r. ⌜ Answered (now (table .entry)) (now (question .entry)) (length (now (diagnostics .entry))) (outcomeIs r (now (ty .exit))) (now (diagnostics .exit)) ⌝ }
+{
+    clear(diagnostics);
+    if table.len() == 0 {
+        return judge_empty(table, question, diagnostics, ty);
     }
-    judge_accepted(table, index, question, diagnostics)
+    if table.len() <= SHORT_TABLE {
+        return judge_short(table, question, diagnostics, ty);
+    }
+    if table.len() <= MIDDLE_TABLE {
+        return judge_middle(table, question, diagnostics, ty);
+    }
+    judge_long(table, question, diagnostics, ty)
 }
 
-// Judges a question against a short table; 923 entries are enough for its index.
-fn judge_short(table: &[u8], question: &[u8], diagnostics: &mut [u8]) -> Answer
-    requires { ⌜ (length (now table) ≤ shortTable) × (now diagnostics ≡ zeros (length (now diagnostics))) ⌝ }
-    ensures { λ r. ⌜ Answered (now (table .entry)) (now (question .entry)) (length (now (diagnostics .entry))) r (now (diagnostics .exit)) ⌝ }
-{
-    let mut index = [0u16; 923];
-    judge_with(table, &mut index, question, diagnostics)
-}
-
-// Judges a question against a table; 20,194 entries are enough for the index of the longest.
-fn judge_long(table: &[u8], question: &[u8], diagnostics: &mut [u8]) -> Answer
-    requires { ⌜ now diagnostics ≡ zeros (length (now diagnostics)) ⌝ }
-    ensures { λ r. ⌜ Answered (now (table .entry)) (now (question .entry)) (length (now (diagnostics .entry))) r (now (diagnostics .exit)) ⌝ }
-{
-    let mut index = [0u16; 20194];
-    judge_with(table, &mut index, question, diagnostics)
-}
-
-// Judges a question against a table: the answer, and the diagnostics in the lent buffer. Little is cleared for a short table.
+// Judges a question against a table: the answer, and the diagnostics in the lent buffer.
 pub fn judge(table: &[u8], question: &[u8], diagnostics: &mut [u8]) -> Answer
-    ensures { λ r. ⌜ Answered (now (table .entry)) (now (question .entry)) (length (now (diagnostics .entry))) r (now (diagnostics .exit)) ⌝ }
+    ensures { λ r. ⌜ Answered (now (table .entry)) (now (question .entry)) (length (now (diagnostics .entry))) (answerIs r) (now (diagnostics .exit)) ⌝ }
     ensures { λ r. ⌜ Demand1 (now (table .entry)) (now (question .entry)) (length (now (diagnostics .entry))) (answerIs r) (now (diagnostics .exit)) ⌝ }
     ensures { λ r. ⌜ (tableFault (now (table .entry)) ≡ 0 → questionFault (namesOf (now (table .entry))) (now (question .entry)) ≡ 0 → Demand3 (now (table .entry)) (now (question .entry)) (length (now (diagnostics .entry))) (answerIs r) (now (diagnostics .exit))) ⌝ }
 {
-    clear(diagnostics);
-    if table.len() <= SHORT_TABLE {
-        return judge_short(table, question, diagnostics);
+    let mut ty = [0u8; 256];
+    let outcome = judge_into(table, question, diagnostics, &mut ty);
+    Answer {
+        number: outcome.number,
+        pass: outcome.pass,
+        ty,
+        len: outcome.len,
+        count: outcome.count,
     }
-    judge_long(table, question, diagnostics)
 }

@@ -8,3 +8,4 @@ pub mod Finds
 pub mod Found
 pub mod Accepted
 pub mod Moved
+pub mod Plain

@@ -1,4 +1,5 @@
 // The nodes of a question's tree.
+use ty::Kind;
 use ty::TypeRead;
 use ty::byte_at;
 use ty::kind_of;
@@ -55,6 +56,10 @@ pub fn id_at(s: &[u8], at: u8) -> u16
 fn leaf(s: &[u8]) -> NodeRead
     ensures { λ r. ⌜ r ≡ leafOf (readType (now (s .entry)) longestType) ⌝ }
 {
+    // a kind below Nullable is a type by itself
+    if kind_of(s) < Kind::NULLABLE {
+        return NodeRead::Leaf { len: 1, top: 0 };
+    }
     let read = read_type(s, LONGEST_TYPE);
     match read {
         TypeRead::Whole { len, top, error: _ } => NodeRead::Leaf {

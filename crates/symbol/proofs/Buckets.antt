@@ -1,32 +1,115 @@
 -- How many buckets there are. Assumes nothing.
-use Prim.Native.Nat.{ℕ, _%_, _≤_, _<_}
-use borrow.Author.Tests.{lt-ltb, le-ltb, ltb-true, ltb-false}
-use lib.Dec.{ltb}
-use mathlib.Core.Bool.{Bool, true, false}
-use mathlib.Core.Path.{_≡_, refl}
+use Prim.Native.Nat.{ℕ, _+_, _*_, _%_, _≤_, _<_}
+use borrow.Author.Tests.{eqb-true, eq-eqb, ne-eqb, lt-ltb, le-ltb, ltb-true, ltb-false}
+use lib.Dec.{ltb, eqb}
+use mathlib.Core.Bool.{Bool, true, false, true≢false}
+use mathlib.Core.List.{List}
+use mathlib.Core.Path.{_≡_, refl, sym, _∙_}
 use native.Mathlib.Omega.{arith}
-use Rattle.symbol.specs.Index.{bucketCount}
+use Rattle.symbol.specs.Bucket.{bucketOf, nameDigit, keyDigit, digitOf}
+use Rattle.symbol.specs.Front.{headOf}
+use Rattle.symbol.specs.Index.{bucketCount, listCount, treeIn, listIn}
+use Rattle.symbol.specs.Table.{Record}
+use Rattle.symbol.specs.Refused.{nameBytes}
+use Rattle.ty.proofs.Choice.{by-choice}
 use Rattle.ty.specs.Choose.{choose}
 
-pub buckets-many : (n : ℕ) → 2048 < n → bucketCount n ≡ 4096
+-- a table of more than 16,384 bytes, of more than 2,048, and a short one
+pub buckets-many : (n : ℕ) → 16384 < n → bucketCount n ≡ 4096
 unfolding bucketCount choose
-buckets-many n h = rw (lt-ltb 2048 n h)
+buckets-many n h = rw (lt-ltb 16384 n h)
+
+pub buckets-some : (n : ℕ) → n ≤ 16384 → 2048 < n → bucketCount n ≡ 2048
+unfolding bucketCount choose
+buckets-some n h l = rw (le-ltb 16384 n h, lt-ltb 2048 n l)
 
 pub buckets-few : (n : ℕ) → n ≤ 2048 → bucketCount n ≡ 256
 unfolding bucketCount choose
-buckets-few n h = rw (le-ltb 2048 n h)
+buckets-few n h = let l : n ≤ 16384 = omega arith in rw (le-ltb 16384 n l, le-ltb 2048 n h)
+
+pub lists-many : (n : ℕ) → 16384 < n → listCount n ≡ 1024
+unfolding listCount choose
+lists-many n h = rw (lt-ltb 16384 n h)
+
+pub lists-some : (n : ℕ) → n ≤ 16384 → 2048 < n → listCount n ≡ 256
+unfolding listCount choose
+lists-some n h l = rw (le-ltb 16384 n h, lt-ltb 2048 n l)
+
+pub lists-few : (n : ℕ) → n ≤ 2048 → listCount n ≡ 64
+unfolding listCount choose
+lists-few n h = let l : n ≤ 16384 = omega arith in rw (le-ltb 16384 n l, le-ltb 2048 n h)
 
 pub bucket-below : (h n : ℕ) → h % bucketCount n < bucketCount n
-bucket-below h n = go (ltb 2048 n) refl
-  where
-    go : (v : Bool) → ltb 2048 n ≡ v → h % bucketCount n < bucketCount n
-    go true q = rw (buckets-many n (ltb-true 2048 n q)) (omega arith)
-    go false q = rw (buckets-few n (ltb-false 2048 n q)) (omega arith)
+unfolding bucketCount
+bucket-below h n =
+    by-choice (λ (b : ℕ). h % b < b) (ltb 16384 n) (λ _. omega arith) λ _.
+    by-choice (λ (b : ℕ). h % b < b) (ltb 2048 n) (λ _. omega arith) (λ _. omega arith)
+
+pub list-below : (h n : ℕ) → h % listCount n < listCount n
+unfolding listCount
+list-below h n =
+    by-choice (λ (b : ℕ). h % b < b) (ltb 16384 n) (λ _. omega arith) λ _.
+    by-choice (λ (b : ℕ). h % b < b) (ltb 2048 n) (λ _. omega arith) (λ _. omega arith)
 
 pub buckets-bound : (n : ℕ) → (1 ≤ bucketCount n) × (bucketCount n ≤ 4096)
-unfolding bucketCount choose
-buckets-bound n = go (ltb 2048 n) refl
+unfolding bucketCount
+buckets-bound n =
+    by-choice (λ (b : ℕ). (1 ≤ b) × (b ≤ 4096)) (ltb 16384 n) (λ _. (omega arith, omega arith)) λ _.
+    by-choice (λ (b : ℕ). (1 ≤ b) × (b ≤ 4096)) (ltb 2048 n) (λ _. (omega arith, omega arith)) (λ _. (omega arith, omega arith))
+
+pub lists-bound : (n : ℕ) → (1 ≤ listCount n) × (listCount n ≤ 1024)
+unfolding listCount
+lists-bound n =
+    by-choice (λ (b : ℕ). (1 ≤ b) × (b ≤ 1024)) (ltb 16384 n) (λ _. (omega arith, omega arith)) λ _.
+    by-choice (λ (b : ℕ). (1 ≤ b) × (b ≤ 1024)) (ltb 2048 n) (λ _. (omega arith, omega arith)) (λ _. (omega arith, omega arith))
+
+-- names have trees of their own
+pub tree-name : (n : ℕ) (r : Record) → headOf r .kind ≡ 1 → treeIn n r ≡ bucketOf r % bucketCount n
+unfolding treeIn choose
+tree-name n r k = rw (eq-eqb _ _ k)
+
+pub tree-other : (n : ℕ) (r : Record) → (headOf r .kind ≡ 1 → ⊥) → treeIn n r ≡ bucketCount n + bucketOf r % bucketCount n
+unfolding treeIn choose
+tree-other n r k = rw (ne-eqb _ _ k)
+
+pub tree-low : (n : ℕ) (r : Record) → treeIn n r < 2 * bucketCount n
+unfolding treeIn
+tree-low n r =
+    by-choice (λ (b : ℕ). b < 2 * bucketCount n) (eqb (headOf r .kind) 1) (λ _. omega (arith, bucket-below (bucketOf r) n))
+    (λ _. omega (arith, bucket-below (bucketOf r) n))
+
+-- only functions have a bucket among the lists
+pub list-function : (n : ℕ) (r : Record) → headOf r .kind ≡ 4 → listIn n r ≡ bucketOf r % listCount n
+unfolding listIn choose
+list-function n r k = rw (eq-eqb _ _ k)
+
+pub list-other : (n : ℕ) (r : Record) → (headOf r .kind ≡ 4 → ⊥) → listIn n r ≡ listCount n
+unfolding listIn choose
+list-other n r k = rw (ne-eqb _ _ k)
+
+pub list-kind-of : (n : ℕ) (r : Record) (b : ℕ) → b < listCount n → listIn n r ≡ b → headOf r .kind ≡ 4
+list-kind-of n r b l e = go (eqb (headOf r .kind) 4) refl
   where
-    go : (v : Bool) → ltb 2048 n ≡ v → (1 ≤ bucketCount n) × (bucketCount n ≤ 4096)
-    go true q = rw q (omega arith, omega arith)
-    go false q = rw q (omega arith, omega arith)
+    go : (v : Bool) → eqb (headOf r .kind) 4 ≡ v → headOf r .kind ≡ 4
+    go true q = eqb-true _ _ q
+    go false q =
+        let d : listIn n r ≡ listCount n = list-other n r (λ k. absurd-at k q) in
+        absurd (omega (arith, d, e))
+      where
+        absurd-at : headOf r .kind ≡ 4 → eqb (headOf r .kind) 4 ≡ false → ⊥
+        absurd-at k z = true≢false (sym (eq-eqb _ _ k) ∙ z)
+
+-- a digit is 0 or 1
+pub name-digit-low : (name : List ℕ) (d : ℕ) → nameDigit name d < 2
+unfolding nameDigit
+name-digit-low name d = omega arith
+
+pub key-digit-low : (k a b d : ℕ) → keyDigit k a b d < 2
+unfolding keyDigit
+key-digit-low k a b d = omega arith
+
+pub digit-low : (r : Record) (d : ℕ) → digitOf r d < 2
+unfolding digitOf
+digit-low r d =
+    by-choice (λ (f : ℕ → ℕ). f d < 2) (eqb (headOf r .kind) 1) (λ _. name-digit-low (nameBytes r) d)
+    (λ _. key-digit-low (headOf r .kind) (headOf r .one) (headOf r .two) d)

@@ -13,7 +13,7 @@ use Rattle.symbol.specs.Refused.{isBuiltinName, hasKey, superLate, lastK
 use Rattle.symbol.specs.Table.{Record, nameCount}
 
 -- a chain of tests that ends in 0 took no arm that is not 0
-not-taken : (v : Bool) (n x : ℕ) → choose v (suc n) x ≡ 0 → (v ≡ false) × (x ≡ 0)
+pub not-taken : (v : Bool) (n x : ℕ) → choose v (suc n) x ≡ 0 → (v ≡ false) × (x ≡ 0)
 unfolding choose
 not-taken true n x e = absurd (omega arith)
 not-taken false n x e = (refl, e)
@@ -22,7 +22,7 @@ pub or-false : (a b : Bool) → a || b ≡ false → (a ≡ false) × (b ≡ fal
 or-false true b e = absurd (true≢false e)
 or-false false b e = (refl, e)
 
-not-false : (a : Bool) → not a ≡ false → a ≡ true
+pub not-false : (a : Bool) → not a ≡ false → a ≡ true
 not-false true e = refl
 not-false false e = sym e
 

@@ -1,4 +1,4 @@
--- One record of a search along a bucket. Assumes nothing.
+-- One function of a search along a bucket. Assumes nothing.
 use Prim.Native.Nat.{ℕ, zero, suc, _+_, _-_, _*_, _%_, _≤_, _<_}
 use borrow.Author.Tests.{eqb-true, eq-eqb, ne-eqb, ltb-true, ltb-false, le-ltb}
 use lib.Dec.{eqb, ltb}
@@ -8,20 +8,21 @@ use mathlib.Core.Bool.{Bool, true, false, _&&_, _||_, false≢true}
 use mathlib.Core.List.{List, [], _∷_}
 use mathlib.Core.Path.{_≡_, refl, sym, ap, _∙_, subst}
 use native.Mathlib.Omega.{arith, not-le}
-use Rattle.ty.proofs.Choice.{and-left, and-right}
+use Rattle.ty.proofs.Choice.{and-left, and-right, choose-yes}
 use Rattle.ty.specs.Bytes.{idAt}
 use Rattle.ty.specs.Choose.{choose}
 use Rattle.symbol.proofs.Accepts.{CleanFrom, clean-at, with-no}
 use Rattle.symbol.proofs.Bounds.{head-bounded}
+use Rattle.symbol.proofs.Buckets.{list-below, list-kind-of}
 use Rattle.symbol.proofs.Cleans.{Clean}
 use Rattle.symbol.proofs.Records.{at-start, at-next, records-here, records-end, record-byte, record-part}
 use Rattle.symbol.proofs.Own.{head-own}
-use Rattle.symbol.proofs.Sizes.{Fits, head-fits, head-kind, head-ids, head-long}
+use Rattle.symbol.proofs.Sizes.{Fits, head-fits, head-kind, head-ids}
 use Rattle.symbol.specs.Accepted.{Accepted}
 use Rattle.symbol.specs.Answer.{HereIs, FunctionAt}
 use Rattle.symbol.specs.Bucket.{keyBucket, bucketOf}
 use Rattle.symbol.specs.Front.{headOf}
-use Rattle.symbol.specs.Index.{bucketCount, bucketIn, nextIn, nextFrom, nextAt}
+use Rattle.symbol.specs.Index.{listCount, listIn, firstAt, nextIn, nextFrom, nextAt}
 use Rattle.symbol.specs.Lookup.{isOf, recordsWith}
 use Rattle.symbol.specs.Refused.{tableFault}
 use Rattle.symbol.specs.Searched.{Searched, withAt}
@@ -36,7 +37,7 @@ unfolding recordsWith choose
 with-yes k a b r rs h = rw h
 
 -- ---- records with one key have one bucket
-key-bucket : (k a b : ℕ) (r : Record) → 2 ≤ k → isOf k a b (headOf r) ≡ true → bucketOf r ≡ keyBucket k a b
+pub key-bucket : (k a b : ℕ) (r : Record) → 2 ≤ k → isOf k a b (headOf r) ≡ true → bucketOf r ≡ keyBucket k a b
 unfolding bucketOf keyBucket choose
 key-bucket k a b r l e =
     let d : headOf r .kind ≡ k = eqb-true _ _ (and-left (eqb (headOf r .kind) k) (eqb (headOf r .one) a && (ltb k 4 || eqb (headOf r .two) b)) e) in
@@ -86,18 +87,20 @@ module _ (t : List ℕ) (p : ℕ) (w : Sits t p) (some : p < length t) where
   pub sits-next : Sits t (behind t p)
   sits-next = record { index = w .index + 1; at = sits-at }
 
+  -- a record with a bucket of a list is a function
+  pub list-kind : (b : ℕ) → b < listCount (length t) → listIn (length t) here ≡ b → headOf (drop p t) .kind ≡ 4
+  list-kind b l e = sym (ap (λ (h : Head). h .kind) sits-own) ∙ list-kind-of (length t) here b l e
+
   module _ (clean : tableFault t ≡ 0) where
     pub sits-clean : Clean (before (w .index) (recordsOf t)) here (here ∷ recordsOf (drop (behind t p) t))
     sits-clean =
         subst (λ (z : List Record). CleanFrom (before (w .index) (recordsOf t)) z) sits-cons
         (clean-at t (record { at = p; index = w .index }) (w .at) clean) .0
 
-    whole : headOf (drop p t) .malformed ≡ false
-    whole = sym (ap (λ (h : Head). h .malformed) sits-own) ∙ sits-clean .whole
+    pub sits-whole : headOf (drop p t) .malformed ≡ false
+    sits-whole = sym (ap (λ (h : Head). h .malformed) sits-own) ∙ sits-clean .whole
 
-    pub sits-long : p + 5 ≤ behind t p
-    sits-long = omega (arith, head-long (drop p t) whole)
-
+  module _ (whole : headOf (drop p t) .malformed ≡ false) where
     byte : getD (drop p t) 0 0 ≡ getD t p 0
     byte = let e : p + 0 ≡ p = omega arith in getD-drop p t 0 0 ∙ ap (λ (n : ℕ). getD t n 0) e
 
@@ -118,35 +121,40 @@ module _ (t : List ℕ) (p : ℕ) (w : Sits t p) (some : p < length t) where
             let two : headOf here .two ≡ idAt t (p + 3) = ap (λ (h : Head). h .two) sits-own ∙ i .1 ∙ drop-id t p 3 in
             rw (one, two)
 
--- ---- the first record of a bucket
-module _ (t : List ℕ) (n b k a c : ℕ) (low : 2 ≤ k) (is : keyBucket k a c % bucketCount n ≡ b) where
-  other : (r : Record) → eqb (bucketIn n r) b ≡ false → isOf k a c (headOf r) ≡ false
-  other r e = go (isOf k a c (headOf r)) refl
-    where
-      go : (v : Bool) → isOf k a c (headOf r) ≡ v → v ≡ false
-      go false h = refl
-      go true h =
-          let q : bucketIn n r ≡ b = ap (λ (z : ℕ). z % bucketCount n) (key-bucket k a c r low h) ∙ is in
-          absurd (false≢true (sym e ∙ eq-eqb _ _ q))
+-- ---- functions with one key have one bucket
+key-list : (n a b : ℕ) (r : Record) → isOf 4 a b (headOf r) ≡ true → listIn n r ≡ keyBucket 4 a b % listCount n
+unfolding listIn
+key-list n a b r e =
+    let d : headOf r .kind ≡ 4 = eqb-true _ _ (and-left (eqb (headOf r .kind) 4) (eqb (headOf r .one) a && (ltb 4 4 || eqb (headOf r .two) b)) e) in
+    choose-yes _ _ _ (eq-eqb _ _ d) ∙ ap (λ (z : ℕ). z % listCount n) (key-bucket 4 a b r (omega arith) e)
 
-  pub none-left : (p : ℕ) (rs : List Record) → nextIn n b p rs ≡ 0 → recordsWith k a c rs ≡ []
+-- ---- the first function of a bucket
+module _ (t : List ℕ) (n b a c : ℕ) (is : keyBucket 4 a c % listCount n ≡ b) where
+  other : (r : Record) → eqb (listIn n r) b ≡ false → isOf 4 a c (headOf r) ≡ false
+  other r e = go (isOf 4 a c (headOf r)) refl
+    where
+      go : (v : Bool) → isOf 4 a c (headOf r) ≡ v → v ≡ false
+      go false h = refl
+      go true h = absurd (false≢true (sym e ∙ eq-eqb _ _ (key-list n a c r h ∙ is)))
+
+  pub none-left : (p : ℕ) (rs : List Record) → nextIn n b p rs ≡ 0 → recordsWith 4 a c rs ≡ []
   unfolding nextIn choose
   none-left p [] e = unfold recordsWith in refl
-  none-left p (r ∷ rs) e = go (eqb (bucketIn n r) b) refl e (none-left (p + length r) rs)
+  none-left p (r ∷ rs) e = go (eqb (listIn n r) b) refl e (none-left (p + length r) rs)
     where
-      go : (v : Bool) → eqb (bucketIn n r) b ≡ v → choose (eqb (bucketIn n r) b) (suc p) (nextIn n b (p + length r) rs) ≡ 0
-          → (nextIn n b (p + length r) rs ≡ 0 → recordsWith k a c rs ≡ []) → recordsWith k a c (r ∷ rs) ≡ []
+      go : (v : Bool) → eqb (listIn n r) b ≡ v → choose (eqb (listIn n r) b) (suc p) (nextIn n b (p + length r) rs) ≡ 0
+          → (nextIn n b (p + length r) rs ≡ 0 → recordsWith 4 a c rs ≡ []) → recordsWith 4 a c (r ∷ rs) ≡ []
       go true h q ih = absurd (omega (arith, rw h at q))
-      go false h q ih = with-no k a c r rs (other r h) ∙ ih (rw h at q)
+      go false h q ih = with-no 4 a c r rs (other r h) ∙ ih (rw h at q)
 
 -- it begins at byte q, and the records before it have other buckets
 pub record Reached (t : List ℕ) (b p q : ℕ) : Type 0 where
   pub sits : Sits t q
   pub some : q < length t
-  pub own : bucketIn (length t) (frontRecord (drop q t)) ≡ b
+  pub own : listIn (length t) (frontRecord (drop q t)) ≡ b
   pub later : p ≤ q
-  pub same : (k a c : ℕ) → 2 ≤ k → keyBucket k a c % bucketCount (length t) ≡ b
-      → recordsWith k a c (recordsOf (drop p t)) ≡ recordsWith k a c (recordsOf (drop q t))
+  pub same : (a c : ℕ) → keyBucket 4 a c % listCount (length t) ≡ b
+      → recordsWith 4 a c (recordsOf (drop p t)) ≡ recordsWith 4 a c (recordsOf (drop q t))
 
 module _ (t : List ℕ) (b q p : ℕ) (w : Sits t p) (e : nextFrom t b p ≡ suc q) where
   reach-end : length t ≤ p → Reached t b p q
@@ -154,16 +162,16 @@ module _ (t : List ℕ) (b q p : ℕ) (w : Sits t p) (e : nextFrom t b p ≡ suc
   reach-end l = let f : 0 ≡ suc q = sym (ap (nextIn (length t) b p) (records-end t p l)) ∙ e in absurd (omega arith)
 
   module _ (some : p < length t) where
-    reach-here : eqb (bucketIn (length t) (frontRecord (drop p t))) b ≡ true → Reached t b p q
+    reach-here : eqb (listIn (length t) (frontRecord (drop p t))) b ≡ true → Reached t b p q
     unfolding nextIn choose
     reach-here u =
         let d : nextFrom t b p ≡ suc p = ap (nextIn (length t) b p) (sits-cons t p w some) ∙ (rw u) in
         let f : suc p ≡ suc q = sym d ∙ e in
         let g : p ≡ q = omega arith in
         subst (λ (z : ℕ). Reached t b p z) g
-        (record { sits = w; some = some; own = eqb-true _ _ u; later = omega arith; same = λ k a c l i. refl })
+        (record { sits = w; some = some; own = eqb-true _ _ u; later = omega arith; same = λ a c i. refl })
 
-    module _ (u : eqb (bucketIn (length t) (frontRecord (drop p t))) b ≡ false) where
+    module _ (u : eqb (listIn (length t) (frontRecord (drop p t))) b ≡ false) where
       reach-next : nextFrom t b (behind t p) ≡ suc q
       unfolding nextIn choose
       reach-next =
@@ -178,18 +186,18 @@ module _ (t : List ℕ) (b q p : ℕ) (w : Sits t p) (e : nextFrom t b p ≡ suc
             some = r .some;
             own = r .own;
             later = omega (arith, r .later, sits-later t p w some);
-            same = λ k a c l i.
-                ap (recordsWith k a c) (sits-cons t p w some) ∙ with-no k a c _ _ (other t (length t) b k a c l i (frontRecord (drop p t)) u) ∙ r .same k a c l i;
+            same = λ a c i.
+                ap (recordsWith 4 a c) (sits-cons t p w some) ∙ with-no 4 a c _ _ (other t (length t) b a c i (frontRecord (drop p t)) u) ∙ r .same a c i;
           }
 
 pub reach : (t : List ℕ) (b q m p : ℕ) → length t - p ≤ m → Sits t p → nextFrom t b p ≡ suc q → Reached t b p q
 reach t b q zero p h w e = reach-end t b q p w e (omega arith)
 reach t b q (suc m) p h w e =
-    go (ltb p (length t)) refl (eqb (bucketIn (length t) (frontRecord (drop p t))) b) refl
+    go (ltb p (length t)) refl (eqb (listIn (length t) (frontRecord (drop p t))) b) refl
     (λ l some u. reach t b q m (behind t p) l (sits-next t p w some) (reach-next t b q p w e some u))
   where
-    go : (v : Bool) → ltb p (length t) ≡ v → (y : Bool) → eqb (bucketIn (length t) (frontRecord (drop p t))) b ≡ y
-        → (length t - behind t p ≤ m → (some : p < length t) → eqb (bucketIn (length t) (frontRecord (drop p t))) b ≡ false → Reached t b (behind t p) q)
+    go : (v : Bool) → ltb p (length t) ≡ v → (y : Bool) → eqb (listIn (length t) (frontRecord (drop p t))) b ≡ y
+        → (length t - behind t p ≤ m → (some : p < length t) → eqb (listIn (length t) (frontRecord (drop p t))) b ≡ false → Reached t b (behind t p) q)
         → Reached t b p q
     go false f y u ih = reach-end t b q p w e (ltb-false p (length t) f)
     go true f true u ih = reach-here t b q p w e (ltb-true p (length t) f) u
@@ -205,51 +213,60 @@ abbrev pub leftOf : ℕ → ℕ → ℕ
 leftOf n zero = 0
 leftOf n (suc p) = suc (n - p)
 
-module _ (t x : List ℕ) (ok : Accepted t x) (k a b v : ℕ) (s : Searched t v k a b) where
+-- what the test of a key by the record's bytes says
+module _ (t : List ℕ) (p : ℕ) (w : Sits t p) (some : p < length t) (clean : tableFault t ≡ 0) (k a b : ℕ)
+    (yes : isOf k a b (headOf (frontRecord (drop p t))) ≡ true) where
+  own : headOf (frontRecord (drop p t)) ≡ headOf (drop p t)
+  own = sits-own t p w some
+
+  pair : eqb (headOf (frontRecord (drop p t)) .one) a && (ltb k 4 || eqb (headOf (frontRecord (drop p t)) .two) b) ≡ true
+  pair = and-right (eqb (headOf (frontRecord (drop p t)) .kind) k) (eqb (headOf (frontRecord (drop p t)) .one) a && (ltb k 4 || eqb (headOf (frontRecord (drop p t)) .two) b)) yes
+
+  second : 4 ≤ k → ltb k 4 || eqb (headOf (frontRecord (drop p t)) .two) b ≡ true → eqb (headOf (frontRecord (drop p t)) .two) b ≡ true
+  second l g = rw (le-ltb k 4 l) at g
+
+  pub here-is : (all : List Record) → all ≡ recordsWith k a b (recordsOf (drop p t)) → HereIs t all k a b (record { at = p })
+  here-is all e =
+      record {
+        first = e ∙ ap (recordsWith k a b) (sits-cons t p w some) ∙ with-yes k a b _ _ yes;
+        kind = sym (ap (λ (h : Head). h .kind) own) ∙ eqb-true _ _ (and-left (eqb (headOf (frontRecord (drop p t)) .kind) k) (eqb (headOf (frontRecord (drop p t)) .one) a && (ltb k 4 || eqb (headOf (frontRecord (drop p t)) .two) b)) yes);
+        one = sym (ap (λ (h : Head). h .one) own) ∙ eqb-true _ _ (and-left (eqb (headOf (frontRecord (drop p t)) .one) a) (ltb k 4 || eqb (headOf (frontRecord (drop p t)) .two) b) pair);
+        two = λ l. sym (ap (λ (h : Head). h .two) own) ∙ eqb-true _ _ (second l (and-right (eqb (headOf (frontRecord (drop p t)) .one) a) (ltb k 4 || eqb (headOf (frontRecord (drop p t)) .two) b) pair));
+        error = sym (ap (λ (h : Head). h .error) own) ∙ sits-clean t p w some clean .typed;
+        some = some;
+        sits = w;
+      }
+
+module _ (t x : List ℕ) (ok : Accepted t x) (a b v : ℕ) (s : Searched t v a b) where
   abbrev bucket : ℕ
-  bucket = keyBucket k a b % bucketCount (length t)
+  bucket = keyBucket 4 a b % listCount (length t)
 
   module _ (p : ℕ) (e : v ≡ suc p) where
     pub searched-at : Reached t bucket (s .from) p
     searched-at = reach t bucket p (length t - s .from) (s .from) (omega arith) (s .sits) (sym (s .is) ∙ e)
 
     abbrev test : Bool
-    test = eqb (getD t p 0) k && (eqb (idAt t (p + 1)) a && (ltb k 4 || eqb (idAt t (p + 3)) b))
+    test = eqb (getD t p 0) 4 && (eqb (idAt t (p + 1)) a && eqb (idAt t (p + 3)) b)
 
-    tested : test ≡ isOf k a b (headOf (frontRecord (drop p t)))
-    tested = raw-test t p (searched-at .sits) (searched-at .some) (ok .clean) k a b (s .kind)
+    tested : test ≡ isOf 4 a b (headOf (frontRecord (drop p t)))
+    tested = raw-test t p (searched-at .sits) (searched-at .some) (sits-whole t p (searched-at .sits) (searched-at .some) (ok .clean)) 4 a b (omega arith)
 
-    cons : withAt t v k a b ≡ recordsWith k a b (frontRecord (drop p t) ∷ recordsOf (drop (behind t p) t))
-    cons = ap (λ (z : ℕ). withAt t z k a b) e ∙ ap (recordsWith k a b) (sits-cons t p (searched-at .sits) (searched-at .some))
+    cons : withAt t v a b ≡ recordsWith 4 a b (frontRecord (drop p t) ∷ recordsOf (drop (behind t p) t))
+    cons = ap (λ (z : ℕ). withAt t z a b) e ∙ ap (recordsWith 4 a b) (sits-cons t p (searched-at .sits) (searched-at .some))
 
-    pub searched-here : test ≡ true → HereIs t (withAt t v k a b) k a b (record { at = p })
+    pub searched-here : test ≡ true → HereIs t (withAt t v a b) 4 a b (record { at = p })
     searched-here h =
-        record {
-          first = cons ∙ with-yes k a b _ _ (sym tested ∙ h);
-          kind = sym (ap (λ (h : Head). h .kind) own) ∙ eqb-true _ _ (and-left (eqb (headOf (frontRecord (drop p t)) .kind) k) (eqb (headOf (frontRecord (drop p t)) .one) a && (ltb k 4 || eqb (headOf (frontRecord (drop p t)) .two) b)) (sym tested ∙ h));
-          one = sym (ap (λ (h : Head). h .one) own) ∙ eqb-true _ _ (and-left (eqb (headOf (frontRecord (drop p t)) .one) a) (ltb k 4 || eqb (headOf (frontRecord (drop p t)) .two) b) pair);
-          two = λ l. sym (ap (λ (h : Head). h .two) own) ∙ eqb-true _ _ (second l (and-right (eqb (headOf (frontRecord (drop p t)) .one) a) (ltb k 4 || eqb (headOf (frontRecord (drop p t)) .two) b) pair));
-          error = sym (ap (λ (h : Head). h .error) own) ∙ sits-clean t p (searched-at .sits) (searched-at .some) (ok .clean) .typed;
-          some = searched-at .some;
-          sits = searched-at .sits;
-        }
-      where
-        own : headOf (frontRecord (drop p t)) ≡ headOf (drop p t)
-        own = sits-own t p (searched-at .sits) (searched-at .some)
+        here-is t p (searched-at .sits) (searched-at .some) (ok .clean) 4 a b (sym tested ∙ h) (withAt t v a b) (ap (λ (z : ℕ). withAt t z a b) e)
 
-        pair : eqb (headOf (frontRecord (drop p t)) .one) a && (ltb k 4 || eqb (headOf (frontRecord (drop p t)) .two) b) ≡ true
-        pair = and-right (eqb (headOf (frontRecord (drop p t)) .kind) k) (eqb (headOf (frontRecord (drop p t)) .one) a && (ltb k 4 || eqb (headOf (frontRecord (drop p t)) .two) b)) (sym tested ∙ h)
-
-        second : 4 ≤ k → ltb k 4 || eqb (headOf (frontRecord (drop p t)) .two) b ≡ true → eqb (headOf (frontRecord (drop p t)) .two) b ≡ true
-        second l g = rw (le-ltb k 4 l) at g
+    pub searched-kind : headOf (drop p t) .kind ≡ 4
+    searched-kind = list-kind t p (searched-at .sits) (searched-at .some) bucket (list-below (keyBucket 4 a b) (length t)) (searched-at .own)
 
     module _ (v′ : ℕ) (next : v′ ≡ getD x (nextAt (length t) p) 0) where
       is-next : v′ ≡ nextFrom t bucket (behind t p)
-      is-next = next ∙ ok .indexed .next p (searched-at .sits) (searched-at .some) ∙ ap (λ (z : ℕ). nextFrom t z (behind t p)) (searched-at .own)
+      is-next = next ∙ ok .indexed .next p (searched-at .sits) (searched-at .some) searched-kind ∙ ap (λ (z : ℕ). nextFrom t z (behind t p)) (searched-at .own)
 
-      pub searched-on : Searched t v′ k a b
-      searched-on =
-          record { from = behind t p; kind = s .kind; sits = sits-next t p (searched-at .sits) (searched-at .some); is = is-next }
+      pub searched-on : Searched t v′ a b
+      searched-on = record { from = behind t p; sits = sits-next t p (searched-at .sits) (searched-at .some); is = is-next }
 
       pub searched-less : leftOf (length t) v′ < leftOf (length t) v
       searched-less = subst (λ (z : ℕ). leftOf (length t) v′ < leftOf (length t) z) (sym e) (go v′ is-next)
@@ -260,38 +277,37 @@ module _ (t x : List ℕ) (ok : Accepted t x) (k a b v : ℕ) (s : Searched t v 
               let w = reach t bucket r (length t - behind t p) (behind t p) (omega arith) (sits-next t p (searched-at .sits) (searched-at .some)) (sym q) in
               omega (arith, w .later, w .some, sits-later t p (searched-at .sits) (searched-at .some))
 
--- the records of a search are those of the table from its byte on
-pub searched-all : (t : List ℕ) (k a b v : ℕ) (s : Searched t v k a b) → withAt t v k a b ≡ recordsWith k a b (recordsOf (drop (s .from) t))
-searched-all t k a b zero s = sym (none-left t (length t) _ k a b (s .kind) refl (s .from) _ (sym (s .is)))
-searched-all t k a b (suc p) s =
-    sym (reach t (keyBucket k a b % bucketCount (length t)) p (length t - s .from) (s .from) (omega arith) (s .sits) (sym (s .is)) .same k a b (s .kind) refl)
+-- the functions of a search are those of the table from its byte on
+pub searched-all : (t : List ℕ) (a b v : ℕ) (s : Searched t v a b) → withAt t v a b ≡ recordsWith 4 a b (recordsOf (drop (s .from) t))
+searched-all t a b zero s = sym (none-left t (length t) _ a b refl (s .from) _ (sym (s .is)))
+searched-all t a b (suc p) s =
+    sym (reach t (keyBucket 4 a b % listCount (length t)) p (length t - s .from) (s .from) (omega arith) (s .sits) (sym (s .is)) .same a b refl)
 
-module _ (t x : List ℕ) (ok : Accepted t x) (k a b v p v′ : ℕ) (s : Searched t v k a b) (e : v ≡ suc p) (next : v′ ≡ getD x (nextAt (length t) p) 0) where
-  pub searched-same : (eqb (getD t p 0) k && (eqb (idAt t (p + 1)) a && (ltb k 4 || eqb (idAt t (p + 3)) b))) ≡ false → withAt t v′ k a b ≡ withAt t v k a b
+module _ (t x : List ℕ) (ok : Accepted t x) (a b v p v′ : ℕ) (s : Searched t v a b) (e : v ≡ suc p) (next : v′ ≡ getD x (nextAt (length t) p) 0) where
+  pub searched-same : (eqb (getD t p 0) 4 && (eqb (idAt t (p + 1)) a && eqb (idAt t (p + 3)) b)) ≡ false → withAt t v′ a b ≡ withAt t v a b
   unfolding searched-on
   searched-same h =
-      searched-all t k a b v′ (searched-on t x ok k a b v s p e v′ next)
-      ∙ sym (cons t x ok k a b v s p e ∙ with-no k a b _ _ (sym (tested t x ok k a b v s p e) ∙ h))
+      searched-all t a b v′ (searched-on t x ok a b v s p e v′ next)
+      ∙ sym (cons t x ok a b v s p e ∙ with-no 4 a b _ _ (sym (tested t x ok a b v s p e) ∙ h))
 
 -- ---- where a search begins
 module _ (t x : List ℕ) (ok : Accepted t x) where
   sits-start : Sits t 0
   sits-start = record { index = 0; at = at-start t }
 
-  pub seek-first : (k a b : ℕ) → 2 ≤ k → (r : ℕ) → r ≡ keyBucket k a b % bucketCount (length t) → r < bucketCount (length t) → (v : ℕ) → v ≡ getD x (1 + r) 0
-      → Searched t v k a b
-  seek-first k a b l r e h v q =
-      record { from = 0; kind = l; sits = sits-start; is = q ∙ ok .indexed .first r h ∙ ap (λ (z : ℕ). nextFrom t z 0) e }
+  pub list-first : (a b r : ℕ) → r ≡ keyBucket 4 a b % listCount (length t) → r < listCount (length t) → (v : ℕ) → v ≡ getD x (firstAt (length t) r) 0 → Searched t v a b
+  list-first a b r e h v q =
+      record { from = 0; sits = sits-start; is = q ∙ ok .indexed .first r h ∙ ap (λ (z : ℕ). nextFrom t z 0) e }
 
-  pub seek-all : (k a b : ℕ) (l : 2 ≤ k) (r : ℕ) (e : r ≡ keyBucket k a b % bucketCount (length t)) (h : r < bucketCount (length t)) (v : ℕ) (q : v ≡ getD x (1 + r) 0)
-      → withAt t v k a b ≡ recordsWith k a b (recordsOf t)
-  unfolding seek-first
-  seek-all k a b l r e h v q = searched-all t k a b v (seek-first k a b l r e h v q)
+  pub list-all : (a b r : ℕ) (e : r ≡ keyBucket 4 a b % listCount (length t)) (h : r < listCount (length t)) (v : ℕ) (q : v ≡ getD x (firstAt (length t) r) 0)
+      → withAt t v a b ≡ recordsWith 4 a b (recordsOf t)
+  unfolding list-first
+  list-all a b r e h v q = searched-all t a b v (list-first a b r e h v q)
 
   module _ (p : Place) (f : FunctionAt t p) (a b : ℕ) (ea : a ≡ idAt t (p .at + 1)) (eb : b ≡ idAt t (p .at + 3)) (v : ℕ)
       (q : v ≡ getD x (nextAt (length t) (p .at)) 0) where
-    key : bucketOf (frontRecord (drop (p .at) t)) ≡ keyBucket 4 a b
-    unfolding bucketOf choose
+    key : listIn (length t) (frontRecord (drop (p .at) t)) ≡ keyBucket 4 a b % listCount (length t)
+    unfolding listIn bucketOf choose
     key =
         let o = sits-own t (p .at) (f .sits) (f .some) in
         let k : headOf (frontRecord (drop (p .at) t)) .kind ≡ 4 = ap (λ (h : Head). h .kind) o ∙ f .kind in
@@ -300,19 +316,18 @@ module _ (t x : List ℕ) (ok : Accepted t x) where
         let two : headOf (frontRecord (drop (p .at) t)) .two ≡ b = ap (λ (h : Head). h .two) o ∙ i .1 ∙ drop-id t (p .at) 3 ∙ sym eb in
         rw (k, one, two)
 
-    pub next-first : Searched t v 4 a b
+    pub next-first : Searched t v a b
     next-first =
         record {
           from = behind t (p .at);
-          kind = omega arith;
           sits = sits-next t (p .at) (f .sits) (f .some);
-          is = q ∙ ok .indexed .next (p .at) (f .sits) (f .some) ∙ ap (λ (z : ℕ). nextFrom t (z % bucketCount (length t)) (behind t (p .at))) key;
+          is = q ∙ ok .indexed .next (p .at) (f .sits) (f .some) (f .kind) ∙ ap (λ (z : ℕ). nextFrom t z (behind t (p .at))) key;
         }
 
-    pub next-all : withAt t v 4 a b ≡ recordsWith 4 (idAt t (p .at + 1)) (idAt t (p .at + 3)) (recordsOf (drop (behind t (p .at)) t))
+    pub next-all : withAt t v a b ≡ recordsWith 4 (idAt t (p .at + 1)) (idAt t (p .at + 3)) (recordsOf (drop (behind t (p .at)) t))
     unfolding next-first
     next-all =
-        searched-all t 4 a b v next-first
+        searched-all t a b v next-first
         ∙ ap (λ (z : ℕ). recordsWith 4 z b (recordsOf (drop (behind t (p .at)) t))) ea
         ∙ ap (λ (z : ℕ). recordsWith 4 (idAt t (p .at + 1)) z (recordsOf (drop (behind t (p .at)) t))) eb
 

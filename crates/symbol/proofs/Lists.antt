@@ -29,7 +29,7 @@ function-found t rs owner name (Here p) h =
 
 module _ (t x : List ℕ) (ok : Accepted t x) (p : Place) (h : FunctionAt t p) (a b : ℕ) (ea : a ≡ idAt t (p .at + 1)) (eb : b ≡ idAt t (p .at + 3)) (v : ℕ)
     (q : v ≡ getD x (nextAt (length t) (p .at)) 0) where
-  pub functions-next : (f : Found) → FoundIs t (withAt t v 4 a b) 4 a b f → FunctionFound t (functionsBehind t p) f
+  pub functions-next : (f : Found) → FoundIs t (withAt t v a b) 4 a b f → FunctionFound t (functionsBehind t p) f
   unfolding functionsBehind
   functions-next f w =
-      subst (λ (z : List Record). FunctionFound t (map overloadOf z) f) (next-all t x ok p h a b ea eb v q) (function-found t (withAt t v 4 a b) a b f w)
+      subst (λ (z : List Record). FunctionFound t (map overloadOf z) f) (next-all t x ok p h a b ea eb v q) (function-found t (withAt t v a b) a b f w)

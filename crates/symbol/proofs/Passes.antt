@@ -4,25 +4,33 @@ use borrow.Author.Tests.{eq-eqb, ne-eqb}
 use lib.Dec.{eqb}
 use lib.ListN.{length, getD, drop, set}
 use lib.Seq.{drop-cons, getD-set-same, getD-set-other}
-use mathlib.Core.Bool.{false}
+use mathlib.Core.Bool.{Bool, true, false}
 use mathlib.Core.List.{List, [], _∷_}
 use mathlib.Core.Path.{_≡_, refl, sym, ap, _∙_, subst}
 use native.Mathlib.Omega.{arith}
 use Rattle.ty.proofs.Choice.{chosen, passed}
 use Rattle.ty.specs.Choose.{choose}
-use Rattle.symbol.proofs.Cleans.{clean-record}
-use Rattle.symbol.proofs.Faults.{fault-stop, fault-on, short-fault}
-use Rattle.symbol.proofs.Chains.{Lasts, entered-start, lasts-start, entered-next, lasts-next, first-done, next-done}
+use Rattle.ty.specs.Name.{idDefined}
+use Rattle.symbol.proofs.Aheads.{looked-on}
+use Rattle.symbol.proofs.Chains.{Lasts, entered-start, lasts-start, first-done, next-done}
+use Rattle.symbol.proofs.Faults.{fault-stop, fault-on, own-number, key-number, own-clean, key-clean, missing-class, short-fault}
+use Rattle.symbol.proofs.Joins.{Joining, joining}
+use Rattle.symbol.proofs.NamesFit.{id-low, super-defined}
 use Rattle.symbol.proofs.Records.{here-cons, at-next, before-next, records-end, at-new}
-use Rattle.symbol.specs.Asked.{Asked}
-use Rattle.symbol.specs.Entered.{Entered, EntryAsked, entered}
-use Rattle.symbol.specs.Index.{bucketCount, bucketIn, firstAt, lastAt, nextAt}
-use Rattle.symbol.specs.Front.{headOf}
-use Rattle.symbol.specs.Refused.{lastKind, recordFault, faultFrom, tableFault}
+use Rattle.symbol.proofs.Trees.{tree-same, tree-start}
 use Rattle.symbol.specs.Accepted.{start, refusal, checkedOf, IndexRoom, Accepted}
+use Rattle.symbol.specs.Ahead.{lateSize, LateRoom, Looked}
+use Rattle.symbol.specs.Asked.{Asked, Prepared, superMissing, ownFault, keyFault}
+use Rattle.symbol.specs.Entered.{Entered}
+use Rattle.symbol.specs.Front.{headOf}
+use Rattle.symbol.specs.Index.{rootAt, firstAt, childAt, nextAt}
+use Rattle.symbol.specs.Join.{EntryIs, KeyAsked, JoinAsked, joined}
+use Rattle.symbol.specs.Refused.{hasKey, lastKind, recordFault, faultFrom, tableFault}
 use Rattle.symbol.specs.Table.{Record, recordsOf, countOf, nameCount}
-use Rattle.symbol.specs.Walk.{At, StepIs, recordAt, before, behind}
+use Rattle.symbol.specs.Tree.{Tree}
+use Rattle.symbol.specs.Walk.{At, StepIs, Stands, recordAt, before, behind}
 use Rattle.symbol.specs.declared.checks.Checked.{Checked}
+use Rattle.symbol.specs.declared.checks.Entry.{Entry}
 use Rattle.symbol.specs.declared.front.Head.{Head}
 use Rattle.symbol.specs.declared.walk.Cursor.{Cursor}
 use Rattle.symbol.specs.declared.walk.Step.{Step}
@@ -43,7 +51,7 @@ count-split k (suc n) rs h =
     omega arith
 
 -- ---- the pass
-pub record Going (t x : List ℕ) (c : Cursor) (k n : ℕ) : Type 0 where
+pub record Going (t x late : List ℕ) (c : Cursor) (k n : ℕ) (looked : Bool) : Type 0 where
   pub at : At t c
   pub fault : tableFault t ≡ faultFrom (before (c .index) (recordsOf t)) (recordsOf (drop (c .at) t))
   pub kind : k ≡ lastKind (before (c .index) (recordsOf t))
@@ -51,8 +59,11 @@ pub record Going (t x : List ℕ) (c : Cursor) (k n : ℕ) : Type 0 where
   pub few : n ≤ c .index
   pub entered : Entered t x (c .at)
   pub lasts : Lasts t x (c .at)
+  pub tree : Tree t x (c .at)
+  pub ahead : Looked t late (c .at) looked
+  pub long : lateSize (length t) ≤ length late
 
-module _ (t x : List ℕ) (c : Cursor) (k n : ℕ) (g : Going t x c k n) where
+module _ (t x late : List ℕ) (c : Cursor) (k n : ℕ) (looked : Bool) (g : Going t x late c k n looked) where
   -- at the end
   module _ (end : length t ≤ c .at) where
     rest : recordsOf (drop (c .at) t) ≡ []
@@ -75,6 +86,13 @@ module _ (t x : List ℕ) (c : Cursor) (k n : ℕ) (g : Going t x c k n) where
     pub going-room : 0 < length x
     going-room = omega (arith, g .lasts .long)
 
+    whole-tree : Tree t (set x 0 n) (length t)
+    whole-tree =
+        let e : c .at ≡ length t = omega (arith, g .at .inside) in
+        subst (λ (i : ℕ). Tree t (set x 0 n) i) e
+        (tree-same t x (set x 0 n) (c .at) (g .tree) (λ b l. getD-set-other x 0 (rootAt b) n 0 (λ z. omega arith))
+        (λ p w i l. getD-set-other x 0 (childAt (length t) p i) n 0 (λ z. omega arith)))
+
     pub going-accepted : (y : List ℕ) → y ≡ set x 0 n → Accepted t y
     going-accepted y e =
         subst (λ (z : List ℕ). Accepted t z) (sym e)
@@ -83,85 +101,136 @@ module _ (t x : List ℕ) (c : Cursor) (k n : ℕ) (g : Going t x c k n) where
           indexed =
               record {
                 names = getD-set-same x 0 n 0 going-room ∙ all-names;
-                first = λ b low. getD-set-other x 0 (firstAt b) n 0 (λ z. omega arith) ∙ first-done t x (c .at) (g .entered) end b low;
-                next = λ p w h. getD-set-other x 0 (nextAt (length t) p) n 0 (λ z. omega arith) ∙ next-done t x (c .at) (g .entered) end p w h;
+                first = λ b low. getD-set-other x 0 (firstAt (length t) b) n 0 (λ z. omega arith) ∙ first-done t x (c .at) (g .entered) end b low;
+                next = λ p w h f. getD-set-other x 0 (nextAt (length t) p) n 0 (λ z. omega arith) ∙ next-done t x (c .at) (g .entered) end p w h f;
+                tree = whole-tree;
               };
         })
 
-  -- what the check of a record is told
-  pub going-asked : length t ≤ 60000 → (p : Step) → StepIs t c p → c .at < length t → (b : ℕ) → b ≡ bucketIn (length t) (recordAt t c) → Asked t x c (p .head) b k n
-  going-asked h p st some b is =
-      record {
-        prepared = record { short = h; stands = record { at = g .at; some = some; head = st .head }; entered = g .entered; bucket = is };
-        kind = g .kind;
-        names = g .names;
-      }
-
-  -- what the entry of a record is told
-  pub going-entry : length t ≤ 60000 → c .at < length t → (b : ℕ) → b < bucketCount (length t) → EntryAsked x (length t) b (c .at)
-  going-entry h some b low =
-      record { long = g .lasts .long; short = h; bucket = low; place = some; last = bounded (getD x (lastAt (length t) b) 0) refl }
-    where
-      bounded : (v : ℕ) → getD x (lastAt (length t) b) 0 ≡ v → v ≤ length t
-      bounded zero z = omega arith
-      bounded (suc q) z = omega (arith, g .lasts .here b q low z .0)
-
   -- at a record
-  module _ (p : Step) (st : StepIs t c p) (f : ℕ)
-      (fault : f ≡ recordFault (before (c .index) (recordsOf t)) (recordAt t c) (recordsOf (drop (c .at) t))) where
-    here : recordFault (before (c .index) (recordsOf t)) (recordAt t c) (recordAt t c ∷ recordsOf (drop (p .next .at) t)) ≡ f
-    here = sym (fault ∙ ap (recordFault (before (c .index) (recordsOf t)) (recordAt t c)) (here-cons t c (g .at) p st))
+  module _ (p : Step) (st : StepIs t c p) (some : c .at < length t) where
+    stands : Stands t c (p .head)
+    stands = record { at = g .at; some = some; head = st .head }
 
-    onward : tableFault t ≡ faultFrom (before (c .index) (recordsOf t)) (recordAt t c ∷ recordsOf (drop (p .next .at) t))
-    onward = g .fault ∙ ap (faultFrom (before (c .index) (recordsOf t))) (here-cons t c (g .at) p st)
+    -- what the check of a record by itself is told
+    pub going-asked : Asked t c (p .head) k n
+    going-asked = record { stands = stands; kind = g .kind; names = g .names }
 
-    pub going-refused : (f ≡ 0 → ⊥) → refusal f ≡ checkedOf t
-    going-refused h = refused t f (onward ∙ fault-stop _ _ _ (λ z. h (sym here ∙ z)) ∙ here) h
+    -- a number
+    module _ (f : ℕ) (fault : f ≡ recordFault (before (c .index) (recordsOf t)) (recordAt t c) (recordsOf (drop (c .at) t))) where
+      here : recordFault (before (c .index) (recordsOf t)) (recordAt t c) (recordAt t c ∷ recordsOf (drop (p .next .at) t)) ≡ f
+      here = sym (fault ∙ ap (recordFault (before (c .index) (recordsOf t)) (recordAt t c)) (here-cons t c (g .at) p st))
 
-    pub going-stopped : (f ≡ 0 → ⊥) → tableFault t ≡ 0 → ⊥
-    going-stopped h e = h (sym (onward ∙ fault-stop _ _ _ (λ z. h (sym here ∙ z)) ∙ here) ∙ e)
+      onward : tableFault t ≡ faultFrom (before (c .index) (recordsOf t)) (recordAt t c ∷ recordsOf (drop (p .next .at) t))
+      onward = g .fault ∙ ap (faultFrom (before (c .index) (recordsOf t))) (here-cons t c (g .at) p st)
 
-    module _ (zero : f ≡ 0) where
-      next-fault : tableFault t ≡ faultFrom (before (p .next .index) (recordsOf t)) (recordsOf (drop (p .next .at) t))
-      next-fault = onward ∙ fault-on _ _ _ (here ∙ zero) ∙ rw (before-next t c (g .at) p st)
+      stopped : (f ≡ 0 → ⊥) → tableFault t ≡ f
+      stopped h = onward ∙ fault-stop _ _ _ (λ z. h (sym here ∙ z)) ∙ here
 
-      next-kind : p .head .kind ≡ lastKind (before (p .next .index) (recordsOf t))
-      next-kind = ap (λ (h : Head). h .kind) (st .own) ∙ rw (before-next t c (g .at) p st)
+      next-fault : f ≡ 0 → tableFault t ≡ faultFrom (before (p .next .index) (recordsOf t)) (recordsOf (drop (p .next .at) t))
+      next-fault z = onward ∙ fault-on _ _ _ (here ∙ z) ∙ rw (before-next t c (g .at) p st)
 
-      next-names : (m : ℕ) → m ≡ choose (eqb (p .head .kind) 1) 1 0 → n + m ≡ nameCount (before (p .next .index) (recordsOf t))
-      unfolding countOf
-      next-names m e =
-          let q : nameCount (before (p .next .index) (recordsOf t)) ≡ choose (eqb (headOf (recordAt t c) .kind) 1) 1 0 + nameCount (before (c .index) (recordsOf t))
-          = ap (countOf 1) (before-next t c (g .at) p st) in
-          let o : choose (eqb (headOf (recordAt t c) .kind) 1) 1 0 ≡ m = sym (e ∙ ap (λ (h : Head). choose (eqb (h .kind) 1) 1 0) (st .own)) in
-          omega (arith, g .names)
+    -- by the record itself
+    module _ (f : ℕ) (own : f ≡ ownFault (before (c .index) (recordsOf t)) (recordAt t c)) where
+      own-fault : (f ≡ 0 → ⊥) → tableFault t ≡ f
+      own-fault h =
+          stopped f (own ∙ sym (own-number (before (c .index) (recordsOf t)) (recordAt t c) (recordsOf (drop (c .at) t)) (λ z. h (own ∙ z)))) h
 
-      whole : headOf (drop (c .at) t) .malformed ≡ false
-      whole = ap (λ (h : Head). h .malformed) (sym (st .head) ∙ st .own) ∙ clean-record _ _ _ (here ∙ zero) .whole
+      pub own-refused : (f ≡ 0 → ⊥) → refusal f ≡ checkedOf t
+      own-refused h = refused t f (own-fault h) h
 
-      is-behind : p .next .at ≡ behind t (c .at)
-      is-behind = st .next ∙ ap (λ (h : Head). c .at + h .len) (st .head)
+      pub own-stopped : (f ≡ 0 → ⊥) → tableFault t ≡ 0 → ⊥
+      own-stopped h e = h (sym (own-fault h) ∙ e)
 
-      pub going-next : c .at < length t → (b : ℕ) → b ≡ bucketIn (length t) (recordAt t c) → (y : List ℕ) → y ≡ entered (length t) b (c .at) x
-          → (m : ℕ) → m ≡ choose (eqb (p .head .kind) 1) 1 0 → m ≤ 1 → Going t y (p .next) (p .head .kind) (n + m)
-      going-next some b is y q m e l =
-          let z : y ≡ entered (length t) (bucketIn (length t) (recordAt t c)) (c .at) x = q ∙ ap (λ (i : ℕ). entered (length t) i (c .at) x) is in
-          record {
-            at = at-next t c (g .at) p st;
-            fault = next-fault;
-            kind = next-kind;
-            names = next-names m e;
-            few = omega (arith, g .few, st .index);
-            entered = rw (z, is-behind) (entered-next t x (c .at) (g .entered) (g .lasts) some whole);
-            lasts = rw (z, is-behind) (lasts-next t x (c .at) (g .entered) (g .lasts) some whole);
-          }
+      module _ (zero : f ≡ 0) where
+        own-none : (headOf (recordAt t c) .malformed ≡ false) × (idDefined (headOf (recordAt t c) .top) (nameCount (before (c .index) (recordsOf t))) ≡ true)
+        own-none = own-clean (before (c .index) (recordsOf t)) (recordAt t c) (recordsOf (drop (c .at) t)) (sym own ∙ zero)
+
+        whole : p .head .malformed ≡ false
+        whole = ap (λ (h : Head). h .malformed) (st .own) ∙ own-none .0
+
+        pub going-prepared : length t ≤ 60000 → Prepared t x c (p .head)
+        going-prepared h =
+            record { stands = stands; whole = whole; planted = record { short = h; entered = g .entered; tree = g .tree } }
+
+        -- beside the others
+        module _ (late′ : List ℕ) (more : length late′ ≡ length late) (looked′ missing : Bool) (look : Looked t late′ (c .at) looked′) (seen : missing ≡ true → looked′ ≡ true)
+            (is : missing ≡ superMissing (before (c .index) (recordsOf t)) (recordAt t c)) (e : Entry) (entry : EntryIs t x c e) where
+          pub going-key : KeyAsked t late′ c (p .head) e missing
+          going-key =
+              record {
+                stands = stands;
+                key = entry .key;
+                is = is;
+                ahead = λ z. subst (λ (b : Bool). Looked t late′ (c .at) b) (seen z) look;
+                low = λ z. low z;
+              }
+            where
+              low : missing ≡ true → p .head .two < length late′
+              low z =
+                  let m = missing-class (before (c .index) (recordsOf t)) (recordAt t c) (sym is ∙ z) in
+                  let d = super-defined t c (p .head) stands (ap (λ (h : Head). h .kind) (st .own) ∙ m .0) (λ y. m .1 (sym (ap (λ (h : Head). h .two) (st .own)) ∙ y))
+                  (nameCount (before (c .index) (recordsOf t))) (ap (λ (h : Head). idDefined (h .top) (nameCount (before (c .index) (recordsOf t)))) (st .own) ∙ own-none .1) in
+                  omega (arith, id-low t c (g .at) (p .head .two) d, g .long, more)
+
+          module _ (f₂ : ℕ) (key : f₂ ≡ keyFault (before (c .index) (recordsOf t)) (recordAt t c) (recordsOf (drop (c .at) t))) where
+            both : f₂ ≡ recordFault (before (c .index) (recordsOf t)) (recordAt t c) (recordsOf (drop (c .at) t))
+            both = key ∙ sym (key-number (before (c .index) (recordsOf t)) (recordAt t c) (recordsOf (drop (c .at) t)) (sym own ∙ zero))
+
+            pub key-refused : (f₂ ≡ 0 → ⊥) → refusal f₂ ≡ checkedOf t
+            key-refused h = refused t f₂ (stopped f₂ both h) h
+
+            pub key-stopped : (f₂ ≡ 0 → ⊥) → tableFault t ≡ 0 → ⊥
+            key-stopped h z = h (sym (stopped f₂ both h) ∙ z)
+
+            module _ (zero₂ : f₂ ≡ 0) where
+              fresh : hasKey (recordAt t c) (before (c .index) (recordsOf t)) ≡ false
+              fresh = key-clean (before (c .index) (recordsOf t)) (recordAt t c) (recordsOf (drop (c .at) t)) (sym key ∙ zero₂)
+
+              joins : Joining t x (c .at) e
+              joins =
+                  joining t x c (p .head) stands (g .entered) (g .lasts) (g .tree)
+                  (sym (ap (λ (h : Head). h .malformed) (st .head)) ∙ whole) e (entry .key ∙ fresh) (entry .place)
+
+              pub going-join : length t ≤ 60000 → JoinAsked x (length t) (c .at) e
+              going-join h = joins .asked h
+
+              next-kind : p .head .kind ≡ lastKind (before (p .next .index) (recordsOf t))
+              next-kind = ap (λ (h : Head). h .kind) (st .own) ∙ rw (before-next t c (g .at) p st)
+
+              next-names : (m : ℕ) → m ≡ choose (eqb (p .head .kind) 1) 1 0 → n + m ≡ nameCount (before (p .next .index) (recordsOf t))
+              unfolding countOf
+              next-names m z =
+                  let q : nameCount (before (p .next .index) (recordsOf t)) ≡ choose (eqb (headOf (recordAt t c) .kind) 1) 1 0 + nameCount (before (c .index) (recordsOf t))
+                  = ap (countOf 1) (before-next t c (g .at) p st) in
+                  let o : choose (eqb (headOf (recordAt t c) .kind) 1) 1 0 ≡ m = sym (z ∙ ap (λ (h : Head). choose (eqb (h .kind) 1) 1 0) (st .own)) in
+                  omega (arith, g .names)
+
+              is-behind : p .next .at ≡ behind t (c .at)
+              is-behind = st .next ∙ ap (λ (h : Head). c .at + h .len) (st .head)
+
+              pub going-next : (y : List ℕ) → y ≡ joined (length t) (c .at) e x → (m : ℕ) → m ≡ choose (eqb (p .head .kind) 1) 1 0 → m ≤ 1
+                  → Going t y late′ (p .next) (p .head .kind) (n + m) looked′
+              going-next y q m z l =
+                  record {
+                    at = at-next t c (g .at) p st;
+                    fault = next-fault f₂ both zero₂;
+                    kind = next-kind;
+                    names = next-names m z;
+                    few = omega (arith, g .few, st .index);
+                    entered = rw (q, is-behind) (joins .entered);
+                    lasts = rw (q, is-behind) (joins .lasts);
+                    tree = rw (q, is-behind) (joins .tree);
+                    ahead = looked-on t late′ (c .at) (p .next .at) (omega (arith, st .low)) looked′ look;
+                    long = omega (arith, g .long, more);
+                  }
 
 -- at the start
-pub going-start : (t x : List ℕ) (c : Cursor) → length t ≤ 60000 → c ≡ start → IndexRoom t x → Going t x c 0 0
+pub going-start : (t x late : List ℕ) (c : Cursor) → length t ≤ 60000 → c ≡ start → IndexRoom t x → LateRoom t late → Going t x late c 0 0 false
 unfolding before countOf
-going-start t x c h e r = subst (λ (z : Cursor). Going t x z 0 0) (sym e) first
+going-start t x late c h e r l = subst (λ (z : Cursor). Going t x late z 0 0 false) (sym e) first
   where
-    first : Going t x start 0 0
+    first : Going t x late start 0 0 false
     first =
         record {
           at = at-new t start refl;
@@ -171,4 +240,7 @@ going-start t x c h e r = subst (λ (z : Cursor). Going t x z 0 0) (sym e) first
           few = omega arith;
           entered = entered-start t x (r .blank) (r .long h);
           lasts = lasts-start t x (r .blank) (r .long h);
+          tree = tree-start t x (r .blank);
+          ahead = l .blank;
+          long = l .long;
         }

@@ -1,6 +1,6 @@
--- Buckets of keys, by which the check of a table finds quickly whether a key was met before, and the lookups find a key's records. Records with one key have
--- one bucket; nothing but speed depends on which it is.
-use Prim.Native.Nat.{ℕ, zero, suc, _+_, _*_, _%_}
+-- Buckets and digits of keys, by which the check of a table finds quickly whether a key was met before, and the lookups find a key's records. Records with one key
+-- have one bucket and the same digits; nothing but speed depends on which they are.
+use Prim.Native.Nat.{ℕ, zero, suc, _+_, _*_, _/_, _%_, _^_}
 use mathlib.Core.List.{List}
 use lib.ListN.{getD}
 use lib.Dec.{ltb, eqb}
@@ -29,3 +29,13 @@ keyBucket kind one two = choose (ltb kind 4) one ((one * 509 + two) % 65536)
 
 unfoldable pub bucketOf : Record → ℕ
 bucketOf r = choose (eqb (headOf r .kind) 1) (hashOf 24 (nameBytes r)) (keyBucket (headOf r .kind) (headOf r .one) (headOf r .two))
+
+-- which way a search goes behind d records, 0 or 1: of a name the lowest bits of its bytes, then the next ones; of other records the bits of the ids
+unfoldable pub nameDigit : List ℕ → ℕ → ℕ
+nameDigit name d = getD name (d % 24) 0 / 2 ^ (d / 24 % 8) % 2
+
+unfoldable pub keyDigit : ℕ → ℕ → ℕ → ℕ → ℕ
+keyDigit kind one two d = (one + 65536 * choose (ltb kind 4) 0 two) / 2 ^ (d % 32) % 2
+
+unfoldable pub digitOf : Record → ℕ → ℕ
+digitOf r = choose (eqb (headOf r .kind) 1) (nameDigit (nameBytes r)) (keyDigit (headOf r .kind) (headOf r .one) (headOf r .two))

@@ -7,10 +7,15 @@ pub mod Bucket
 pub mod Lookup
 pub mod Subclass
 pub mod Walk
+pub mod Ahead
 pub mod Index
+pub mod Tree
 pub mod Searched
 pub mod Entered
 pub mod Accepted
 pub mod Asked
+pub mod Key
+pub mod Spot
+pub mod Join
 pub mod Answer
 pub mod Row

@@ -1,5 +1,6 @@
 -- The table's cursor.
 use Prim.Native.Nat.{ℕ, zero, suc, _+_, _≤_, _<_}
+use mathlib.Core.Bool.{false}
 use mathlib.Core.Path.{_≡_}
 use mathlib.Core.List.{List, [], _∷_}
 use lib.ListN.{length, getD, drop}
@@ -35,6 +36,12 @@ pub record At (t : List ℕ) (c : Cursor) : Type 0 where
 pub record Sits (t : List ℕ) (p : ℕ) : Type 0 where
   pub index : ℕ
   pub at : At t (record { at = p; index = index })
+
+-- a whole record begins at byte p
+pub record Begun (t : List ℕ) (p : ℕ) : Type 0 where
+  pub sits : Sits t p
+  pub some : p < length t
+  pub whole : headOf (drop p t) .malformed ≡ false
 
 -- the byte behind the record that begins at byte p
 abbrev pub behind : List ℕ → ℕ → ℕ

@@ -6,7 +6,7 @@ use ty::byte_at;
 use ty::read::read_type;
 use ty::tail;
 ghost use mathlib.Core.Path.{_≡_};
-ghost use Prim.Native.Nat.{_≤_, _<_, max};
+ghost use Prim.Native.Nat.{_<_, max};
 ghost use lib.ListN.{length};
 ghost use Rattle.ty.specs.Bytes.{idAt};
 ghost use Rattle.symbol.specs.Front.{brokenHead, plainHead, orNone, goodByte, goodBytes, nameHead, classHead, operatorsHead, fieldWith, fieldHead, visibilityHead, suspendHead, variantHead, headBy};

@@ -3,10 +3,13 @@ use crate::front::id_at;
 use crate::front::read_record;
 use crate::index::Found;
 use crate::index::Place;
+use crate::index::bucket_count;
+use crate::index::child_at;
 use crate::index::entry_at;
-use crate::index::follow;
-use crate::index::next_at;
-use crate::index::seek;
+use crate::index::key_bucket;
+use crate::index::list_reduced;
+use crate::list::follow;
+use crate::tree::seek;
 use ty::NameId;
 use ty::byte_at;
 use ty::tail;
@@ -140,7 +143,9 @@ pub fn first_function(t: &[u8], x: &[u16], owner: u16, name: u16) -> Found
     requires { ⌜ Accepted (now t) (now x) ⌝ }
     ensures { λ r. ⌜ FunctionFound (now (t .entry)) (symbolsOf (now (t .entry)) .functionsOf owner name) r ⌝ }
 {
-    seek(t, x, 4, owner, name)
+    let b = list_reduced(key_bucket(4, owner, name), t.len());
+    let v = entry_at(x, 1 + 2 * bucket_count(t.len()) + b);
+    follow(t, x, v, owner, name)
 }
 
 // The next function behind that at p with its owner and name.
@@ -148,8 +153,8 @@ pub fn next_function(t: &[u8], x: &[u16], p: Place) -> Found
     requires { ⌜ Accepted (now t) (now x) × FunctionAt (now t) p ⌝ }
     ensures { λ r. ⌜ FunctionFound (now (t .entry)) (functionsBehind (now (t .entry)) p) r ⌝ }
 {
-    let v = entry_at(x, next_at(t.len(), p.at));
-    follow(t, x, v, 4, id_at(t, p.at + 1), id_at(t, p.at + 3))
+    let v = entry_at(x, child_at(t.len(), p.at, 0));
+    follow(t, x, v, id_at(t, p.at + 1), id_at(t, p.at + 3))
 }
 
 // Whether a name is one capital letter. The names are the table's first records, of 26 bytes each.

@@ -10,7 +10,7 @@ use ty::byte_at;
 use ty::read::read_type;
 use ty::tail;
 ghost use mathlib.Core.Path.{_≡_};
-ghost use Prim.Native.Nat.{_+_, _≤_, _<_, max};
+ghost use Prim.Native.Nat.{_+_, _≤_, _<_};
 ghost use lib.ListN.{length, getD};
 ghost use Rattle.symbol.specs.Front.{among as amongOf, stopped, paramRead, paramWith, paramStep, resultRead, resultWith, firstReading, paramsRead, functionRead, functionWith, functionHead};
 ghost use Rattle.symbol.specs.Walk.{EndsIn};

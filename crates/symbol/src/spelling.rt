@@ -2,7 +2,7 @@
 use ty::byte_at;
 use ty::same_bytes;
 ghost use mathlib.Core.Path.{_≡_};
-ghost use Prim.Native.Nat.{_≤_, _*_};
+ghost use Prim.Native.Nat.{_*_};
 ghost use lib.ListN.{length};
 ghost use Rattle.symbol.specs.Spelling.{builtinNames, rowsOf, spelled, mixOf, hasBit, mayBeBuiltin};
 

@@ -1,5 +1,5 @@
-use Prim.Native.Nat.{ℕ}
 use borrow.Author.Needs.{needs}
+use Prim.Native.Nat.{ℕ}
 use lib.ListN.{length-replicate}
 use Rattle.judge.proofs.Spaces.{space-few}
 use Rattle.judge.proofs.judge_few.Statement.{statement}
@@ -12,10 +12,13 @@ slice-aggregate-judge-in-2 : tie.Need-slice-aggregate-judge-in-2
 slice-aggregate-judge-in-2 c = search needs
 
 judge-in-requires : tie.Need-judge-in-requires
-judge-in-requires c κs = (space-few _ _ _ (c .before .before .before .before .before .before .before .pre .1) (length-replicate {A = ℕ} 2048 0) (length-replicate {A = ℕ} 8 0), (c .before .before .before .before .before .before .before .pre .0))
+judge-in-requires c κs = (space-few _ _ _ (c .before .before .before .before .before .before .before .before .before .pre .1) (length-replicate {A = ℕ} 2048 0) (length-replicate {A = ℕ} 8 0), (c .before .before .before .before .before .before .before .before .before .pre .0))
 
 same-length : tie.Need-same-length
 same-length c = search needs
+
+same-length-2 : tie.Need-same-length-2
+same-length-2 c = search needs
 
 returns : tie.Need-returns
 returns c = search needs
@@ -28,4 +31,5 @@ judge-few-spec =
     slice-aggregate-judge-in-2
     judge-in-requires
     same-length
+    same-length-2
     returns)

@@ -1,5 +1,5 @@
-use Prim.Native.Nat.{ℕ}
 use borrow.Author.Needs.{needs}
+use Prim.Native.Nat.{ℕ}
 use lib.ListN.{length-replicate}
 use Rattle.judge.proofs.Spaces.{space-many}
 use Rattle.judge.proofs.judge_many.Statement.{statement}
@@ -12,10 +12,13 @@ slice-aggregate-judge-in-2 : tie.Need-slice-aggregate-judge-in-2
 slice-aggregate-judge-in-2 c = search needs
 
 judge-in-requires : tie.Need-judge-in-requires
-judge-in-requires c κs = (space-many _ _ _ (length-replicate {A = ℕ} 16384 0) (length-replicate {A = ℕ} 64 0), (c .before .before .before .before .before .before .before .pre))
+judge-in-requires c κs = (space-many _ _ _ (length-replicate {A = ℕ} 16384 0) (length-replicate {A = ℕ} 64 0), (c .before .before .before .before .before .before .before .before .before .pre))
 
 same-length : tie.Need-same-length
 same-length c = search needs
+
+same-length-2 : tie.Need-same-length-2
+same-length-2 c = search needs
 
 returns : tie.Need-returns
 returns c = search needs
@@ -28,4 +31,5 @@ judge-many-spec =
     slice-aggregate-judge-in-2
     judge-in-requires
     same-length
+    same-length-2
     returns)

@@ -5,7 +5,7 @@ use Rattle.symbol.proofs.lookups.is_variant.Tie as tie
 use Rattle.symbol.specs.Lookup.{symbolsIn}
 
 seek-requires : tie.Need-seek-requires
-seek-requires c κs = ((c .before .before .pre), omega arith)
+seek-requires c κs = ((c .before .before .pre), record { low = omega arith; other = λ e. omega arith })
 
 enum-told : tie.Need-enum-told
 enum-told c = search needs

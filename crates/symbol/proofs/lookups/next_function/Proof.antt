@@ -7,8 +7,8 @@ use Rattle.symbol.proofs.Lists.{functions-next}
 use Rattle.symbol.proofs.lookups.next_function.Statement.{statement}
 use Rattle.symbol.proofs.lookups.next_function.Tie as tie
 
-next-at-requires : tie.Need-next-at-requires
-next-at-requires c κs = search needs
+child-at-requires : tie.Need-child-at-requires
+child-at-requires c κs = omega arith
 
 entry-at-requires : tie.Need-entry-at-requires
 entry-at-requires c κs = search needs
@@ -26,12 +26,12 @@ id-at-requires-2 : tie.Need-id-at-requires-2
 id-at-requires-2 c κs = search needs
 
 follow-requires : tie.Need-follow-requires
-follow-requires c κs = ((c .before .before .before .before .before .before .before .before .pre .0), next-first (c .before .before .before .before .before .before .before .before .args .t .now) (c .before .before .before .before .before .before .before .before .args .x .now) (c .before .before .before .before .before .before .before .before .pre .0) (c .before .before .before .before .before .before .before .before .args .p) (c .before .before .before .before .before .before .before .before .pre .1) (c .before .before .id-at .result) (c .id-at2 .result) (c .before .before .id-at .ensures) (c .id-at2 .ensures) (c .before .before .before .before .entry-at .result) ((c .before .before .before .before .entry-at .ensures) ∙ rw (c .before .before .before .before .before .next-at .ensures)))
+follow-requires c κs = ((c .before .before .before .before .before .before .before .before .pre .0), next-first (c .before .before .before .before .before .before .before .before .args .t .now) (c .before .before .before .before .before .before .before .before .args .x .now) (c .before .before .before .before .before .before .before .before .pre .0) (c .before .before .before .before .before .before .before .before .args .p) (c .before .before .before .before .before .before .before .before .pre .1) (c .before .before .id-at .result) (c .id-at2 .result) (c .before .before .id-at .ensures) (c .id-at2 .ensures) (c .before .before .before .before .entry-at .result) ((c .before .before .before .before .entry-at .ensures) ∙ rw (c .before .before .before .before .before .child-at .ensures)))
 
 returns : tie.Need-returns
-returns c = functions-next (c .before .before .before .before .before .before .before .before .before .args .t .now) (c .before .before .before .before .before .before .before .before .before .args .x .now) (c .before .before .before .before .before .before .before .before .before .pre .0) (c .before .before .before .before .before .before .before .before .before .args .p) (c .before .before .before .before .before .before .before .before .before .pre .1) (c .before .before .before .id-at .result) (c .before .id-at2 .result) (c .before .before .before .id-at .ensures) (c .before .id-at2 .ensures) (c .before .before .before .before .before .entry-at .result) ((c .before .before .before .before .before .entry-at .ensures) ∙ rw (c .before .before .before .before .before .before .next-at .ensures)) (c .follow .result) (c .follow .ensures)
+returns c = functions-next (c .before .before .before .before .before .before .before .before .before .args .t .now) (c .before .before .before .before .before .before .before .before .before .args .x .now) (c .before .before .before .before .before .before .before .before .before .pre .0) (c .before .before .before .before .before .before .before .before .before .args .p) (c .before .before .before .before .before .before .before .before .before .pre .1) (c .before .before .before .id-at .result) (c .before .id-at2 .result) (c .before .before .before .id-at .ensures) (c .before .id-at2 .ensures) (c .before .before .before .before .before .entry-at .result) ((c .before .before .before .before .before .entry-at .ensures) ∙ rw (c .before .before .before .before .before .before .child-at .ensures)) (c .follow .result) (c .follow .ensures)
 
 pub next-function-spec : {M : Type 1} → statement M
 next-function-spec =
     tie.close
-    (tie.spec next-at-requires entry-at-requires add-id-at id-at-requires add-id-at-2 id-at-requires-2 follow-requires returns)
+    (tie.spec child-at-requires entry-at-requires add-id-at id-at-requires add-id-at-2 id-at-requires-2 follow-requires returns)

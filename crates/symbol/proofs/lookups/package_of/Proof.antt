@@ -7,7 +7,7 @@ use Rattle.symbol.proofs.lookups.package_of.Tie as tie
 use Rattle.symbol.specs.Lookup.{symbolsIn}
 
 seek-requires : tie.Need-seek-requires
-seek-requires c κs = ((c .before .before .pre), omega arith)
+seek-requires c κs = ((c .before .before .pre), record { low = omega arith; other = λ e. omega arith })
 
 enum-known-f : tie.Need-enum-known-f
 enum-known-f c = search needs

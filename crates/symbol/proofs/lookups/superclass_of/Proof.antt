@@ -6,7 +6,7 @@ use Rattle.symbol.proofs.lookups.superclass_of.Statement.{statement}
 use Rattle.symbol.proofs.lookups.superclass_of.Tie as tie
 
 seek-requires : tie.Need-seek-requires
-seek-requires c κs = ((c .before .before .pre), omega arith)
+seek-requires c κs = ((c .before .before .pre), record { low = omega arith; other = λ e. omega arith })
 
 enum-known-f : tie.Need-enum-known-f
 enum-known-f c = search needs
