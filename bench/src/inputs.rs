@@ -1,9 +1,9 @@
 //! The inputs: tables by make and size, questions by node count and depth, inputs that are refused.
 
+use crate::collide;
 use oracle::bytes::*;
 use oracle::name::{BUILT_IN, NONE};
 use oracle::rng::Rng;
-use std::collections::BTreeMap;
 
 /// What a table is made of.
 #[derive(Debug, Clone, Copy, PartialEq, Eq)]
@@ -16,9 +16,15 @@ pub enum Make {
     /// Functions in lists of two.
     Few,
     /// Names that all have one bucket.
-    CollidingNames,
+    BucketNames,
+    /// Names of one bucket that agree in as many first digits as letters allow.
+    DeepNames,
     /// Fields, visibilities, suspend functions and variants whose owners and names share few buckets.
-    CollidingFields,
+    BucketFields,
+    /// Classes of all names, each with one superclass, which has no record.
+    Classes,
+    /// Functions that all have one bucket; questions call the last.
+    BucketFunctions,
 }
 
 impl Make {
@@ -29,20 +35,27 @@ impl Make {
             Make::Fields => "fields",
             Make::Many => "functions, many overloads",
             Make::Few => "functions, few overloads",
-            Make::CollidingNames => "colliding names",
-            Make::CollidingFields => "colliding fields",
+            Make::BucketNames => "names of one bucket",
+            Make::DeepNames => "names of one bucket and the same first digits",
+            Make::BucketFields => "fields of few buckets",
+            Make::Classes => "classes, superclass without a record",
+            Make::BucketFunctions => "functions of one bucket",
         }
     }
 }
 
 pub const MAKES: [Make; 4] = [Make::Names, Make::Fields, Make::Many, Make::Few];
-pub const ALL_MAKES: [Make; 6] =
-    [Make::Names, Make::Fields, Make::Many, Make::Few, Make::CollidingNames, Make::CollidingFields];
+/// Those with keys that are chosen against the index.
+pub const CHOSEN: [Make; 5] =
+    [Make::BucketNames, Make::DeepNames, Make::BucketFields, Make::Classes, Make::BucketFunctions];
 pub const SIZES: [usize; 3] = [2048, 16_384, 60_000];
 
 /// The first name of a table: the class and the function that questions use.
 const FIRST: u16 = BUILT_IN.len() as u16;
 const NAME_RECORD: usize = 26;
+const CLASS_RECORD: usize = 8;
+/// The bytes of a function with one parameter and types of one byte.
+const CALLED: usize = 13;
 
 /// A table that grows while it has room.
 struct Filler {
@@ -69,13 +82,21 @@ impl Filler {
     }
 
     fn names(&mut self, count: usize) -> u16 {
-        for i in 0..count {
+        self.spelled(&page_names(count))
+    }
+
+    fn spelled(&mut self, names: &[String]) -> u16 {
+        for name in names {
             self.put(|t| {
-                t.name(&format!("pageName{}", i));
+                t.name(name);
             });
         }
-        FIRST + count as u16
+        FIRST + names.len() as u16
     }
+}
+
+fn page_names(count: usize) -> Vec<String> {
+    (0..count).map(|i| format!("pageName{i}")).collect()
 }
 
 /// A table of at most `size` bytes; less than one record stays free.
@@ -89,8 +110,15 @@ pub fn table(make: Make, size: usize) -> Vec<u8> {
         Make::Fields => fields(&mut f, size),
         Make::Many => many(&mut f),
         Make::Few => few(&mut f),
-        Make::CollidingNames => colliding_names(&mut f),
-        Make::CollidingFields => colliding_fields(&mut f, size),
+        Make::BucketNames => {
+            f.spelled(&collide::bucket_names(size / NAME_RECORD));
+        }
+        Make::DeepNames => {
+            f.spelled(&collide::deep_names(size / NAME_RECORD));
+        }
+        Make::BucketFields => bucket_fields(&mut f, size),
+        Make::Classes => classes(&mut f, &page_names(named_classes(size))),
+        Make::BucketFunctions => bucket_functions(&mut f, size),
     }
     f.table.bytes()
 }
@@ -159,59 +187,10 @@ fn few(f: &mut Filler) {
     }
 }
 
-/// The weights of a name's first bytes in the check's hash (crates/symbol/specs/Bucket.antt).
-fn weights() -> [usize; 18] {
-    let mut weights = [173; 18];
-    for k in 1..weights.len() {
-        weights[k] = (weights[k - 1] * 463 + 7) % 32_749;
-    }
-    weights
-}
-
-/// Four rows of three letters, or more, that add the same to the hash where these are the weights.
-fn same_sums(weights: &[usize]) -> Vec<String> {
-    let letters = || ('A'..='Z').chain('a'..='z');
-    let mut sums: BTreeMap<usize, Vec<String>> = BTreeMap::new();
-    for (a, b, c) in letters().flat_map(|a| letters().flat_map(move |b| letters().map(move |c| (a, b, c)))) {
-        let sum = a as usize * weights[0] + b as usize * weights[1] + c as usize * weights[2];
-        sums.entry(sum % 65_536).or_default().push([a, b, c].iter().collect());
-    }
-    sums.into_values().find(|rows| rows.len() >= 4).unwrap()
-}
-
-/// 4096 names with one hash: six rows of three letters, each one of four.
-fn same_hashes() -> Vec<String> {
-    let rows: Vec<_> = weights().chunks(3).map(same_sums).collect();
-    (0..4096).map(|i| rows.iter().enumerate().map(|(k, row)| row[i >> (2 * k) & 3].as_str()).collect()).collect()
-}
-
-fn colliding_names(f: &mut Filler) {
-    for name in same_hashes() {
-        if !f.put(|t| {
-            t.name(&name);
-        }) {
-            break;
-        }
-    }
-}
-
-/// The bucket of two ids, as the check has it.
-fn bucket(owner: u16, name: u16) -> u16 {
-    owner.wrapping_mul(509).wrapping_add(name)
-}
-
-/// Three quarters of the bytes are names; the rest are records of kinds 5 to 8 from the fullest buckets on.
-fn colliding_fields(f: &mut Filler, size: usize) {
-    let ids = f.names(size * 3 / 4 / NAME_RECORD);
-    let mut buckets: BTreeMap<u16, Vec<(u16, u16)>> = BTreeMap::new();
-    for owner in 0..ids {
-        for name in 0..ids {
-            buckets.entry(bucket(owner, name)).or_default().push((owner, name));
-        }
-    }
-    let mut fullest: Vec<_> = buckets.into_values().collect();
-    fullest.sort_by_key(|pairs| usize::MAX - pairs.len());
-    for (owner, name) in fullest.into_iter().flatten() {
+/// Half of the bytes are names; the rest are records of kinds 5 to 8 from the fullest buckets on.
+fn bucket_fields(f: &mut Filler, size: usize) {
+    let ids = f.names(size / 2 / NAME_RECORD);
+    for (owner, name) in collide::pairs(ids) {
         let done = !f.put(|t| {
             t.field(owner, name, &[INT]);
             t.visibility(owner, name, 0);
@@ -224,12 +203,39 @@ fn colliding_fields(f: &mut Filler, size: usize) {
     }
 }
 
+/// How many names there are in a table in which each is a class, and so is each built-in name but one.
+fn named_classes(size: usize) -> usize {
+    (size - CLASS_RECORD * (BUILT_IN.len() - 1)) / (NAME_RECORD + CLASS_RECORD)
+}
+
+/// Every name is a class, but for the first built-in one, which is the superclass of all.
+fn classes(f: &mut Filler, names: &[String]) {
+    let ids = f.spelled(names);
+    for class in 1..ids {
+        f.put(|t| t.class(class, 0, NONE, true));
+    }
+}
+
+/// Half of the bytes are names; the rest are functions, and the one that questions call is the last.
+fn bucket_functions(f: &mut Filler, size: usize) {
+    let called = |t: &mut Table| t.plain(FIRST, &[INT], &[(20, 0, vec![INT])]);
+    let ids = f.names(size / 2 / NAME_RECORD);
+    f.left -= CALLED;
+    for (owner, name) in collide::listed_with(NONE, FIRST, ids).into_iter().cycle() {
+        if !f.put(|t| t.function(owner, name, 0, false, &[INT], &[])) {
+            break;
+        }
+    }
+    f.left += CALLED;
+    f.put(called);
+}
+
 /// What a question asks for under a table: two nodes.
 fn unit(make: Make) -> Bytes {
     match make {
-        Make::Nothing | Make::Names | Make::CollidingNames | Make::CollidingFields => unary(MINUS, &leaf(&[INT])),
         Make::Fields => member(FIRST, &leaf(&named(FIRST))),
-        Make::Many | Make::Few => call(FIRST, &[leaf(&[INT])]),
+        Make::Many | Make::Few | Make::BucketFunctions => call(FIRST, &[leaf(&[INT])]),
+        _ => unary(MINUS, &leaf(&[INT])),
     }
 }
 
@@ -317,8 +323,8 @@ pub fn refused() -> Vec<Refused> {
     add(5, "a repeated name behind names", tail(Make::Names, &name_again("pageName0")), int.clone());
     add(
         5,
-        "a repeated name behind colliding names",
-        tail(Make::CollidingNames, &name_again(&same_hashes()[0])),
+        "a repeated name behind names of one bucket and the same first digits",
+        tail(Make::DeepNames, &name_again(&collide::deep_names(1)[0])),
         int.clone(),
     );
     add(5, "a repeated field behind fields", tail(Make::Fields, &[5, 0, 0, 0, 0, 0]), int.clone());

@@ -4,13 +4,14 @@
 //!     cargo run --release -- --write    also writes docs/SPEED.md and docs/speed.svg
 //!     cargo run --release -- --quick    a short run, to see that it works
 
+mod collide;
 mod inputs;
 mod measure;
 mod plot;
 mod report;
 mod stack;
 
-use inputs::{Input, Make, ALL_MAKES};
+use inputs::{Input, Make, CHOSEN, MAKES};
 use measure::{judging, least, parts, same_answer, Effort, Times, BUFFER};
 use plot::{Panel, Series};
 use report::{Growth, NodeGrowth, RefusedRow, Report, Row};
@@ -43,7 +44,7 @@ fn growth(effort: Effort) -> Vec<Growth> {
         };
         Growth { make, steps: [1875, 3750, 7500, 15_000, 30_000, 60_000].map(step).to_vec() }
     };
-    ALL_MAKES.map(of).into_iter().collect()
+    MAKES.into_iter().chain(CHOSEN).map(of).collect()
 }
 
 fn nodes(effort: Effort) -> Vec<NodeGrowth> {

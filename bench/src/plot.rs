@@ -14,7 +14,8 @@ pub struct Panel {
     pub series: Vec<Series>,
 }
 
-const COLOURS: [&str; 6] = ["#1b6ca8", "#c0392b", "#1e8449", "#8e44ad", "#b9770e", "#34495e"];
+const COLOURS: [&str; 10] =
+    ["#1b6ca8", "#c0392b", "#1e8449", "#8e44ad", "#b9770e", "#34495e", "#17a589", "#e67e22", "#7f8c8d", "#d81b60"];
 const WIDTH: f64 = 430.0;
 const HEIGHT: f64 = 340.0;
 const LEFT: f64 = 60.0;
@@ -115,7 +116,8 @@ fn panel(out: &mut String, panel: &Panel, left: f64) {
 }
 
 pub fn svg(panels: &[Panel]) -> String {
-    let (width, height) = (PANEL * panels.len() as f64 + 10.0, TOP + HEIGHT + 200.0);
+    let lines = panels.iter().map(|panel| panel.series.len()).max().unwrap_or(0);
+    let (width, height) = (PANEL * panels.len() as f64 + 10.0, TOP + HEIGHT + 92.0 + 18.0 * lines as f64);
     let mut out = String::new();
     let _ = writeln!(
         out,

@@ -30,9 +30,9 @@ pub struct Growth {
 }
 
 impl Growth {
-    /// The largest factor between a table and one of twice its size.
-    pub fn worst(&self) -> f64 {
-        self.steps.windows(2).map(|pair| pair[1].1.whole / pair[0].1.whole).fold(0.0, f64::max)
+    /// The factors between a table and one of twice its size.
+    fn factors(&self) -> Vec<f64> {
+        self.steps.windows(2).map(|pair| pair[1].1.whole / pair[0].1.whole).collect()
     }
 }
 
@@ -91,9 +91,11 @@ fn bars(report: &Report) -> String {
     let bar = "the judgement alone, at most 3 times the Rust's methods where the table is empty";
     verdict(&mut out, bar, format!("at most {worst:.2}"), worst <= 3.0);
     for growth in &report.growth {
-        let worst = growth.worst();
+        let factors = growth.factors();
+        let worst = factors.iter().copied().fold(0.0, f64::max);
+        let last = factors.last().copied().unwrap_or(0.0);
         let bar = format!("twice the table, at most 2.3 times the time: {}", growth.make.words());
-        verdict(&mut out, &bar, format!("at most {worst:.2}"), worst <= 2.3);
+        verdict(&mut out, &bar, format!("at most {worst:.2}; {last:.2} for the longest"), worst <= 2.3);
     }
     out
 }
@@ -218,7 +220,13 @@ Times are in microseconds: the minimum of many runs, in which the parts take tur
 
 ![Time by table size and by nodes](speed.svg)
 
-With a question of 8 nodes. In the colliding tables all keys share one bucket of the check, or as few as ids allow.
+With a question of 8 nodes. The last five tables have keys chosen against the index (`bench/src/collide.rs`):
+
+- names of one bucket, otherwise random; then names of one bucket that agree in 150 of the 168 digits by which its tree
+  branches, so that each is searched behind 150 others once there are so many;
+- records of kinds 5 to 8 whose owners and names have as few buckets as ids allow, half of the bytes being names;
+- classes of all names, whose superclass has no record and is searched before each of them and ahead of it;
+- functions of one bucket, half of the bytes being names; the question calls the last function.
 
 {}
 By nodes:

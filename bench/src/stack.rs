@@ -19,7 +19,7 @@ fn deepest() -> Vec<(Vec<u8>, Vec<u8>)> {
         (table(Make::Many, 60_000), repeat(&[5, 40, 0, 1])),
         (table(Make::Few, 60_000), repeat(&[5, 40, 0, 1])),
         (table(Make::Few, 60_000), repeat(&[6, 40, 0, 0])),
-        (table(Make::CollidingFields, 60_000), repeat(&[3, 40, 0])),
+        (table(Make::BucketFields, 60_000), repeat(&[3, 40, 0])),
     ]
 }
 
