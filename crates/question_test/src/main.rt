@@ -127,8 +127,8 @@ fn ids() {
     );
 }
 
-// 64 nodes and a 65th.
-fn limits() {
+// 64 nodes, and a 65th.
+fn node_counts() {
     // 64 nodes
     check::expect(
         number(
@@ -161,6 +161,10 @@ fn limits() {
         )
             == 9,
     );
+}
+
+// Number 8 for a 65th node that is cut or malformed.
+fn last_nodes() {
     // a 65th that is cut
     check::expect(
         number(
@@ -184,5 +188,6 @@ fn main() {
     lengths();
     nodes();
     ids();
-    limits();
+    node_counts();
+    last_nodes();
 }

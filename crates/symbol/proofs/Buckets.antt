@@ -1,14 +1,15 @@
 -- How many buckets there are. Assumes nothing.
-use Prim.Native.Nat.{ℕ, _+_, _*_, _%_, _≤_, _<_}
+use Prim.Native.Nat.{ℕ, _+_, _-_, _*_, _/_, _%_, _^_, _≤_, _<_}
 use borrow.Author.Tests.{eqb-true, eq-eqb, ne-eqb, lt-ltb, le-ltb, ltb-true, ltb-false}
 use lib.Dec.{ltb, eqb}
+use lib.ListN.{getD}
 use mathlib.Core.Bool.{Bool, true, false, true≢false}
 use mathlib.Core.List.{List}
-use mathlib.Core.Path.{_≡_, refl, sym, _∙_}
+use mathlib.Core.Path.{_≡_, refl, sym, _∙_, subst}
 use native.Mathlib.Omega.{arith}
-use Rattle.symbol.specs.Bucket.{bucketOf, nameDigit, keyDigit, digitOf}
+use Rattle.symbol.specs.Bucket.{hashOf, digestOf, bucketOf, nameDigits, nameDigit, keyDigit, digitOf}
 use Rattle.symbol.specs.Front.{headOf}
-use Rattle.symbol.specs.Index.{bucketCount, listCount, treeIn, listIn}
+use Rattle.symbol.specs.Index.{bucketCount, listCount, treeIn, listIn, waysOf, waysIn}
 use Rattle.symbol.specs.Table.{Record}
 use Rattle.symbol.specs.Refused.{nameBytes}
 use Rattle.ty.proofs.Choice.{by-choice}
@@ -99,17 +100,65 @@ list-kind-of n r b l e = go (eqb (headOf r .kind) 4) refl
         absurd-at : headOf r .kind ≡ 4 → eqb (headOf r .kind) 4 ≡ false → ⊥
         absurd-at k z = true≢false (sym (eq-eqb _ _ k) ∙ z)
 
--- a digit is 0 or 1
-pub name-digit-low : (name : List ℕ) (d : ℕ) → nameDigit name d < 2
+-- the ways of the trees of names, and of the others
+pub ways-name : (n b : ℕ) → b < bucketCount n → waysIn n b ≡ 8
+unfolding waysIn choose
+ways-name n b l = rw (lt-ltb b (bucketCount n) l)
+
+pub ways-other : (n b : ℕ) → bucketCount n ≤ b → waysIn n b ≡ 2
+unfolding waysIn choose
+ways-other n b l = rw (le-ltb b (bucketCount n) l)
+
+pub ways-some : (k : ℕ) → 1 ≤ waysOf k
+unfolding waysOf
+ways-some k = by-choice (λ (w : ℕ). 1 ≤ w) (eqb k 1) (λ _. omega arith) (λ _. omega arith)
+
+-- a record's tree has its ways
+pub ways-tree : (n : ℕ) (r : Record) → waysOf (headOf r .kind) ≡ waysIn n (treeIn n r)
+unfolding treeIn waysOf choose
+ways-tree n r = go (eqb (headOf r .kind) 1)
+  where
+    go : (v : Bool) → choose v 8 2 ≡ waysIn n (choose v (bucketOf r % bucketCount n) (bucketCount n + bucketOf r % bucketCount n))
+    go true = sym (ways-name n _ (bucket-below (bucketOf r) n))
+    go false = sym (ways-other n _ (omega arith))
+
+-- the numbers that a name's digits are taken from
+pub digits-first : (name : List ℕ) (h d : ℕ) → h ≡ hashOf 24 name → d ≡ 0 → h / 4096 ≡ nameDigits name d
+unfolding nameDigits choose
+digits-first name h d e z = rw (eq-eqb d 0 z, e)
+
+pub digits-later : (name : List ℕ) (h d : ℕ) → h ≡ digestOf 9 name → (d ≡ 0 → ⊥) → h ≡ nameDigits name d
+unfolding nameDigits choose
+digits-later name h d e z = rw (ne-eqb d 0 z, e)
+
+pub digits-kept : (name : List ℕ) (d : ℕ) → (d ≡ 0 → ⊥) → (d ≡ 1 → ⊥) → nameDigits name (d - 1) ≡ nameDigits name d
+digits-kept name d z o = sym (digits-later name (digestOf 9 name) (d - 1) refl (λ e. o (omega arith))) ∙ digits-later name (digestOf 9 name) d refl z
+
+-- the digits of a name
+pub digit-mixed : (name : List ℕ) (h d : ℕ) → h ≡ nameDigits name d → d < 21 → h / 2 ^ (3 * d) % 8 ≡ nameDigit name d
+unfolding nameDigit choose
+digit-mixed name h d e l = rw (lt-ltb d 21 l, e)
+
+pub digit-own : (name : List ℕ) (b d : ℕ) → b ≡ getD name (d % 24) 0 → 21 ≤ d → b / 2 ^ (3 * (d / 24 % 3)) % 8 ≡ nameDigit name d
+unfolding nameDigit choose
+digit-own name b d e l = rw (le-ltb d 21 l, e)
+
+-- a digit is one of the ways
+pub name-digit-low : (name : List ℕ) (d : ℕ) → nameDigit name d < 8
 unfolding nameDigit
-name-digit-low name d = omega arith
+name-digit-low name d = by-choice (λ (v : ℕ). v < 8) (ltb d 21) (λ _. omega arith) (λ _. omega arith)
 
 pub key-digit-low : (k a b d : ℕ) → keyDigit k a b d < 2
 unfolding keyDigit
 key-digit-low k a b d = omega arith
 
-pub digit-low : (r : Record) (d : ℕ) → digitOf r d < 2
-unfolding digitOf
-digit-low r d =
-    by-choice (λ (f : ℕ → ℕ). f d < 2) (eqb (headOf r .kind) 1) (λ _. name-digit-low (nameBytes r) d)
-    (λ _. key-digit-low (headOf r .kind) (headOf r .one) (headOf r .two) d)
+pub digit-low : (r : Record) (d : ℕ) → digitOf r d < waysOf (headOf r .kind)
+unfolding digitOf waysOf choose
+digit-low r d = go (eqb (headOf r .kind) 1)
+  where
+    go : (v : Bool) → choose v (nameDigit (nameBytes r)) (keyDigit (headOf r .kind) (headOf r .one) (headOf r .two)) d < choose v 8 2
+    go true = name-digit-low (nameBytes r) d
+    go false = key-digit-low (headOf r .kind) (headOf r .one) (headOf r .two) d
+
+pub tree-digit-low : (n : ℕ) (r : Record) (d : ℕ) → digitOf r d < waysIn n (treeIn n r)
+tree-digit-low n r d = subst (λ (w : ℕ). digitOf r d < w) (ways-tree n r) (digit-low r d)

@@ -10,15 +10,16 @@ use mathlib.Core.Logic.{_⊎_, inl, inr, ⊎-elim}
 use mathlib.Core.Path.{_≡_, refl, sym, ap, _∙_, subst}
 use native.Mathlib.Omega.{arith, not-le}
 use Rattle.ty.specs.Choose.{choose}
-use Rattle.symbol.proofs.Buckets.{list-below, list-function, list-other}
+use Rattle.symbol.proofs.Buckets.{list-below, list-function, list-other, ways-some}
 use Rattle.symbol.proofs.Finds.{Reached, reach, list-kind, sits-cons, sits-own, sits-at, sits-next, sits-later, sits-length}
 use Rattle.symbol.proofs.Records.{at-start, records-joined, at-more}
-use Rattle.symbol.proofs.Sizes.{head-long}
+use Rattle.symbol.proofs.Sizes.{head-long, head-ways}
 use Rattle.symbol.specs.Bucket.{bucketOf}
 use Rattle.symbol.specs.Entered.{clipped, Entered, linkAt, entered}
 use Rattle.symbol.specs.Front.{headOf}
 use Rattle.symbol.specs.Index.{listCount, listIn, firstAt, lastAt, childAt, nextAt, nextIn, nextFrom, indexSize}
 use Rattle.symbol.specs.Table.{frontRecord, recordsOf, joined}
+use Rattle.symbol.specs.Tree.{waysAt}
 use Rattle.symbol.specs.Walk.{At, Sits, behind}
 use Rattle.symbol.specs.declared.front.Head.{Head}
 
@@ -54,7 +55,7 @@ behind-before t p q w v l =
 
 -- two records have entries of their own
 pub apart-of : (t : List ℕ) (p q : ℕ) → headOf (drop p t) .malformed ≡ false → Sits t p → headOf (drop q t) .malformed ≡ false → Sits t q → (p ≡ q → ⊥)
-    → (k : ℕ) → k < 2 → nextAt (length t) p ≡ childAt (length t) q k → ⊥
+    → (k : ℕ) → k < waysAt t q → nextAt (length t) p ≡ childAt (length t) q k → ⊥
 apart-of t p q m v n w d k l f = go (leb p q) refl
   where
     go : (u : Bool) → leb p q ≡ u → ⊥
@@ -63,7 +64,7 @@ apart-of t p q m v n w d k l f = go (leb p q) refl
         omega (arith, behind-before t p q v w i, head-long (drop p t) m)
     go false s =
         let i = leb-false p q s in
-        omega (arith, behind-before t q p w v i, head-long (drop q t) n)
+        omega (arith, behind-before t q p w v i, head-ways (drop q t) n, l)
 
 -- ---- the next record of a bucket
 module _ (t : List ℕ) (b p : ℕ) (w : Sits t p) where
@@ -223,7 +224,7 @@ module _ (t x : List ℕ) (e : ℕ) (g : Entered t x e) (l : Lasts t x e) (some 
 
   -- records before e, and the one at e, have entries of their own
   apart : (p q : ℕ) → Sits t p → Sits t q → headOf (drop p t) .malformed ≡ false → q < e → (p ≡ q → ⊥) → nextAt n p ≡ nextAt n q → ⊥
-  apart p q v w m b d f = apart-of t p q m v (g .whole q w b) w d 0 (omega arith) f
+  apart p q v w m b d f = apart-of t p q m v (g .whole q w b) w d 0 (ways-some (headOf (drop q t) .kind)) f
 
   -- a record before e′ that is not at e is before e
   before-e : (p : ℕ) → Sits t p → p < e′ → (p ≡ e → ⊥) → p < e

@@ -13,11 +13,11 @@ use Rattle.symbol.proofs.Trees.{Below, tree-function, tree-joined, spot
 use Rattle.symbol.specs.Bucket.{digitOf}
 use Rattle.symbol.specs.Entered.{Entered, entered}
 use Rattle.symbol.specs.Front.{headOf}
-use Rattle.symbol.specs.Index.{bucketCount, listCount, treeIn, listIn, rootAt, firstAt, lastAt, childAt, nextAt}
+use Rattle.symbol.specs.Index.{bucketCount, listCount, treeIn, listIn, rootAt, firstAt, lastAt, childAt, nextAt, waysIn}
 use Rattle.symbol.specs.Join.{takenOf, TreeIs, ListIs, PlaceIs, JoinAsked, joined}
 use Rattle.symbol.specs.Key.{treeFor, digitFor, keyOf}
 use Rattle.symbol.specs.Table.{frontRecord}
-use Rattle.symbol.specs.Tree.{placeOf, Led, Node, Tree}
+use Rattle.symbol.specs.Tree.{placeOf, Led, Node, waysAt, Tree}
 use Rattle.symbol.specs.Walk.{Sits, Stands, recordAt, behind}
 use Rattle.symbol.specs.declared.checks.Entry.{Entry}
 use Rattle.symbol.specs.declared.checks.Entry.the-variants as entry
@@ -54,7 +54,7 @@ module _ (t x : List ℕ) (c : Cursor) (h : Head) (st : Stands t c h) (g : Enter
     roots : (k : ℕ) → k < 2 * bucketCount (length t) → getD (entered (length t) (listIn (length t) (frontRecord (drop p t))) p x) (rootAt k) 0 ≡ getD x (rootAt k) 0
     roots k low = entered-kept t x p g l some whole (i .function) (rootAt k) (λ d. omega (arith, low)) (λ d. omega (arith, low)) (λ q v f k₂ d. omega (arith, low))
 
-    entries : (q : ℕ) → Node t p q → (k : ℕ) → k < 2
+    entries : (q : ℕ) → Node t p q → (k : ℕ) → k < waysAt t q
         → getD (entered (length t) (listIn (length t) (frontRecord (drop p t))) p x) (childAt (length t) q k) 0 ≡ getD x (childAt (length t) q k) 0
     entries q n k low =
         entered-kept t x p g l some whole (i .function) (childAt (length t) q k) (λ d. omega (arith, list-low)) (λ d. omega (arith, list-low)) far
@@ -101,7 +101,7 @@ module _ (t x : List ℕ) (c : Cursor) (h : Head) (st : Stands t c h) (g : Enter
                   ∙ ap (λ (h : ℕ → ℕ). placeOf x (length t) (treeIn (length t) (frontRecord (drop p t))) h d) z;
             }
 
-    at-spot : (a ≡ rootAt (treeIn (length t) (frontRecord (drop p t)))) ⊎ Below t p a
+    at-spot : (a ≡ rootAt (treeIn (length t) (frontRecord (drop p t)))) ⊎ Below t p (waysIn (length t) (treeIn (length t) (frontRecord (drop p t)))) a
     at-spot = spot t x p r (g .end) some whole (i .other) a (own-free .depth) (own-free .led) (own-free .place) (i .free .empty) (l .blank) (l .long)
 
     root-low : treeIn (length t) (frontRecord (drop p t)) < 2 * bucketCount (length t)
@@ -117,7 +117,7 @@ module _ (t x : List ℕ) (c : Cursor) (h : Head) (st : Stands t c h) (g : Enter
         ⊎-elim (λ z. omega (arith, z, root-low, d))
         (λ z.
         apart-of t q (z .owner) (g .whole q v f) v (z .node .begun .whole) (z .node .begun .sits)
-        (λ e. z .node .other (subst (λ (j : ℕ). headOf (drop j t) .kind ≡ 4) e k)) (z .which) (z .two) (d ∙ z .is)) at-spot
+        (λ e. z .node .other (subst (λ (j : ℕ). headOf (drop j t) .kind ≡ 4) e k)) (z .which) (z .low) (d ∙ z .is)) at-spot
 
     before : a < childAt (length t) p 0
     before = front t x p r (g .end) some whole (i .other) a (own-free .depth) (own-free .led) (own-free .place) (i .free .empty) (l .blank) (l .long)

@@ -11,12 +11,12 @@ use Rattle.ty.proofs.Choice.{and-left, and-right, choose-yes, choose-no}
 use Rattle.ty.proofs.Same.{same-eq}
 use Rattle.ty.specs.Bytes.{sameBytes}
 use Rattle.ty.specs.Choose.{choose}
-use Rattle.symbol.proofs.Buckets.{bucket-below, tree-name, tree-other, name-digit-low, key-digit-low}
+use Rattle.symbol.proofs.Buckets.{bucket-below, tree-name, tree-other, ways-name, ways-other, name-digit-low, key-digit-low}
 use Rattle.symbol.proofs.Finds.{key-bucket}
 use Rattle.symbol.proofs.Sizes.{head-known, stands-own, name-room, name-bytes}
-use Rattle.symbol.specs.Bucket.{hashOf, nameDigit, keyBucket, keyDigit, bucketOf, digitOf}
+use Rattle.symbol.specs.Bucket.{hashOf, nameDigit, keyBucket, keyDigits, keyDigit, bucketOf, digitOf}
 use Rattle.symbol.specs.Front.{headOf}
-use Rattle.symbol.specs.Index.{bucketCount, treeIn}
+use Rattle.symbol.specs.Index.{bucketCount, treeIn, waysIn}
 use Rattle.symbol.specs.Key.{nameAt, treeFor, digitFor, passes, Single, KeyIn, keyOf}
 use Rattle.symbol.specs.Lookup.{isOf}
 use Rattle.symbol.specs.Refused.{nameBytes, sameKey}
@@ -34,9 +34,12 @@ and-true true = refl
 and-true false = refl
 
 -- ---- digits
-pub digit-for-low : (t : List ℕ) (k : Key) (d : ℕ) → digitFor t k d < 2
-digit-for-low t (Name p) d = name-digit-low (nameAt t (p .at)) d
-digit-for-low t (Ids k a b) d = key-digit-low k a b d
+pub digit-for-low : (t : List ℕ) (k : Key) (d : ℕ) → digitFor t k d < waysIn (length t) (treeFor t k)
+digit-for-low t (Name p) d =
+    subst (λ (w : ℕ). nameDigit (nameAt t (p .at)) d < w) (sym (ways-name (length t) _ (bucket-below (hashOf 24 (nameAt t (p .at))) (length t))))
+    (name-digit-low (nameAt t (p .at)) d)
+digit-for-low t (Ids k a b) d =
+    subst (λ (w : ℕ). keyDigit k a b d < w) (sym (ways-other (length t) (bucketCount (length t) + keyBucket k a b % bucketCount (length t)) (omega arith))) (key-digit-low k a b d)
 
 pub tree-for-low : (t : List ℕ) (k : Key) → treeFor t k < 2 * bucketCount (length t)
 tree-for-low t (Name p) = omega (arith, bucket-below (hashOf 24 (nameAt t (p .at))) (length t))
@@ -78,7 +81,7 @@ module _ (k a b : ℕ) (r : Record) (e : isOf k a b (headOf r) ≡ true) where
       go false h = ap (λ (z : ℕ). choose false 0 z) (eqb-true (headOf r .two) b h)
 
   same-digits : keyDigit (headOf r .kind) (headOf r .one) (headOf r .two) ≡ keyDigit k a b
-  unfolding keyDigit
+  unfolding keyDigits keyDigit
   same-digits =
       let e : headOf r .one + 65536 * choose (ltb (headOf r .kind) 4) 0 (headOf r .two) ≡ a + 65536 * choose (ltb k 4) 0 b = rw (of-kind, of-one, of-two) in
       ap (λ (z : ℕ). λ (d : ℕ). z / 2 ^ (d % 32) % 2) e

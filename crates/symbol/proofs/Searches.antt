@@ -57,7 +57,7 @@ module _ (t x : List ℕ) (k : Key) (a d v p : ℕ) (s : Seeking t x k a d v) (z
   module _ (e : ℕ) (g : Tree t x e) where
     pub seeking-node : Node t e p
     seeking-node =
-        meets t x e g (treeFor t k) (digitFor t k) (tree-for-low t k) (digit-for-low t k) d p (s .led) stands-at
+        meets t x e g (treeFor t k) (digitFor t k) (tree-for-low t k) (digit-for-low t k) d p (s .led) stands-at .0
 
   module _ (v′ : ℕ) (q : v′ ≡ getD x (childAt (length t) p (digitFor t k d)) 0) where
     pub seeking-less : (e : ℕ) → Tree t x e → e ≤ length t → leftOf (length t) v′ < leftOf (length t) v

@@ -1,5 +1,5 @@
 -- How long a record is, by its kind. Assumes nothing.
-use Prim.Native.Nat.{ℕ, _+_, _-_, _≤_, _<_}
+use Prim.Native.Nat.{ℕ, _+_, _-_, _*_, _/_, _≤_, _<_}
 use borrow.Author.Tests.{eqb-true, ltb-false}
 use lib.Dec.{eqb, ltb}
 use lib.ListN.{length, getD, take, drop, length-drop}
@@ -17,6 +17,7 @@ use Rattle.symbol.proofs.Bounds.{head-bounded}
 use Rattle.symbol.proofs.Records.{record-own, record-part}
 use Rattle.symbol.proofs.Turns.{read-inside}
 use Rattle.symbol.specs.Front.{brokenHead, plainHead, nameHead, classHead, operatorsHead, paramsRead, functionWith, functionHead, fieldWith, fieldHead, visibilityHead, suspendHead, variantHead, headBy, headOf}
+use Rattle.symbol.specs.Index.{waysOf}
 use Rattle.symbol.specs.Refused.{nameBytes}
 use Rattle.symbol.specs.Walk.{Stands, recordAt}
 use Rattle.symbol.specs.declared.front.Head.{Head}
@@ -159,6 +160,13 @@ module _ (s : List ℕ) where
   -- and at least 5 bytes
   pub head-long : headOf s .malformed ≡ false → 5 ≤ headOf s .len
   head-long e = head-shape .five (head-known e)
+
+  -- and so many entries of its own as there are ways behind it
+  pub head-ways : headOf s .malformed ≡ false → waysOf (headOf s .kind) ≤ 2 * (headOf s .len / 5)
+  unfolding waysOf
+  head-ways e =
+      by-choice (λ (w : ℕ). w ≤ 2 * (headOf s .len / 5)) (eqb (headOf s .kind) 1) (λ k. omega (arith, head-fits .name (eqb-true _ _ k)))
+      (λ _. omega (arith, head-long e))
 
   -- its kind is its first byte
   pub head-kind : headOf s .malformed ≡ false → headOf s .kind ≡ getD s 0 0

@@ -30,12 +30,36 @@ keyBucket kind one two = choose (ltb kind 4) one ((one * 509 + two) % 65536)
 unfoldable pub bucketOf : Record → ℕ
 bucketOf r = choose (eqb (headOf r .kind) 1) (hashOf 24 (nameBytes r)) (keyBucket (headOf r .kind) (headOf r .one) (headOf r .two))
 
--- which way a search goes behind d records, 0 or 1: of a name the lowest bits of its bytes, then the next ones; of other records the bits of the ids
+-- four bytes of a name from byte i on as a number, low byte first
+unfoldable pub wordAt : List ℕ → ℕ → ℕ
+wordAt name i = getD name i 0 + 256 * getD name (i + 1) 0 + 65536 * (getD name (i + 2) 0 + 256 * getD name (i + 3) 0)
+
+-- a round of the digest takes a word to a number of 64 bits: its upper half and the word, times its lower half made odd; then the product's halves, the lower
+-- half added to the upper one
+unfoldable pub productOf : ℕ → ℕ → ℕ
+productOf s w = (s / 4294967296 + w) % 4294967296 * (s % 4294967296 / 2 * 2 + 1)
+
+unfoldable pub roundOf : ℕ → ℕ → ℕ
+roundOf s w = (productOf s w / 4294967296 + s % 4294967296) % 4294967296 * 4294967296 + productOf s w % 4294967296
+
+-- the digest of a name by k rounds, of which the seventh and later ones have the word 0
+unfoldable pub digestOf : ℕ → List ℕ → ℕ
+digestOf zero name = 11400714819323198485
+digestOf (suc k) name = roundOf (digestOf k name) (wordAt name (4 * k))
+
+-- the number that a digit is taken from: a name's first digit from its hash, the others from its digest; those of other records from the ids
+unfoldable pub nameDigits : List ℕ → ℕ → ℕ
+nameDigits name d = choose (eqb d 0) (hashOf 24 name / 4096) (digestOf 9 name)
+
+unfoldable pub keyDigits : ℕ → ℕ → ℕ → ℕ
+keyDigits kind one two = one + 65536 * choose (ltb kind 4) 0 two
+
+-- which way a search goes behind d records: for a name, one of eight; its own bytes tell names apart whose digests are the same. For other keys, one of two
 unfoldable pub nameDigit : List ℕ → ℕ → ℕ
-nameDigit name d = getD name (d % 24) 0 / 2 ^ (d / 24 % 8) % 2
+nameDigit name d = choose (ltb d 21) (nameDigits name d / 2 ^ (3 * d) % 8) (getD name (d % 24) 0 / 2 ^ (3 * (d / 24 % 3)) % 8)
 
 unfoldable pub keyDigit : ℕ → ℕ → ℕ → ℕ → ℕ
-keyDigit kind one two d = (one + 65536 * choose (ltb kind 4) 0 two) / 2 ^ (d % 32) % 2
+keyDigit kind one two d = keyDigits kind one two / 2 ^ (d % 32) % 2
 
 unfoldable pub digitOf : Record → ℕ → ℕ
 digitOf r = choose (eqb (headOf r .kind) 1) (nameDigit (nameBytes r)) (keyDigit (headOf r .kind) (headOf r .one) (headOf r .two))

@@ -1,6 +1,6 @@
 -- The index of a table. It has an entry for the number of names, for each bucket of names and each of other keys one for the root of its tree, for each bucket of lists one for its first and one for
--- its last function, and two for each record: a function's first is for the next function of its bucket, another record's are for those below it in its tree.
--- A record is given by its first byte, counted from 1; 0 is none. A record has at least 5 bytes, so the fifth part of its first byte is its own.
+-- its last function, and two for each fifth byte: a function's first is for the next function of its bucket, another record's are for those below it in its tree.
+-- A record is given by its first byte, counted from 1; 0 is none. A record has at least 5 bytes and so two entries of its own, a name has 26 and so ten.
 use Prim.Native.Nat.{ℕ, suc, _+_, _*_, _/_, _%_}
 use mathlib.Core.List.{List, [], _∷_}
 use lib.ListN.{length, drop}
@@ -32,6 +32,13 @@ unitBase n = 1 + 2 * bucketCount n + 2 * listCount n
 
 abbrev pub childAt : ℕ → ℕ → ℕ → ℕ
 childAt n p c = unitBase n + 2 * (p / 5) + c
+
+-- how many ways there are behind a record of a kind, and behind each record of tree b
+unfoldable pub waysOf : ℕ → ℕ
+waysOf kind = choose (eqb kind 1) 8 2
+
+unfoldable pub waysIn : ℕ → ℕ → ℕ
+waysIn n b = choose (ltb b (bucketCount n)) 8 2
 
 abbrev pub nextAt : ℕ → ℕ → ℕ
 nextAt n p = childAt n p 0

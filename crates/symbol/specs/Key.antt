@@ -7,7 +7,7 @@ use lib.Dec.{eqb}
 use lib.ListN.{length, drop, take}
 use Rattle.ty.specs.Bytes.{sameBytes}
 use Rattle.ty.specs.Choose.{choose}
-use Rattle.symbol.specs.Bucket.{hashOf, nameDigit, keyBucket, keyDigit}
+use Rattle.symbol.specs.Bucket.{hashOf, nameDigits, nameDigit, keyBucket, keyDigits, keyDigit}
 use Rattle.symbol.specs.Front.{headOf}
 use Rattle.symbol.specs.Index.{bucketCount}
 use Rattle.symbol.specs.Lookup.{isOf}
@@ -22,10 +22,14 @@ use Rattle.symbol.specs.declared.walk.Cursor.{Cursor}
 abbrev pub nameAt : List ℕ → ℕ → List ℕ
 nameAt t p = take 24 (drop (p + 2) t)
 
--- its tree, and its digits
+-- its tree, the number that its digit behind d records is taken from, and its digits
 abbrev pub treeFor : List ℕ → Key → ℕ
 treeFor t (Name p) = hashOf 24 (nameAt t (p .at)) % bucketCount (length t)
 treeFor t (Ids k a b) = bucketCount (length t) + keyBucket k a b % bucketCount (length t)
+
+abbrev pub digitsFor : List ℕ → Key → ℕ → ℕ
+digitsFor t (Name p) d = nameDigits (nameAt t (p .at)) d
+digitsFor t (Ids k a b) d = keyDigits k a b
 
 abbrev pub digitFor : List ℕ → Key → ℕ → ℕ
 digitFor t (Name p) = nameDigit (nameAt t (p .at))

@@ -1,12 +1,12 @@
 -- The search trees of the index: for each bucket one of its records that are no functions. A search begins at the tree's root; behind each record that it meets
--- it goes on at one of that record's two entries, as the key's next digit says.
+-- it goes on at one of that record's entries, as the key's next digit says.
 use Prim.Native.Nat.{ℕ, zero, suc, _*_, _-_, _<_}
 use mathlib.Core.Path.{_≡_}
 use mathlib.Core.List.{List}
 use lib.ListN.{length, getD, drop}
 use Rattle.symbol.specs.Bucket.{digitOf}
 use Rattle.symbol.specs.Front.{headOf}
-use Rattle.symbol.specs.Index.{bucketCount, treeIn, rootAt, childAt}
+use Rattle.symbol.specs.Index.{bucketCount, treeIn, rootAt, childAt, waysOf, waysIn}
 use Rattle.symbol.specs.Table.{frontRecord}
 use Rattle.symbol.specs.Walk.{Begun}
 
@@ -31,8 +31,12 @@ pub record Held (t x : List ℕ) (q : ℕ) : Type 0 where
   pub led : Led x (length t) (treeIn (length t) (frontRecord (drop q t))) (digitOf (frontRecord (drop q t))) depth
   pub is : getD x (placeOf x (length t) (treeIn (length t) (frontRecord (drop q t))) (digitOf (frontRecord (drop q t))) depth) 0 ≡ suc q
 
--- the trees of the records before byte e: each of them is held, and every entry has one of them, a later one than its owner, or none
+-- how many ways there are behind the record at q
+abbrev pub waysAt : List ℕ → ℕ → ℕ
+waysAt t q = waysOf (headOf (drop q t) .kind)
+
+-- the trees of the records before byte e: each of them is held, and every entry has one of them, with the tree's ways and later than its owner, or none
 pub record Tree (t x : List ℕ) (e : ℕ) : Type 0 where
-  pub root : (b : ℕ) → b < 2 * bucketCount (length t) → (q : ℕ) → getD x (rootAt b) 0 ≡ suc q → Node t e q
-  pub child : (p : ℕ) → Node t e p → (c : ℕ) → c < 2 → (q : ℕ) → getD x (childAt (length t) p c) 0 ≡ suc q → Node t e q × (p < q)
+  pub root : (b : ℕ) → b < 2 * bucketCount (length t) → (q : ℕ) → getD x (rootAt b) 0 ≡ suc q → Node t e q × (waysAt t q ≡ waysIn (length t) b)
+  pub child : (p : ℕ) → Node t e p → (c : ℕ) → c < waysAt t p → (q : ℕ) → getD x (childAt (length t) p c) 0 ≡ suc q → Node t e q × (p < q) × (waysAt t q ≡ waysAt t p)
   pub held : (q : ℕ) → Node t e q → Held t x q

@@ -105,9 +105,9 @@ fn unit_base(n: usize) -> usize
     641
 }
 
-// Where the entry c, 0 or 1, of the record at p stands.
+// Where the entry c of the record at p stands.
 pub fn child_at(n: usize, p: usize, c: usize) -> usize
-    requires { ⌜ c < 2 ⌝ }
+    requires { ⌜ c < 8 ⌝ }
     ensures { λ r. ⌜ r ≡ childAt n p c ⌝ }
 {
     unit_base(n) + 2 * (p / 5) + c

@@ -12,15 +12,15 @@ use ty::byte_at;
 use ty::same_bytes;
 ghost use mathlib.Core.Path.{_≡_};
 ghost use mathlib.Core.Bool.{_&&_, _||_};
-ghost use Prim.Native.Nat.{ℕ, _+_, _%_, _≤_, _<_};
+ghost use Prim.Native.Nat.{ℕ, _+_, _-_, _%_, _≤_, _<_};
 ghost use lib.Dec.{ltb, eqb};
 ghost use lib.ListN.{length, drop, take};
 ghost use Rattle.ty.specs.Choose.{choose};
 ghost use Rattle.symbol.specs.Accepted.{Accepted};
 ghost use Rattle.symbol.specs.Answer.{FoundIs};
-ghost use Rattle.symbol.specs.Bucket.{hashOf};
+ghost use Rattle.symbol.specs.Bucket.{hashOf, wordAt, roundOf, digestOf};
 ghost use Rattle.symbol.specs.Walk.{Begun};
-ghost use Rattle.symbol.specs.Key.{treeFor, digitFor, passes, KeyIn, Single};
+ghost use Rattle.symbol.specs.Key.{treeFor, digitsFor, digitFor, passes, KeyIn, Single};
 ghost use Rattle.symbol.specs.Lookup.{recordsWith};
 ghost use Rattle.symbol.specs.Spot.{Open, SpotIs};
 ghost use Rattle.symbol.specs.Table.{recordsOf, frontRecord};
@@ -81,6 +81,39 @@ pub fn tree_of(t: &[u8], key: Key) -> usize
     }
 }
 
+// Four bytes of a name as a number, low byte first, with 0 past the end.
+fn word_at(name: &[u8], i: usize) -> usize
+    requires { ⌜ i < 4294967296 ⌝ }
+    ensures { λ r. ⌜ (r ≡ wordAt (now (name .entry)) i) × (r < 4294967296) ⌝ }
+{
+    let low = wide(byte_at(name, i)) + 256 * wide(byte_at(name, i + 1));
+    let high = wide(byte_at(name, i + 2)) + 256 * wide(byte_at(name, i + 3));
+    low + 65536 * high
+}
+
+// A round of the digest.
+fn digest_round(s: usize, w: usize) -> usize
+    requires { ⌜ w < 4294967296 ⌝ }
+    ensures { λ r. ⌜ r ≡ roundOf s w ⌝ }
+{
+    let low = s % 4294967296;
+    let p = (s / 4294967296 + w) % 4294967296 * (low / 2 * 2 + 1);
+    (p / 4294967296 + low) % 4294967296 * 4294967296 + p % 4294967296
+}
+
+// A number of 64 bits for 24 bytes of a name. Names that share a hash are easy to find; for names that share the first bits of this number a search must try so many.
+fn digest(name: &[u8]) -> usize
+    ensures { λ r. ⌜ r ≡ digestOf 9 (now (name .entry)) ⌝ }
+{
+    let mut s: usize = 11400714819323198485;
+    let mut k: usize = 0;
+    while k < 9 {
+        s = digest_round(s, word_at(name, 4 * k));
+        k += 1;
+    }
+    s
+}
+
 // The second id where it belongs to the key, else 0.
 fn second(kind: u8, two: u16) -> usize
     ensures { λ r. ⌜ (r ≡ choose (ltb kind 4) 0 two) × (r < 65536) ⌝ }
@@ -91,20 +124,43 @@ fn second(kind: u8, two: u16) -> usize
     number(two)
 }
 
-// Which way a search goes behind d records.
-fn digit(t: &[u8], key: Key, d: usize) -> usize
-    requires { ⌜ KeyIn (now t) key ⌝ }
-    ensures { λ r. ⌜ (r ≡ digitFor (now (t .entry)) key d) × (r < 2) ⌝ }
+// The number that a key's digits are taken from behind d records; h is that behind one record less.
+fn digits(t: &[u8], key: Key, h: usize, d: usize) -> usize
+    requires { ⌜ KeyIn (now t) key × (0 < d → h ≡ digitsFor (now t) key (d - 1)) ⌝ }
+    ensures { λ r. ⌜ r ≡ digitsFor (now (t .entry)) key d ⌝ }
 {
     match key {
         Key::Name(at) => {
+            if d == 0 {
+                return hash(name_at(t, at.at)) / 4096;
+            }
+            if d == 1 {
+                return digest(name_at(t, at.at));
+            }
+            h
+        }
+        Key::Ids { kind, one, two } => number(one) + 65536 * second(kind, two),
+    }
+}
+
+// Which way a search goes behind d records.
+fn digit(t: &[u8], key: Key, h: usize, d: usize) -> usize
+    requires { ⌜ KeyIn (now t) key × (h ≡ digitsFor (now t) key d) ⌝ }
+    ensures { λ r. ⌜ (r ≡ digitFor (now (t .entry)) key d) × (r < 8) ⌝ }
+{
+    match key {
+        Key::Name(at) => {
+            if d < 21 {
+                return (h >> (3 * d)) % 8;
+            }
             let b = byte_at(name_at(t, at.at), d % 24);
-            (wide(b) >> (d / 24 % 8)) % 2
+            (wide(b) >> (3 * (d / 24 % 3))) % 8
         }
-        Key::Ids { kind, one, two } => {
-            let ids = number(one) + 65536 * second(kind, two);
-            (ids >> (d % 32)) % 2
-        }
+        Key::Ids {
+            kind: _,
+            one: _,
+            two: _,
+        } => (h >> (d % 32)) % 2,
     }
 }
 
@@ -146,12 +202,14 @@ pub fn search(t: &[u8], x: &[u16], key: Key, b: usize) -> Spot
     let mut at = 1 + b;
     let mut d: usize = 0;
     let mut v = entry_at(x, at);
+    let mut h: usize = 0;
     while v != 0 {
         let p = v - 1;
         if has(t, p, key) {
             return Spot::Taken(Place { at: p });
         }
-        at = child_at(t.len(), p, digit(t, key, d));
+        h = digits(t, key, h, d);
+        at = child_at(t.len(), p, digit(t, key, h, d));
         v = entry_at(x, at);
         d += 1;
     }

@@ -58,8 +58,8 @@ fn accepted() {
     );
 }
 
-// Number 2: malformed or cut.
-fn malformed() {
+// Number 2: unknown kinds, and names.
+fn malformed_names() {
     // kind 0
     check::expect(number(b"\x00") == 2);
     // kind 9
@@ -92,6 +92,10 @@ fn malformed() {
         )
             == 2,
     );
+}
+
+// Number 2: records without a type.
+fn malformed_records() {
     // a class that is cut
     check::expect(
         number(
@@ -120,6 +124,10 @@ fn malformed() {
         )
             == 2,
     );
+}
+
+// Number 2: functions and types.
+fn malformed_functions() {
     // 17 parameters
     check::expect(
         number(
@@ -223,8 +231,8 @@ fn undefined() {
     );
 }
 
-// Number 5: a key repeated.
-fn repeated() {
+// Number 5: the key is a name or a class.
+fn repeated_names() {
     // a name
     check::expect(
         number(
@@ -260,6 +268,10 @@ fn repeated() {
         )
             == 5,
     );
+}
+
+// Number 5: the key is two ids, or a parameter's name.
+fn repeated_members() {
     // a field
     check::expect(
         number(
@@ -678,10 +690,13 @@ fn functions() {
 
 fn main() {
     accepted();
-    malformed();
+    malformed_names();
+    malformed_records();
+    malformed_functions();
     falls();
     undefined();
-    repeated();
+    repeated_names();
+    repeated_members();
     late();
     without_end();
     long();

@@ -4,32 +4,20 @@ use borrow.Author.Tests.{eq-eqb}
 use Rattle.question.specs.Header.{headerOf}
 use Rattle.question.specs.Read.{leafOf, nodeOf, nodeIn, nodeAt, ownBytes, children}
 use Rattle.question.specs.Refused.{headerFault, idFault, endlessFault, nodeFault, moreFault, endFault, nodesFault, treeFault, questionFault}
-use Rattle.question_test.proofs.limits.Statement.{statement}
-use Rattle.question_test.proofs.limits.Tie as tie
+use Rattle.question_test.proofs.last_nodes.Statement.{statement}
+use Rattle.question_test.proofs.last_nodes.Tie as tie
 use Rattle.ty.specs.Choose.{choose}
 use Rattle.ty.specs.Read.{bodyLength, children as tyChildren, idIn, itemOf, itemAt, stopped, readFrom, readType}
 
-pub limits-spec : {M : Type 1} → statement M
+pub last-nodes-spec : {M : Type 1} → statement M
 unfolding choose headerOf leafOf nodeOf nodeIn nodeAt ownBytes children headerFault idFault endlessFault nodeFault moreFault endFault nodesFault treeFault questionFault bodyLength tyChildren idIn itemOf itemAt stopped readFrom readType
-limits-spec =
+last-nodes-spec =
     tie.close
     (tie.spec
     (λ c. search needs)
     (λ c κs. search needs)
-    (λ c κs. eq-eqb (c .number .result) 0 (c .number .ensures))
+    (λ c κs. eq-eqb (c .number .result) 8 (c .number .ensures))
     (λ c. search needs)
     (λ c κs. search needs)
-    (λ c κs. eq-eqb (c .number2 .result) 9 (c .number2 .ensures))
-    (λ c. search needs)
-    (λ c κs. search needs)
-    (λ c κs. eq-eqb (c .number3 .result) 9 (c .number3 .ensures))
-    (λ c. search needs)
-    (λ c κs. search needs)
-    (λ c κs. eq-eqb (c .number4 .result) 9 (c .number4 .ensures))
-    (λ c. search needs)
-    (λ c κs. search needs)
-    (λ c κs. eq-eqb (c .number5 .result) 8 (c .number5 .ensures))
-    (λ c. search needs)
-    (λ c κs. search needs)
-    (λ c κs. eq-eqb (c .number6 .result) 8 (c .number6 .ensures))
+    (λ c κs. eq-eqb (c .number2 .result) 8 (c .number2 .ensures))
     (λ c. search needs))

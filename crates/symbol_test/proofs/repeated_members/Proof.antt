@@ -4,15 +4,15 @@ use Rattle.symbol.specs.Front.{plainHead, orNone, goodByte, goodBytes, nameHead
 use Rattle.symbol.specs.Refused.{sameKey, hasKey, hasClass, superLate, recordFault, faultFrom, tableFault}
 use Rattle.symbol.specs.Spelling.{builtinNames, spelled}
 use Rattle.symbol.specs.Table.{recordsFrom, countOf}
-use Rattle.symbol_test.proofs.repeated.Statement.{statement}
-use Rattle.symbol_test.proofs.repeated.Tie as tie
+use Rattle.symbol_test.proofs.repeated_members.Statement.{statement}
+use Rattle.symbol_test.proofs.repeated_members.Tie as tie
 use Rattle.ty.specs.Bytes.{sameBytes}
 use Rattle.ty.specs.Choose.{choose}
 use Rattle.ty.specs.Read.{bodyLength, children, idIn, itemOf, itemAt, stopped, readFrom, readType}
 
-pub repeated-spec : {M : Type 1} → statement M
+pub repeated-members-spec : {M : Type 1} → statement M
 unfolding choose sameBytes bodyLength children idIn itemOf itemAt stopped readFrom readType builtinNames spelled plainHead orNone goodByte goodBytes nameHead classHead operatorsHead among paramStep runParams paramsRead functionWith functionHead fieldHead visibilityHead suspendHead variantHead headBy headOf recordsFrom countOf sameKey hasKey hasClass superLate recordFault faultFrom tableFault
-repeated-spec =
+repeated-members-spec =
     tie.close
     (tie.spec
     (λ c. search needs)
@@ -33,19 +33,4 @@ repeated-spec =
     (λ c. search needs)
     (λ c κs. search needs)
     (λ c κs. eq-eqb (c .number6 .result) 5 (c .number6 .ensures))
-    (λ c. search needs)
-    (λ c κs. search needs)
-    (λ c κs. eq-eqb (c .number7 .result) 5 (c .number7 .ensures))
-    (λ c. search needs)
-    (λ c κs. search needs)
-    (λ c κs. eq-eqb (c .number8 .result) 5 (c .number8 .ensures))
-    (λ c. search needs)
-    (λ c κs. search needs)
-    (λ c κs. eq-eqb (c .number9 .result) 5 (c .number9 .ensures))
-    (λ c. search needs)
-    (λ c κs. search needs)
-    (λ c κs. eq-eqb (c .number10 .result) 5 (c .number10 .ensures))
-    (λ c. search needs)
-    (λ c κs. search needs)
-    (λ c κs. eq-eqb (c .number11 .result) 5 (c .number11 .ensures))
     (λ c. search needs))

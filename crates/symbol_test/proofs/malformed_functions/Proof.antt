@@ -4,15 +4,15 @@ use Rattle.symbol.specs.Front.{plainHead, orNone, goodByte, goodBytes, nameHead
 use Rattle.symbol.specs.Refused.{sameKey, hasKey, hasClass, superLate, recordFault, faultFrom, tableFault}
 use Rattle.symbol.specs.Spelling.{builtinNames, spelled}
 use Rattle.symbol.specs.Table.{recordsFrom, countOf}
-use Rattle.symbol_test.proofs.malformed.Statement.{statement}
-use Rattle.symbol_test.proofs.malformed.Tie as tie
+use Rattle.symbol_test.proofs.malformed_functions.Statement.{statement}
+use Rattle.symbol_test.proofs.malformed_functions.Tie as tie
 use Rattle.ty.specs.Bytes.{sameBytes}
 use Rattle.ty.specs.Choose.{choose}
 use Rattle.ty.specs.Read.{bodyLength, children, idIn, itemOf, itemAt, stopped, readFrom, readType}
 
-pub malformed-spec : {M : Type 1} → statement M
+pub malformed-functions-spec : {M : Type 1} → statement M
 unfolding choose sameBytes bodyLength children idIn itemOf itemAt stopped readFrom readType builtinNames spelled plainHead orNone goodByte goodBytes nameHead classHead operatorsHead among paramStep runParams paramsRead functionWith functionHead fieldHead visibilityHead suspendHead variantHead headBy headOf recordsFrom countOf sameKey hasKey hasClass superLate recordFault faultFrom tableFault
-malformed-spec =
+malformed-functions-spec =
     tie.close
     (tie.spec
     (λ c. search needs)
@@ -27,34 +27,4 @@ malformed-spec =
     (λ c. search needs)
     (λ c κs. search needs)
     (λ c κs. eq-eqb (c .number4 .result) 2 (c .number4 .ensures))
-    (λ c. search needs)
-    (λ c κs. search needs)
-    (λ c κs. eq-eqb (c .number5 .result) 2 (c .number5 .ensures))
-    (λ c. search needs)
-    (λ c κs. search needs)
-    (λ c κs. eq-eqb (c .number6 .result) 2 (c .number6 .ensures))
-    (λ c. search needs)
-    (λ c κs. search needs)
-    (λ c κs. eq-eqb (c .number7 .result) 2 (c .number7 .ensures))
-    (λ c. search needs)
-    (λ c κs. search needs)
-    (λ c κs. eq-eqb (c .number8 .result) 2 (c .number8 .ensures))
-    (λ c. search needs)
-    (λ c κs. search needs)
-    (λ c κs. eq-eqb (c .number9 .result) 2 (c .number9 .ensures))
-    (λ c. search needs)
-    (λ c κs. search needs)
-    (λ c κs. eq-eqb (c .number10 .result) 2 (c .number10 .ensures))
-    (λ c. search needs)
-    (λ c κs. search needs)
-    (λ c κs. eq-eqb (c .number11 .result) 2 (c .number11 .ensures))
-    (λ c. search needs)
-    (λ c κs. search needs)
-    (λ c κs. eq-eqb (c .number12 .result) 2 (c .number12 .ensures))
-    (λ c. search needs)
-    (λ c κs. search needs)
-    (λ c κs. eq-eqb (c .number13 .result) 2 (c .number13 .ensures))
-    (λ c. search needs)
-    (λ c κs. search needs)
-    (λ c κs. eq-eqb (c .number14 .result) 2 (c .number14 .ensures))
     (λ c. search needs))
