@@ -17,7 +17,7 @@ pub enum Make {
     Few,
     /// Names that all have one bucket.
     BucketNames,
-    /// Names of one bucket that agree in as many first digits as letters allow.
+    /// Names of one bucket that agree in their first digits.
     DeepNames,
     /// Fields, visibilities, suspend functions and variants whose owners and names share few buckets.
     BucketFields,
@@ -49,6 +49,8 @@ pub const MAKES: [Make; 4] = [Make::Names, Make::Fields, Make::Many, Make::Few];
 pub const CHOSEN: [Make; 5] =
     [Make::BucketNames, Make::DeepNames, Make::BucketFields, Make::Classes, Make::BucketFunctions];
 pub const SIZES: [usize; 3] = [2048, 16_384, 60_000];
+/// The bytes of the tables that take turns where growth is measured.
+pub const TURN: usize = 240_000;
 
 /// The first name of a table: the class and the function that questions use.
 const FIRST: u16 = BUILT_IN.len() as u16;
@@ -101,6 +103,10 @@ fn page_names(count: usize) -> Vec<String> {
 
 /// A table of at most `size` bytes; less than one record stays free.
 pub fn table(make: Make, size: usize) -> Vec<u8> {
+    records(make, size).bytes()
+}
+
+fn records(make: Make, size: usize) -> Table {
     let mut f = Filler::new(size);
     match make {
         Make::Nothing => {}
@@ -120,7 +126,19 @@ pub fn table(make: Make, size: usize) -> Vec<u8> {
         Make::Classes => classes(&mut f, &page_names(named_classes(size))),
         Make::BucketFunctions => bucket_functions(&mut f, size),
     }
-    f.table.bytes()
+    f.table
+}
+
+/// The same records in a random order within each kind. The last one stays, since questions may ask for it. Ids mean
+/// names by place, so that other names stand for them.
+fn shuffled(mut table: Table, rng: &mut Rng) -> Vec<u8> {
+    let last = table.records.iter_mut().rev().find_map(Vec::pop);
+    for records in &mut table.records {
+        for i in (1..records.len()).rev() {
+            records.swap(i, rng.below(i + 1));
+        }
+    }
+    [table.bytes(), last.unwrap_or_default()].concat()
 }
 
 fn some_type(i: usize, ids: u16) -> Bytes {
@@ -274,6 +292,19 @@ pub struct Input {
     pub question: Vec<u8>,
 }
 
+/// A question of 8 nodes with as many tables of one make and size as have `TURN` bytes together.
+pub fn turn(make: Make, size: usize) -> Vec<Input> {
+    let records = records(make, size);
+    let mut rng = Rng::new(1, 2, 5);
+    let mut input = || Input {
+        make,
+        asked: "8 nodes".to_string(),
+        table: shuffled(records.clone(), &mut rng),
+        question: nodes(8, make),
+    };
+    (0..TURN / size).map(|_| input()).collect()
+}
+
 /// Every table with every question.
 pub fn all() -> Vec<Input> {
     let mut tables = vec![(Make::Nothing, 0)];
@@ -381,4 +412,45 @@ fn wide_leaves(last: &[u8]) -> Vec<u8> {
     tree.push(0);
     tree.extend_from_slice(last);
     question(&tree)
+}
+
+#[cfg(test)]
+mod tests {
+    use super::*;
+    use crate::measure::BUFFER;
+    use oracle::table::record_lengths;
+
+    /// The records of a table, one by one.
+    fn split(table: &[u8]) -> Vec<&[u8]> {
+        let mut rest = table;
+        let mut next = |len: usize| rest.split_off(..len).expect("a whole record");
+        record_lengths(table).into_iter().map(&mut next).collect()
+    }
+
+    /// What the Rust answers.
+    fn answered(input: &Input) -> String {
+        let mut buffer = [0; BUFFER];
+        let a = oracle::answer(&input.table, &input.question, &mut buffer);
+        format!("{:?}", (a.number, a.pass, a.len, a.count, a.ty, buffer))
+    }
+
+    #[test]
+    fn tables_of_a_turn_differ_in_the_order_of_their_records() {
+        for make in MAKES.into_iter().chain(CHOSEN) {
+            let plain = Input { make, asked: String::new(), table: table(make, 7500), question: nodes(8, make) };
+            let mut records = split(&plain.table);
+            let last = records[records.len() - 1];
+            records.sort();
+            let turn = turn(make, 7500);
+            assert_eq!(turn.len(), 32);
+            for (i, input) in turn.iter().enumerate() {
+                let mut other = split(&input.table);
+                assert_eq!(other[other.len() - 1], last);
+                other.sort();
+                assert_eq!(other, records);
+                assert_eq!(answered(input), answered(&plain), "{}", make.words());
+                assert!(turn[..i].iter().all(|before| before.table != input.table));
+            }
+        }
+    }
 }

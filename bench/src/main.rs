@@ -22,14 +22,16 @@ const COMMAND: &str = "rt staticlib aura_c && cd bench && cargo run --release --
 /// The part of the page that is written by hand begins so.
 const BY_HAND: &str = "\n## What was tried";
 
-fn times(input: &Input, effort: Effort) -> Times {
-    same_answer(input);
-    parts(&input.table, &input.question, effort)
+/// The times of one of the inputs, which have the same question and take turns.
+fn times(inputs: &[Input], effort: Effort) -> Times {
+    inputs.iter().for_each(same_answer);
+    let tables: Vec<&[u8]> = inputs.iter().map(|input| input.table.as_slice()).collect();
+    parts(&tables, &inputs[0].question, effort)
 }
 
 fn rows(effort: Effort) -> Vec<Row> {
     let row = |input: Input| {
-        let times = times(&input, effort);
+        let times = times(std::slice::from_ref(&input), effort);
         Row { make: input.make, bytes: input.table.len(), asked: input.asked, times }
     };
     inputs::all().into_iter().map(row).collect()
@@ -38,9 +40,8 @@ fn rows(effort: Effort) -> Vec<Row> {
 fn growth(effort: Effort) -> Vec<Growth> {
     let of = |make: Make| {
         let step = |size: usize| {
-            let question = inputs::nodes(8, make);
-            let input = Input { make, asked: "8 nodes".to_string(), table: inputs::table(make, size), question };
-            (input.table.len(), times(&input, effort))
+            let inputs = inputs::turn(make, size);
+            (inputs[0].table.len(), times(&inputs, effort))
         };
         Growth { make, steps: [1875, 3750, 7500, 15_000, 30_000, 60_000].map(step).to_vec() }
     };
@@ -51,7 +52,7 @@ fn nodes(effort: Effort) -> Vec<NodeGrowth> {
     let of = |make: Make, size: usize| {
         let step = |count: usize| {
             let (table, question) = (inputs::table(make, size), inputs::nodes(count, make));
-            (count, times(&Input { make, asked: format!("{count} nodes"), table, question }, effort))
+            (count, times(&[Input { make, asked: format!("{count} nodes"), table, question }], effort))
         };
         let bytes = if size == 0 { "".to_string() } else { format!(", {size} bytes") };
         let name = format!("{}{bytes}", make.words());
@@ -72,7 +73,7 @@ fn refused(effort: Effort) -> Vec<RefusedRow> {
         let mut buffer = [0; BUFFER];
         let found = aura_judge::judge(&input.table, &input.question, &mut buffer).number();
         assert_eq!(found, input.number, "{}", input.what);
-        let time = least(&mut [judging(&input.table, &input.question, BUFFER)], effort)[0];
+        let time = least(&mut [judging(&[&input.table], &input.question, BUFFER)], 1, effort)[0];
         RefusedRow { what: input.what, number: input.number, bytes: input.bytes(), time }
     };
     inputs::refused().into_iter().map(row).collect()
@@ -80,7 +81,7 @@ fn refused(effort: Effort) -> Vec<RefusedRow> {
 
 fn buffers(effort: Effort) -> Vec<(usize, f64)> {
     let question = inputs::nodes(1, Make::Nothing);
-    let time = |bytes: usize| (bytes, least(&mut [judging(&[], &question, bytes)], effort)[0]);
+    let time = |bytes: usize| (bytes, least(&mut [judging(&[&[]], &question, bytes)], 1, effort)[0]);
     [0, BUFFER, 4096, 65_535].map(time).to_vec()
 }
 

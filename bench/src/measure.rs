@@ -57,16 +57,18 @@ impl Times {
     }
 }
 
-/// Something timed: runs it so many times and says how long that took, without what is thrown away afterwards.
+/// Something timed: runs it so many times, each time on the next of the tables that take turns, and says how long that
+/// took, without what is thrown away afterwards.
 type Part<'a> = Box<dyn FnMut(usize) -> Duration + 'a>;
 
-/// Times what gives values, which are dropped outside the time.
-fn giving<'a, T>(mut f: impl FnMut() -> T + 'a) -> Part<'a> {
+/// Times what gives values for the table at a place; they are dropped outside the time.
+fn giving<'a, T>(tables: usize, mut f: impl FnMut(usize) -> T + 'a) -> Part<'a> {
+    let mut places = (0..tables).cycle();
     Box::new(move |batch| {
         let mut kept = Vec::with_capacity(batch);
         let began = Instant::now();
-        for _ in 0..batch {
-            kept.push(f());
+        for place in places.by_ref().take(batch) {
+            kept.push(f(place));
         }
         let took = began.elapsed();
         black_box(&kept);
@@ -75,33 +77,35 @@ fn giving<'a, T>(mut f: impl FnMut() -> T + 'a) -> Part<'a> {
 }
 
 /// Times the judge. The buffers hold what the call before left; the judge clears them itself, inside the time.
-pub fn judging<'a>(table: &'a [u8], question: &'a [u8], buffer: usize) -> Part<'a> {
+pub fn judging<'a>(tables: &'a [&'a [u8]], question: &'a [u8], buffer: usize) -> Part<'a> {
     let mut diagnostics = vec![0; buffer];
     let mut answer = [0; raw::ANSWER_SIZE];
+    let mut turn = tables.iter().cycle();
     Box::new(move |batch| {
         let began = Instant::now();
-        for _ in 0..batch {
+        for table in turn.by_ref().take(batch) {
             black_box(raw::judge(black_box(table), black_box(question), &mut diagnostics, &mut answer));
         }
         began.elapsed()
     })
 }
 
-/// The least time of each part, the parts run in turn.
-pub fn least(parts: &mut [Part], effort: Effort) -> Vec<f64> {
+/// The least time of each part for one of so many tables, the parts run in turn.
+pub fn least(parts: &mut [Part], tables: usize, effort: Effort) -> Vec<f64> {
     let batches: Vec<usize> = parts.iter_mut().map(batch_size).collect();
     let mut times = vec![f64::INFINITY; parts.len()];
     let began = Instant::now();
     let mut rounds = 0;
     while effort.goes_on(rounds, began.elapsed()) {
         for ((part, batch), time) in parts.iter_mut().zip(&batches).zip(&mut times) {
-            *time = time.min(part(*batch).as_nanos() as f64 / *batch as f64);
+            *time = time.min(each(part, *batch, tables));
         }
         rounds += 1;
     }
     times
 }
 
+/// A power of two.
 fn batch_size(part: &mut Part) -> usize {
     let mut batch = 1;
     while batch < 4096 && part(batch) < BATCH {
@@ -110,19 +114,30 @@ fn batch_size(part: &mut Part) -> usize {
     batch
 }
 
-/// All parts of one input.
-pub fn parts(table_bytes: &[u8], asked: &[u8], effort: Effort) -> Times {
-    let mut filled = table::fill(table_bytes);
-    let built = question::build(asked, &filled.names);
-    let names = filled.names.clone();
+/// The time of one run, from as many batches as have each table equally often.
+fn each(part: &mut Part, batch: usize, tables: usize) -> f64 {
+    let batches = (tables / batch).max(1);
+    let runs = batches * batch;
+    assert_eq!(runs % tables, 0, "the number of tables is no power of two");
+    let took: Duration = (0..batches).map(|_| part(batch)).sum();
+    took.as_nanos() as f64 / runs as f64
+}
+
+/// All parts of one question, for one of the tables, which take turns.
+pub fn parts(tables: &[&[u8]], asked: &[u8], effort: Effort) -> Times {
+    let count = tables.len();
+    let mut filled: Vec<_> = tables.iter().map(|bytes| table::fill(bytes)).collect();
+    let names: Vec<_> = filled.iter().map(|filled| filled.names.clone()).collect();
+    let built: Vec<_> = names.iter().map(|names| question::build(asked, names)).collect();
     let times = least(
         &mut [
-            judging(table_bytes, &[], BUFFER),
-            judging(table_bytes, asked, BUFFER),
-            giving(|| table::fill(black_box(table_bytes))),
-            giving(|| question::build(black_box(asked), &names)),
-            giving(|| answer::run(&mut filled, black_box(&built), false)),
+            judging(tables, &[], BUFFER),
+            judging(tables, asked, BUFFER),
+            giving(count, |place| table::fill(black_box(tables[place]))),
+            giving(count, |place| question::build(black_box(asked), &names[place])),
+            giving(count, |place| answer::run(&mut filled[place], black_box(&built[place]), false)),
         ],
+        count,
         effort,
     );
     Times { check: times[0], whole: times[1], fill: times[2], build: times[3], run: times[4] }
@@ -144,4 +159,22 @@ pub fn same_answer(input: &Input) {
         "the answers differ: {what}"
     );
     assert!(ours_buffer == theirs_buffer, "the diagnostics differ: {what}");
+}
+
+#[cfg(test)]
+mod tests {
+    use super::*;
+
+    /// With 8 tables, of which one takes 8 milliseconds and the others nothing, each takes 1 on average.
+    #[test]
+    fn a_time_is_that_of_one_table() {
+        for batch in [1, 4, 8, 32] {
+            let mut places = (0..8).cycle();
+            let mut part: Part = Box::new(move |batch| {
+                places.by_ref().take(batch).map(|place| Duration::from_millis(if place == 3 { 8 } else { 0 })).sum()
+            });
+            part(5);
+            assert_eq!(each(&mut part, batch, 8), 1_000_000.0);
+        }
+    }
 }

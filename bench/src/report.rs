@@ -1,6 +1,7 @@
 //! The measured numbers as a page.
 
-use crate::inputs::Make;
+use crate::collide::SAME;
+use crate::inputs::{Make, TURN};
 use crate::measure::Times;
 use std::fmt::Write;
 
@@ -220,10 +221,14 @@ Times are in microseconds: the minimum of many runs, in which the parts take tur
 
 ![Time by table size and by nodes](speed.svg)
 
-With a question of 8 nodes. The last five tables have keys chosen against the index (`bench/src/collide.rs`):
+With a question of 8 nodes. A processor learns the branches of a short table that is judged again and again, but not those
+of a long one, and that would show as a step. So at each size as many tables as have {turn},000 bytes together take turns,
+with the same records in other orders; a time is that of one table.
 
-- names of one bucket, otherwise random; then names of one bucket that agree in 150 of the 168 digits by which its tree
-  branches, so that each is searched behind 150 others once there are so many;
+The last five tables have keys chosen against the index (`bench/src/collide.rs`):
+
+- names of one bucket, otherwise random; then names of one bucket that agree in the first {SAME} digits by which its tree
+  branches, so that each is searched behind at least {SAME} others where there are so many;
 - records of kinds 5 to 8 whose owners and names have as few buckets as ids allow, half of the bytes being names;
 - classes of all names, whose superclass has no record and is searched before each of them and ahead of it;
 - functions of one bucket, half of the bytes being names; the question calls the last function.
@@ -249,5 +254,6 @@ The judge alone.
         growth(report),
         nodes(report),
         refused(report),
+        turn = TURN / 1000,
     )
 }

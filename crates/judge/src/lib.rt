@@ -306,12 +306,12 @@ fn judge_middle(table: &[u8], question: &[u8], diagnostics: &mut [u8], ty: &mut 
     judge_with(table, &mut index, question, diagnostics, ty)
 }
 
-// Judges a question against a table; 34,243 entries are enough for the index of the longest.
+// Judges a question against a table; 42,435 entries are enough for the index of the longest.
 fn judge_long(table: &[u8], question: &[u8], diagnostics: &mut [u8], ty: &mut [u8]) -> Outcome
     requires { ⌜ (now diagnostics ≡ zeros (length (now diagnostics))) × (now ty ≡ zeros answerBytes) ⌝ }
     ensures { λ r. ⌜ Answered (now (table .entry)) (now (question .entry)) (length (now (diagnostics .entry))) (outcomeIs r (now (ty .exit))) (now (diagnostics .exit)) ⌝ }
 {
-    let mut index = [0u16; 34243];
+    let mut index = [0u16; 42435];
     judge_with(table, &mut index, question, diagnostics, ty)
 }
 

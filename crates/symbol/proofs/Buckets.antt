@@ -16,7 +16,7 @@ use Rattle.ty.proofs.Choice.{by-choice}
 use Rattle.ty.specs.Choose.{choose}
 
 -- a table of more than 16,384 bytes, of more than 2,048, and a short one
-pub buckets-many : (n : ℕ) → 16384 < n → bucketCount n ≡ 4096
+pub buckets-many : (n : ℕ) → 16384 < n → bucketCount n ≡ 8192
 unfolding bucketCount choose
 buckets-many n h = rw (lt-ltb 16384 n h)
 
@@ -52,11 +52,11 @@ list-below h n =
     by-choice (λ (b : ℕ). h % b < b) (ltb 16384 n) (λ _. omega arith) λ _.
     by-choice (λ (b : ℕ). h % b < b) (ltb 2048 n) (λ _. omega arith) (λ _. omega arith)
 
-pub buckets-bound : (n : ℕ) → (1 ≤ bucketCount n) × (bucketCount n ≤ 4096)
+pub buckets-bound : (n : ℕ) → (1 ≤ bucketCount n) × (bucketCount n ≤ 8192)
 unfolding bucketCount
 buckets-bound n =
-    by-choice (λ (b : ℕ). (1 ≤ b) × (b ≤ 4096)) (ltb 16384 n) (λ _. (omega arith, omega arith)) λ _.
-    by-choice (λ (b : ℕ). (1 ≤ b) × (b ≤ 4096)) (ltb 2048 n) (λ _. (omega arith, omega arith)) (λ _. (omega arith, omega arith))
+    by-choice (λ (b : ℕ). (1 ≤ b) × (b ≤ 8192)) (ltb 16384 n) (λ _. (omega arith, omega arith)) λ _.
+    by-choice (λ (b : ℕ). (1 ≤ b) × (b ≤ 8192)) (ltb 2048 n) (λ _. (omega arith, omega arith)) (λ _. (omega arith, omega arith))
 
 pub lists-bound : (n : ℕ) → (1 ≤ listCount n) × (listCount n ≤ 1024)
 unfolding listCount
@@ -123,16 +123,16 @@ ways-tree n r = go (eqb (headOf r .kind) 1)
     go false = sym (ways-other n _ (omega arith))
 
 -- the numbers that a name's digits are taken from
-pub digits-first : (name : List ℕ) (h d : ℕ) → h ≡ hashOf 24 name → d ≡ 0 → h / 4096 ≡ nameDigits name d
+pub digits-first : (name : List ℕ) (h d : ℕ) → h ≡ hashOf 24 name → d ≡ 0 → h / 8192 ≡ nameDigits name d
 unfolding nameDigits choose
 digits-first name h d e z = rw (eq-eqb d 0 z, e)
 
-pub digits-later : (name : List ℕ) (h d : ℕ) → h ≡ digestOf 9 name → (d ≡ 0 → ⊥) → h ≡ nameDigits name d
+pub digits-later : (name : List ℕ) (h d : ℕ) → h ≡ digestOf 15 name → (d ≡ 0 → ⊥) → h ≡ nameDigits name d
 unfolding nameDigits choose
 digits-later name h d e z = rw (ne-eqb d 0 z, e)
 
 pub digits-kept : (name : List ℕ) (d : ℕ) → (d ≡ 0 → ⊥) → (d ≡ 1 → ⊥) → nameDigits name (d - 1) ≡ nameDigits name d
-digits-kept name d z o = sym (digits-later name (digestOf 9 name) (d - 1) refl (λ e. o (omega arith))) ∙ digits-later name (digestOf 9 name) d refl z
+digits-kept name d z o = sym (digits-later name (digestOf 15 name) (d - 1) refl (λ e. o (omega arith))) ∙ digits-later name (digestOf 15 name) d refl z
 
 -- the digits of a name
 pub digit-mixed : (name : List ℕ) (h d : ℕ) → h ≡ nameDigits name d → d < 21 → h / 2 ^ (3 * d) % 8 ≡ nameDigit name d

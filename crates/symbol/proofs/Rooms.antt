@@ -36,10 +36,10 @@ room-middle t h =
     let n : length (replicate {A = ℕ} 11163 0) ≡ 11163 = length-replicate {A = ℕ} 11163 0 in
     record { long = λ _. omega (arith, middle-counts (length t) h); blank = getD-zeros 11163 }
 
-pub room-long : (t : List ℕ) → IndexRoom t (replicate 34243 0)
+pub room-long : (t : List ℕ) → IndexRoom t (replicate 42435 0)
 room-long t =
-    let n : length (replicate {A = ℕ} 34243 0) ≡ 34243 = length-replicate {A = ℕ} 34243 0 in
-    record { long = λ h. omega (arith, buckets-bound (length t) .1, lists-bound (length t) .1); blank = getD-zeros 34243 }
+    let n : length (replicate {A = ℕ} 42435 0) ≡ 42435 = length-replicate {A = ℕ} 42435 0 in
+    record { long = λ h. omega (arith, buckets-bound (length t) .1, lists-bound (length t) .1); blank = getD-zeros 42435 }
 
 -- the room that is enough for the classes ahead
 pub late-short : (t : List ℕ) → length t ≤ 2048 → LateRoom t (replicate 118 0)

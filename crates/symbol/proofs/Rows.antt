@@ -9,7 +9,7 @@ use native.Mathlib.Omega.{arith}
 use Rattle.ty.proofs.Choice.{and-left, and-right, or-cases}
 use Rattle.ty.proofs.Same.{same-eq}
 use Rattle.ty.specs.Bytes.{sameBytes}
-use Rattle.symbol.specs.Spelling.{builtinNames, rowsOf, spelled, mixOf, hasBit, mayBeBuiltin}
+use Rattle.symbol.specs.Spelling.{builtinNames, rowsOf, spelled, mixOf, bitOf, mayBeBuiltin}
 
 module _ (name rows : List ℕ) (i : ℕ) where
   abbrev from : List ℕ
@@ -44,7 +44,7 @@ allMay [] = true
 allMay (x ∷ xs) = mayBeBuiltin x && allMay xs
 
 builtins-may : allMay builtinNames ≡ true
-unfolding allMay builtinNames mayBeBuiltin hasBit mixOf
+unfolding allMay builtinNames mayBeBuiltin bitOf mixOf
 builtins-may = refl
 
 module _ (name : List ℕ) where

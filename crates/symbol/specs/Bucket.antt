@@ -42,14 +42,14 @@ productOf s w = (s / 4294967296 + w) % 4294967296 * (s % 4294967296 / 2 * 2 + 1)
 unfoldable pub roundOf : ℕ → ℕ → ℕ
 roundOf s w = (productOf s w / 4294967296 + s % 4294967296) % 4294967296 * 4294967296 + productOf s w % 4294967296
 
--- the digest of a name by k rounds, of which the seventh and later ones have the word 0
+-- the digest of a name by k rounds, which take its six words again and again
 unfoldable pub digestOf : ℕ → List ℕ → ℕ
 digestOf zero name = 11400714819323198485
-digestOf (suc k) name = roundOf (digestOf k name) (wordAt name (4 * k))
+digestOf (suc k) name = roundOf (digestOf k name) (wordAt name (4 * k % 24))
 
 -- the number that a digit is taken from: a name's first digit from its hash, the others from its digest; those of other records from the ids
 unfoldable pub nameDigits : List ℕ → ℕ → ℕ
-nameDigits name d = choose (eqb d 0) (hashOf 24 name / 4096) (digestOf 9 name)
+nameDigits name d = choose (eqb d 0) (hashOf 24 name / 8192) (digestOf 15 name)
 
 unfoldable pub keyDigits : ℕ → ℕ → ℕ → ℕ
 keyDigits kind one two = one + 65536 * choose (ltb kind 4) 0 two

@@ -12,7 +12,7 @@ use Rattle.symbol.specs.Table.{Record, recordsOf}
 
 -- how many buckets of names there are for a table of n bytes, and as many of other keys; and how many of lists
 unfoldable pub bucketCount : ℕ → ℕ
-bucketCount n = choose (ltb 16384 n) 4096 (choose (ltb 2048 n) 2048 256)
+bucketCount n = choose (ltb 16384 n) 8192 (choose (ltb 2048 n) 2048 256)
 
 unfoldable pub listCount : ℕ → ℕ
 listCount n = choose (ltb 16384 n) 1024 (choose (ltb 2048 n) 256 64)

@@ -1,6 +1,6 @@
 -- The spellings of the built-in names, in the order of their ids. Document 01, "Types as bytes": the built-in names have fixed numbers.
 use Prim.Native.Nat.{ℕ, zero, suc, _+_, _*_, _/_, _%_, _^_}
-use mathlib.Core.Bool.{Bool, false, _&&_, _||_}
+use mathlib.Core.Bool.{Bool, false, _||_}
 use mathlib.Core.List.{List, [], _∷_, _++_}
 use lib.ListN.{getD, take, drop, replicate}
 use lib.Dec.{eqb}
@@ -74,11 +74,14 @@ mixOf name =
     + (19595 * getD name 2 0 + 31359 * getD name 3 0)
     + (39627 * getD name 5 0 + 48515 * getD name 8 0)
 
--- a mask has the bit n modulo 64
-unfoldable pub hasBit : ℕ → ℕ → Bool
-hasBit mask n = eqb (mask / 2 ^ (n % 64) % 2) 1
+-- the bit n modulo 64 of a mask
+unfoldable pub bitOf : ℕ → ℕ → ℕ
+bitOf mask n = mask / 2 ^ (n % 64) % 2
 
+-- four masks have the bits of that number
 unfoldable pub mayBeBuiltin : List ℕ → Bool
 mayBeBuiltin name =
-    (hasBit 12183240034444089300 (mixOf name) && hasBit 1956214469538365958 (mixOf name / 64))
-    && (hasBit 10955430332744839178 (mixOf name / 4096) && hasBit 24911053012042128 (mixOf name / 262144))
+    eqb
+    (bitOf 12183240034444089300 (mixOf name) + bitOf 1956214469538365958 (mixOf name / 64)
+    + (bitOf 10955430332744839178 (mixOf name / 4096) + bitOf 24911053012042128 (mixOf name / 262144)))
+    4

@@ -42,10 +42,10 @@ pub fn put(x: &mut [u16], i: usize, v: u16)
 
 // How many buckets of names there are for a table of n bytes, and as many of other keys.
 pub fn bucket_count(n: usize) -> usize
-    ensures { λ r. ⌜ (r ≡ bucketCount n) × (r ≤ 4096) ⌝ }
+    ensures { λ r. ⌜ (r ≡ bucketCount n) × (r ≤ 8192) ⌝ }
 {
     if 16384 < n {
-        return 4096;
+        return 8192;
     }
     if 2048 < n {
         return 2048;
@@ -68,10 +68,10 @@ pub fn list_count(n: usize) -> usize
 
 // The bucket of a number among those of a table of n bytes.
 pub fn reduced(h: usize, n: usize) -> usize
-    ensures { λ r. ⌜ (r ≡ h % bucketCount n) × (r < bucketCount n) × (r < 4096) ⌝ }
+    ensures { λ r. ⌜ (r ≡ h % bucketCount n) × (r < bucketCount n) × (r < 8192) ⌝ }
 {
     if 16384 < n {
-        return h % 4096;
+        return h % 8192;
     }
     if 2048 < n {
         return h % 2048;
@@ -94,10 +94,10 @@ pub fn list_reduced(h: usize, n: usize) -> usize
 
 // Where the entries of the first 5 bytes stand.
 fn unit_base(n: usize) -> usize
-    ensures { λ r. ⌜ (r ≡ unitBase n) × (r < 16384) ⌝ }
+    ensures { λ r. ⌜ (r ≡ unitBase n) × (r < 32768) ⌝ }
 {
     if 16384 < n {
-        return 10241;
+        return 18433;
     }
     if 2048 < n {
         return 4609;

@@ -2,9 +2,9 @@
 use ty::byte_at;
 use ty::same_bytes;
 ghost use mathlib.Core.Path.{_≡_};
-ghost use Prim.Native.Nat.{_*_};
+ghost use Prim.Native.Nat.{_*_, _<_};
 ghost use lib.ListN.{length};
-ghost use Rattle.symbol.specs.Spelling.{builtinNames, rowsOf, spelled, mixOf, hasBit, mayBeBuiltin};
+ghost use Rattle.symbol.specs.Spelling.{builtinNames, rowsOf, spelled, mixOf, bitOf, mayBeBuiltin};
 
 // A name's 24 bytes are one of the 40 rows.
 fn in_rows(name: &[u8], rows: &[u8]) -> bool
@@ -33,21 +33,22 @@ fn mix(name: &[u8]) -> u64
     one + two + three
 }
 
-// A mask has the bit n modulo 64.
-fn has_bit(mask: u64, n: u64) -> bool
-    ensures { λ r. ⌜ r ≡ hasBit mask n ⌝ }
+// The bit n modulo 64 of a mask.
+fn bit(mask: u64, n: u64) -> u64
+    ensures { λ r. ⌜ (r ≡ bitOf mask n) × (r < 2) ⌝ }
 {
-    (mask >> (n % 64)) % 2 == 1
+    (mask >> (n % 64)) % 2
 }
 
-// Each built-in spelling has four bits by the number of its bytes; few other names do, so that few are compared with the spellings.
+// Each built-in spelling has four bits by the number of its bytes; few other names do, so that few are compared with the spellings. The bits are counted, so that
+// there is no branch.
 fn may_be_builtin(name: &[u8]) -> bool
     ensures { λ r. ⌜ r ≡ mayBeBuiltin (now (name .entry)) ⌝ }
 {
     let n = mix(name);
-    let low = has_bit(12183240034444089300, n) & has_bit(1956214469538365958, n / 64);
-    let high = has_bit(10955430332744839178, n / 4096) & has_bit(24911053012042128, n / 262144);
-    low & high
+    let low = bit(12183240034444089300, n) + bit(1956214469538365958, n / 64);
+    let high = bit(10955430332744839178, n / 4096) + bit(24911053012042128, n / 262144);
+    low + high == 4
 }
 
 // A name's 24 bytes are a built-in spelling: Pair to keys in the order of their ids, 24 bytes each, zero-padded. Compiled code

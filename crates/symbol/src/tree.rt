@@ -72,7 +72,7 @@ fn wide(b: u8) -> usize
 // The tree of a key.
 pub fn tree_of(t: &[u8], key: Key) -> usize
     requires { ⌜ KeyIn (now t) key ⌝ }
-    ensures { λ r. ⌜ (r ≡ treeFor (now (t .entry)) key) × (r < 8192) ⌝ }
+    ensures { λ r. ⌜ (r ≡ treeFor (now (t .entry)) key) × (r < 16384) ⌝ }
 {
     let n = t.len();
     match key {
@@ -101,14 +101,14 @@ fn digest_round(s: usize, w: usize) -> usize
     (p / 4294967296 + low) % 4294967296 * 4294967296 + p % 4294967296
 }
 
-// A number of 64 bits for 24 bytes of a name. Names that share a hash are easy to find; for names that share the first bits of this number a search must try so many.
+// A number of 64 bits for 24 bytes of a name, each of which is used twice or more, so that no part of the name sets it alone.
 fn digest(name: &[u8]) -> usize
-    ensures { λ r. ⌜ r ≡ digestOf 9 (now (name .entry)) ⌝ }
+    ensures { λ r. ⌜ r ≡ digestOf 15 (now (name .entry)) ⌝ }
 {
     let mut s: usize = 11400714819323198485;
     let mut k: usize = 0;
-    while k < 9 {
-        s = digest_round(s, word_at(name, 4 * k));
+    while k < 15 {
+        s = digest_round(s, word_at(name, 4 * k % 24));
         k += 1;
     }
     s
@@ -132,7 +132,7 @@ fn digits(t: &[u8], key: Key, h: usize, d: usize) -> usize
     match key {
         Key::Name(at) => {
             if d == 0 {
-                return hash(name_at(t, at.at)) / 4096;
+                return hash(name_at(t, at.at)) / 8192;
             }
             if d == 1 {
                 return digest(name_at(t, at.at));

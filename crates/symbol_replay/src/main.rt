@@ -10,7 +10,7 @@ fn next() -> bool {
     let len = symbol::front::id_at(&head, 0) as usize;
     let mut space = io::large_buffer();
     let n = io::read_full(0, &mut space[..len]);
-    let mut index = [0u16; 34243];
+    let mut index = [0u16; 42435];
     let c = symbol::checks::check_table(&space[..n], &mut index);
     io::print_decimal(1, c.number as u64);
     io::write_all(1, b"\n")

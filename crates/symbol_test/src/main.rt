@@ -19,7 +19,7 @@ ghost use Rattle.symbol_test.specs.Shown.{shown, isType, firstCount, fir
 fn number(t: &[u8]) -> u8
     ensures { λ r. ⌜ r ≡ tableFault (now (t .entry)) ⌝ }
 {
-    let mut index = [0u16; 34243];
+    let mut index = [0u16; 42435];
     let c = check_table(t, &mut index);
     c.number
 }
@@ -642,7 +642,7 @@ fn second_builtin(t: &[u8], x: &[u16], owner: u16, name: u16) -> bool
 // Classes and names: superclass, package, `types`, operators, one capital letter.
 fn classes() {
     let t = TABLE;
-    let mut index = [0u16; 34243];
+    let mut index = [0u16; 42435];
     let c = check_table(&t, &mut index);
     check::expect(c.number == 0);
     check::expect(c.names == 2);
@@ -663,7 +663,7 @@ fn classes() {
 // Members: fields, visibilities, suspend functions, variants, each the last record of its run.
 fn members() {
     let t = TABLE;
-    let mut index = [0u16; 34243];
+    let mut index = [0u16; 42435];
     let c = check_table(&t, &mut index);
     check::expect(field_is(&t, &index, 40, 41, b"\x0c\x00"));
     check::expect(!field_is(&t, &index, 41, 41, b"\x0c\x00"));
@@ -678,7 +678,7 @@ fn members() {
 // Functions, in table order.
 fn functions() {
     let t = TABLE;
-    let mut index = [0u16; 34243];
+    let mut index = [0u16; 42435];
     let c = check_table(&t, &mut index);
     check::expect(first_count(&t, &index, 40, 41) == 2);
     check::expect(first_count(&t, &index, 41, 41) == 99);

@@ -7,10 +7,10 @@ use Rattle.symbol.proofs.tree.digest.Statement.{statement}
 use Rattle.symbol.proofs.tree.digest.Tie as tie
 
 abbrev Inv-loop : tie.InvT-loop
-Inv-loop name s₀ k₀ s k = (k ≤ 9) × (s ≡ digestOf k name)
+Inv-loop name s₀ k₀ s k = (k ≤ 15) × (s ≡ digestOf k name)
 
 abbrev μ-loop : tie.MeasureT-loop
-μ-loop name s₀ k₀ s k = 9 - k
+μ-loop name s₀ k₀ s k = 15 - k
 
 loop-holds : tie.Need-loop-holds Inv-loop μ-loop
 unfolding digestOf
@@ -36,7 +36,7 @@ unfolding digestOf
 loop-again c = (omega arith, rw (add-one, (c .digest-round .ensures), (c .before .word-at .ensures .0), (c .before .before .before .loop .inv .1)))
 
 returns : tie.Need-returns Inv-loop μ-loop
-returns c = let e : (c .before .loop .k) ≡ 9 = omega (arith, (c .before .loop .inv .0)) in (c .before .loop .inv .1) ∙ ap (λ (k : ℕ). digestOf k (c .before .before .before .args .name .now)) e
+returns c = let e : (c .before .loop .k) ≡ 15 = omega (arith, (c .before .loop .inv .0)) in (c .before .loop .inv .1) ∙ ap (λ (k : ℕ). digestOf k (c .before .before .before .args .name .now)) e
 
 pub digest-spec : {M : Type 1} → statement M
 digest-spec =

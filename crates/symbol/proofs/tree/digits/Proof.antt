@@ -31,7 +31,7 @@ digest-requires : tie.Need-digest-requires
 digest-requires c κs = search needs
 
 returns-2 : tie.Need-returns-2
-returns-2 c = digits-later (nameAt (c .before .before .before .before .before .before .before .before .args .t .now) (c .before .before .before .before .before .key .given .0 .0 .at)) (c .digest .result) (c .before .before .before .before .before .before .before .before .args .d) ((c .digest .ensures) ∙ ap (digestOf 9) (c .before .name-at2 .ensures)) (c .before .before .before .if1 .left) ∙ sym (ap (λ (z : Key). digitsFor (c .before .before .before .before .before .before .before .before .args .t .now) z (c .before .before .before .before .before .before .before .before .args .d)) (c .before .before .before .before .before .key .given .1))
+returns-2 c = digits-later (nameAt (c .before .before .before .before .before .before .before .before .args .t .now) (c .before .before .before .before .before .key .given .0 .0 .at)) (c .digest .result) (c .before .before .before .before .before .before .before .before .args .d) ((c .digest .ensures) ∙ ap (digestOf 15) (c .before .name-at2 .ensures)) (c .before .before .before .if1 .left) ∙ sym (ap (λ (z : Key). digitsFor (c .before .before .before .before .before .before .before .before .args .t .now) z (c .before .before .before .before .before .before .before .before .args .d)) (c .before .before .before .before .before .key .given .1))
 
 enum-known-key-2 : tie.Need-enum-known-key-2
 enum-known-key-2 c = search needs
