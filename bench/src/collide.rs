@@ -131,12 +131,22 @@ fn number(owner: u16, name: u16) -> usize {
     owner.wrapping_mul(509).wrapping_add(name) as usize
 }
 
-/// Pairs of ids below this, from the fullest bucket of trees on.
-pub fn pairs(ids: u16) -> Vec<(u16, u16)> {
+/// How many buckets of names, and of other keys, a table of so many bytes has.
+fn trees(bytes: usize) -> usize {
+    match bytes {
+        0..=2048 => 256,
+        2049..=16_384 => 2048,
+        _ => TREES,
+    }
+}
+
+/// Pairs of ids below this, from the fullest bucket on that a table of so many bytes has.
+pub fn pairs(ids: u16, bytes: usize) -> Vec<(u16, u16)> {
+    let trees = trees(bytes);
     let mut buckets: BTreeMap<usize, Vec<(u16, u16)>> = BTreeMap::new();
     for owner in 0..ids {
         for name in 0..ids {
-            buckets.entry(number(owner, name) % TREES).or_default().push((owner, name));
+            buckets.entry(number(owner, name) % trees).or_default().push((owner, name));
         }
     }
     let mut fullest: Vec<_> = buckets.into_values().collect();
@@ -199,8 +209,13 @@ mod tests {
 
     #[test]
     fn pairs_have_few_buckets() {
-        let first: Vec<_> = pairs(1193).into_iter().take(1400).map(|(o, n)| number(o, n) % TREES).collect();
-        assert!(first.iter().collect::<BTreeSet<_>>().len() <= 9);
+        for (ids, bytes, most) in
+            [(76, 1875, 8), (184, 7500, 11), (328, 15_000, 7), (617, 30_000, 16), (1193, 60_000, 9)]
+        {
+            let few: BTreeSet<_> =
+                pairs(ids, bytes).iter().take(bytes / 43).map(|(o, n)| number(*o, *n) % trees(bytes)).collect();
+            assert!(few.len() <= most, "{bytes} bytes: {} buckets", few.len());
+        }
         assert!(listed_with(65_535, 40, 1193).iter().all(|(o, n)| number(*o, *n) % LISTS == 555));
     }
 }

@@ -208,7 +208,7 @@ fn few(f: &mut Filler) {
 /// Half of the bytes are names; the rest are records of kinds 5 to 8 from the fullest buckets on.
 fn bucket_fields(f: &mut Filler, size: usize) {
     let ids = f.names(size / 2 / NAME_RECORD);
-    for (owner, name) in collide::pairs(ids) {
+    for (owner, name) in collide::pairs(ids, size) {
         let done = !f.put(|t| {
             t.field(owner, name, &[INT]);
             t.visibility(owner, name, 0);

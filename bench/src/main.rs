@@ -12,7 +12,7 @@ mod report;
 mod stack;
 
 use inputs::{Input, Make, CHOSEN, MAKES};
-use measure::{judging, least, parts, same_answer, Effort, Times, BUFFER};
+use measure::{judging, least, parts, Case, Effort, Times, BUFFER};
 use plot::{Panel, Series};
 use report::{Growth, NodeGrowth, RefusedRow, Report, Row};
 use std::time::Duration;
@@ -22,16 +22,14 @@ const COMMAND: &str = "rt staticlib aura_c && cd bench && cargo run --release --
 /// The part of the page that is written by hand begins so.
 const BY_HAND: &str = "\n## What was tried";
 
-/// The times of one of the inputs, which have the same question and take turns.
-fn times(inputs: &[Input], effort: Effort) -> Times {
-    inputs.iter().for_each(same_answer);
-    let tables: Vec<&[u8]> = inputs.iter().map(|input| input.table.as_slice()).collect();
-    parts(&tables, &inputs[0].question, effort)
+/// The times of one input.
+fn times(input: &Input, effort: Effort) -> Times {
+    parts(vec![Case::new(std::slice::from_ref(input))], effort)[0]
 }
 
 fn rows(effort: Effort) -> Vec<Row> {
     let row = |input: Input| {
-        let times = times(std::slice::from_ref(&input), effort);
+        let times = times(&input, effort);
         Row { make: input.make, bytes: input.table.len(), asked: input.asked, times }
     };
     inputs::all().into_iter().map(row).collect()
@@ -39,11 +37,10 @@ fn rows(effort: Effort) -> Vec<Row> {
 
 fn growth(effort: Effort) -> Vec<Growth> {
     let of = |make: Make| {
-        let step = |size: usize| {
-            let inputs = inputs::turn(make, size);
-            (inputs[0].table.len(), times(&inputs, effort))
-        };
-        Growth { make, steps: [1875, 3750, 7500, 15_000, 30_000, 60_000].map(step).to_vec() }
+        let turns = [1875, 3750, 7500, 15_000, 30_000, 60_000].map(|size| inputs::turn(make, size));
+        let times = parts(turns.iter().map(|inputs| Case::new(inputs)).collect(), effort);
+        let lengths = turns.iter().map(|inputs| inputs[0].table.len());
+        Growth { make, steps: lengths.zip(times).collect() }
     };
     MAKES.into_iter().chain(CHOSEN).map(of).collect()
 }
@@ -52,7 +49,7 @@ fn nodes(effort: Effort) -> Vec<NodeGrowth> {
     let of = |make: Make, size: usize| {
         let step = |count: usize| {
             let (table, question) = (inputs::table(make, size), inputs::nodes(count, make));
-            (count, times(&[Input { make, asked: format!("{count} nodes"), table, question }], effort))
+            (count, times(&Input { make, asked: format!("{count} nodes"), table, question }, effort))
         };
         let bytes = if size == 0 { "".to_string() } else { format!(", {size} bytes") };
         let name = format!("{}{bytes}", make.words());
@@ -73,7 +70,7 @@ fn refused(effort: Effort) -> Vec<RefusedRow> {
         let mut buffer = [0; BUFFER];
         let found = aura_judge::judge(&input.table, &input.question, &mut buffer).number();
         assert_eq!(found, input.number, "{}", input.what);
-        let time = least(&mut [judging(&[&input.table], &input.question, BUFFER)], 1, effort)[0];
+        let time = least(&mut [judging(&[&input.table], &input.question, BUFFER)], effort)[0];
         RefusedRow { what: input.what, number: input.number, bytes: input.bytes(), time }
     };
     inputs::refused().into_iter().map(row).collect()
@@ -81,7 +78,7 @@ fn refused(effort: Effort) -> Vec<RefusedRow> {
 
 fn buffers(effort: Effort) -> Vec<(usize, f64)> {
     let question = inputs::nodes(1, Make::Nothing);
-    let time = |bytes: usize| (bytes, least(&mut [judging(&[&[]], &question, bytes)], 1, effort)[0]);
+    let time = |bytes: usize| (bytes, least(&mut [judging(&[&[]], &question, bytes)], effort)[0]);
     [0, BUFFER, 4096, 65_535].map(time).to_vec()
 }
 

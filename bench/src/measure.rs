@@ -59,12 +59,15 @@ impl Times {
 
 /// Something timed: runs it so many times, each time on the next of the tables that take turns, and says how long that
 /// took, without what is thrown away afterwards.
-type Part<'a> = Box<dyn FnMut(usize) -> Duration + 'a>;
+pub struct Part<'a> {
+    tables: usize,
+    run: Box<dyn FnMut(usize) -> Duration + 'a>,
+}
 
 /// Times what gives values for the table at a place; they are dropped outside the time.
 fn giving<'a, T>(tables: usize, mut f: impl FnMut(usize) -> T + 'a) -> Part<'a> {
     let mut places = (0..tables).cycle();
-    Box::new(move |batch| {
+    let run = Box::new(move |batch| {
         let mut kept = Vec::with_capacity(batch);
         let began = Instant::now();
         for place in places.by_ref().take(batch) {
@@ -73,7 +76,8 @@ fn giving<'a, T>(tables: usize, mut f: impl FnMut(usize) -> T + 'a) -> Part<'a> 
         let took = began.elapsed();
         black_box(&kept);
         took
-    })
+    });
+    Part { tables, run }
 }
 
 /// Times the judge. The buffers hold what the call before left; the judge clears them itself, inside the time.
@@ -81,70 +85,95 @@ pub fn judging<'a>(tables: &'a [&'a [u8]], question: &'a [u8], buffer: usize) ->
     let mut diagnostics = vec![0; buffer];
     let mut answer = [0; raw::ANSWER_SIZE];
     let mut turn = tables.iter().cycle();
-    Box::new(move |batch| {
+    let run = Box::new(move |batch| {
         let began = Instant::now();
         for table in turn.by_ref().take(batch) {
             black_box(raw::judge(black_box(table), black_box(question), &mut diagnostics, &mut answer));
         }
         began.elapsed()
-    })
+    });
+    Part { tables: tables.len(), run }
 }
 
-/// The least time of each part for one of so many tables, the parts run in turn.
-pub fn least(parts: &mut [Part], tables: usize, effort: Effort) -> Vec<f64> {
-    let batches: Vec<usize> = parts.iter_mut().map(batch_size).collect();
+impl Part<'_> {
+    /// A power of two.
+    fn batch_size(&mut self) -> usize {
+        let mut batch = 1;
+        while batch < 4096 && (self.run)(batch) < BATCH {
+            batch *= 2;
+        }
+        batch
+    }
+
+    /// The time of one run, from as many batches as have each table equally often.
+    fn each(&mut self, batch: usize) -> f64 {
+        let batches = (self.tables / batch).max(1);
+        let runs = batches * batch;
+        assert_eq!(runs % self.tables, 0, "the number of tables is no power of two");
+        let took: Duration = (0..batches).map(|_| (self.run)(batch)).sum();
+        took.as_nanos() as f64 / runs as f64
+    }
+}
+
+/// The least time of each part, the parts run in turn.
+pub fn least(parts: &mut [Part], effort: Effort) -> Vec<f64> {
+    let batches: Vec<usize> = parts.iter_mut().map(Part::batch_size).collect();
     let mut times = vec![f64::INFINITY; parts.len()];
     let began = Instant::now();
     let mut rounds = 0;
     while effort.goes_on(rounds, began.elapsed()) {
         for ((part, batch), time) in parts.iter_mut().zip(&batches).zip(&mut times) {
-            *time = time.min(each(part, *batch, tables));
+            *time = time.min(part.each(*batch));
         }
         rounds += 1;
     }
     times
 }
 
-/// A power of two.
-fn batch_size(part: &mut Part) -> usize {
-    let mut batch = 1;
-    while batch < 4096 && part(batch) < BATCH {
-        batch *= 2;
+/// One question and the tables that take turns under it.
+pub struct Case<'a> {
+    tables: Vec<&'a [u8]>,
+    asked: &'a [u8],
+    filled: Vec<table::Filled>,
+    names: Vec<Vec<String>>,
+    built: Vec<question::Asked>,
+}
+
+impl<'a> Case<'a> {
+    /// The inputs have the same question.
+    pub fn new(inputs: &'a [Input]) -> Case<'a> {
+        inputs.iter().for_each(same_answer);
+        let asked = inputs[0].question.as_slice();
+        let tables: Vec<&[u8]> = inputs.iter().map(|input| input.table.as_slice()).collect();
+        let filled: Vec<_> = tables.iter().map(|bytes| table::fill(bytes)).collect();
+        let names: Vec<_> = filled.iter().map(|filled| filled.names.clone()).collect();
+        let built = names.iter().map(|names| question::build(asked, names)).collect();
+        Case { tables, asked, filled, names, built }
     }
-    batch
-}
 
-/// The time of one run, from as many batches as have each table equally often.
-fn each(part: &mut Part, batch: usize, tables: usize) -> f64 {
-    let batches = (tables / batch).max(1);
-    let runs = batches * batch;
-    assert_eq!(runs % tables, 0, "the number of tables is no power of two");
-    let took: Duration = (0..batches).map(|_| part(batch)).sum();
-    took.as_nanos() as f64 / runs as f64
-}
-
-/// All parts of one question, for one of the tables, which take turns.
-pub fn parts(tables: &[&[u8]], asked: &[u8], effort: Effort) -> Times {
-    let count = tables.len();
-    let mut filled: Vec<_> = tables.iter().map(|bytes| table::fill(bytes)).collect();
-    let names: Vec<_> = filled.iter().map(|filled| filled.names.clone()).collect();
-    let built: Vec<_> = names.iter().map(|names| question::build(asked, names)).collect();
-    let times = least(
-        &mut [
+    fn parts(&mut self) -> [Part<'_>; 5] {
+        let Case { tables, asked, filled, names, built } = self;
+        let (tables, asked, count) = (&*tables, *asked, tables.len());
+        [
             judging(tables, &[], BUFFER),
             judging(tables, asked, BUFFER),
             giving(count, |place| table::fill(black_box(tables[place]))),
             giving(count, |place| question::build(black_box(asked), &names[place])),
             giving(count, |place| answer::run(&mut filled[place], black_box(&built[place]), false)),
-        ],
-        count,
-        effort,
-    );
-    Times { check: times[0], whole: times[1], fill: times[2], build: times[3], run: times[4] }
+        ]
+    }
+}
+
+/// All parts of each case, which run in turn as well.
+pub fn parts(mut cases: Vec<Case>, effort: Effort) -> Vec<Times> {
+    let effort = Effort { time: effort.time * cases.len() as u32, ..effort };
+    let mut parts: Vec<Part> = cases.iter_mut().flat_map(Case::parts).collect();
+    let of = |t: &[f64]| Times { check: t[0], whole: t[1], fill: t[2], build: t[3], run: t[4] };
+    least(&mut parts, effort).chunks_exact(5).map(of).collect()
 }
 
 /// Stops where the two sides differ on an input, or where it is refused.
-pub fn same_answer(input: &Input) {
+fn same_answer(input: &Input) {
     let mut theirs_buffer = [0; BUFFER];
     let theirs = oracle::answer(&input.table, &input.question, &mut theirs_buffer);
     let mut ours_buffer = [0; BUFFER];
@@ -170,11 +199,12 @@ mod tests {
     fn a_time_is_that_of_one_table() {
         for batch in [1, 4, 8, 32] {
             let mut places = (0..8).cycle();
-            let mut part: Part = Box::new(move |batch| {
+            let run = Box::new(move |batch| {
                 places.by_ref().take(batch).map(|place| Duration::from_millis(if place == 3 { 8 } else { 0 })).sum()
             });
-            part(5);
-            assert_eq!(each(&mut part, batch, 8), 1_000_000.0);
+            let mut part = Part { tables: 8, run };
+            (part.run)(5);
+            assert_eq!(part.each(batch), 1_000_000.0);
         }
     }
 }
