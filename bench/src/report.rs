@@ -223,7 +223,7 @@ Times are in microseconds: the minimum of many runs, in which the parts take tur
 
 With a question of 8 nodes. A processor learns the branches of a short table that is judged again and again, but not those
 of a long one, and that would show as a step. So at each size as many tables as have {turn},000 bytes together take turns,
-with the same records in other orders; a time is that of one table.
+with the same records in other orders, and so do the sizes; a time is that of one table.
 
 The last five tables have keys chosen against the index (`bench/src/collide.rs`):
 

@@ -28,6 +28,7 @@ pub mod Names
 pub mod NamesFirst
 pub mod NamesFit
 pub mod Joins
+pub mod Mades
 pub mod Passes
 pub mod Goods
 pub mod Cases

@@ -15,6 +15,7 @@ use Rattle.symbol.proofs.Aheads.{looked-on}
 use Rattle.symbol.proofs.Chains.{Lasts, entered-start, lasts-start, first-done, next-done}
 use Rattle.symbol.proofs.Faults.{fault-stop, fault-on, own-number, key-number, own-clean, key-clean, missing-class, short-fault}
 use Rattle.symbol.proofs.Joins.{Joining, joining}
+use Rattle.symbol.proofs.Mades.{placed-joined}
 use Rattle.symbol.proofs.NamesFit.{id-low, super-defined}
 use Rattle.symbol.proofs.Records.{here-cons, at-next, before-next, records-end, at-new}
 use Rattle.symbol.proofs.Trees.{tree-same, tree-start}
@@ -25,6 +26,7 @@ use Rattle.symbol.specs.Entered.{Entered}
 use Rattle.symbol.specs.Front.{headOf}
 use Rattle.symbol.specs.Index.{rootAt, firstAt, childAt, nextAt}
 use Rattle.symbol.specs.Join.{EntryIs, KeyAsked, JoinAsked, joined}
+use Rattle.symbol.specs.Made.{placed}
 use Rattle.symbol.specs.Refused.{hasKey, lastKind, recordFault, faultFrom, tableFault}
 use Rattle.symbol.specs.Table.{Record, recordsOf, countOf, nameCount}
 use Rattle.symbol.specs.Tree.{Tree}
@@ -132,9 +134,11 @@ module _ (t x late : List ℕ) (c : Cursor) (k n : ℕ) (looked : Bool) (g : Goi
 
     -- by the record itself
     module _ (f : ℕ) (own : f ≡ ownFault (before (c .index) (recordsOf t)) (recordAt t c)) where
+      pub own-is : (f ≡ 0 → ⊥) → f ≡ recordFault (before (c .index) (recordsOf t)) (recordAt t c) (recordsOf (drop (c .at) t))
+      own-is h = own ∙ sym (own-number (before (c .index) (recordsOf t)) (recordAt t c) (recordsOf (drop (c .at) t)) (λ z. h (own ∙ z)))
+
       own-fault : (f ≡ 0 → ⊥) → tableFault t ≡ f
-      own-fault h =
-          stopped f (own ∙ sym (own-number (before (c .index) (recordsOf t)) (recordAt t c) (recordsOf (drop (c .at) t)) (λ z. h (own ∙ z)))) h
+      own-fault h = stopped f (own-is h) h
 
       pub own-refused : (f ≡ 0 → ⊥) → refusal f ≡ checkedOf t
       own-refused h = refused t f (own-fault h) h
@@ -174,7 +178,7 @@ module _ (t x late : List ℕ) (c : Cursor) (k n : ℕ) (looked : Bool) (g : Goi
                   omega (arith, id-low t c (g .at) (p .head .two) d, g .long, more)
 
           module _ (f₂ : ℕ) (key : f₂ ≡ keyFault (before (c .index) (recordsOf t)) (recordAt t c) (recordsOf (drop (c .at) t))) where
-            both : f₂ ≡ recordFault (before (c .index) (recordsOf t)) (recordAt t c) (recordsOf (drop (c .at) t))
+            pub both : f₂ ≡ recordFault (before (c .index) (recordsOf t)) (recordAt t c) (recordsOf (drop (c .at) t))
             both = key ∙ sym (key-number (before (c .index) (recordsOf t)) (recordAt t c) (recordsOf (drop (c .at) t)) (sym own ∙ zero))
 
             pub key-refused : (f₂ ≡ 0 → ⊥) → refusal f₂ ≡ checkedOf t
@@ -191,6 +195,9 @@ module _ (t x late : List ℕ) (c : Cursor) (k n : ℕ) (looked : Bool) (g : Goi
               joins =
                   joining t x c (p .head) stands (g .entered) (g .lasts) (g .tree)
                   (sym (ap (λ (h : Head). h .malformed) (st .head)) ∙ whole) e (entry .key ∙ fresh) (entry .place)
+
+              pub going-placed : joined (length t) (c .at) e x ≡ placed (length t) (c .at) (recordAt t c) x
+              going-placed = placed-joined t x c (p .head) stands e (entry .key ∙ fresh) (entry .place)
 
               pub going-join : length t ≤ 60000 → JoinAsked x (length t) (c .at) e
               going-join h = joins .asked h

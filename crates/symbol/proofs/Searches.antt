@@ -43,7 +43,7 @@ seeking-start t x k b v e q =
 
 -- it ends at an empty entry
 pub seeking-free : (t x : List ℕ) (k : Key) (a d v : ℕ) → Seeking t x k a d v → v ≡ 0 → FreeIs t x k a
-seeking-free t x k a d v s z = record { depth = d; led = s .led; place = s .place; empty = sym (s .value) ∙ z; met = s .met }
+seeking-free t x k a d v s z = record { depth = d; led = s .led; place = s .place; empty = sym (s .value) ∙ z; few = omega (arith, s .few); met = s .met }
 
 place-next : (x : List ℕ) (n b : ℕ) (f : ℕ → ℕ) (d p : ℕ) → getD x (placeOf x n b f d) 0 ≡ suc p → placeOf x n b f (suc d) ≡ childAt n p (f d)
 unfolding placeOf

@@ -17,5 +17,6 @@ pub mod Asked
 pub mod Key
 pub mod Spot
 pub mod Join
+pub mod Made
 pub mod Answer
 pub mod Row

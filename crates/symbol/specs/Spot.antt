@@ -34,6 +34,7 @@ pub record FreeIs (t x : List ℕ) (k : Key) (a : ℕ) : Type 0 where
   pub led : Led x (length t) (treeFor t k) (digitFor t k) depth
   pub place : a ≡ placeFor t x k depth
   pub empty : getD x a 0 ≡ 0
+  pub few : depth ≤ suc (length t)
   pub met : (i : ℕ) → i < depth → (q : ℕ) → getD x (placeFor t x k i) 0 ≡ suc q → passes t k (frontRecord (drop q t)) ≡ false
 
 abbrev pub SpotIs : List ℕ → List ℕ → ℕ → Key → Spot → Type 0

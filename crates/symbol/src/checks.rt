@@ -28,6 +28,7 @@ ghost use Rattle.symbol.specs.Ahead.{Looked, LateRoom};
 ghost use Rattle.symbol.specs.Asked.{Asked, Prepared, Planted, superMissing, ownFault, keyFault};
 ghost use Rattle.symbol.specs.Join.{takenOf, EntryIs, KeyAsked, JoinAsked, joined};
 ghost use Rattle.symbol.specs.Key.{keyOf};
+ghost use Rattle.symbol.specs.Made.{indexMade};
 ghost use Rattle.symbol.specs.Refused.{tableFault, isBuiltinName, hasClass};
 ghost use Rattle.symbol.specs.Accepted.{refusal, checkedOf, IndexRoom, Accepted};
 ghost use Rattle.symbol.specs.Table.{recordsOf};
@@ -218,6 +219,7 @@ fn check_records(t: &[u8], x: &mut [u16], late: &mut [u16]) -> Checked
     requires { ⌜ (length (now t) ≤ 60000) × IndexRoom (now t) (now x) × LateRoom (now t) (now late) ⌝ }
     ensures { λ r. ⌜ r ≡ checkedOf (now (t .entry)) ⌝ }
     ensures { λ r. ⌜ (tableFault (now (t .entry)) ≡ 0 → Accepted (now (t .entry)) (now (x .exit))) ⌝ }
+    ensures { λ _. ⌜ now (x .exit) ≡ indexMade (now (t .entry)) (now (x .entry)) ⌝ }
 {
     let mut c = Cursor::new();
     let mut kind: u8 = 0;
@@ -251,6 +253,7 @@ fn check_short(t: &[u8], x: &mut [u16]) -> Checked
     requires { ⌜ (length (now t) ≤ 2048) × IndexRoom (now t) (now x) ⌝ }
     ensures { λ r. ⌜ r ≡ checkedOf (now (t .entry)) ⌝ }
     ensures { λ r. ⌜ (tableFault (now (t .entry)) ≡ 0 → Accepted (now (t .entry)) (now (x .exit))) ⌝ }
+    ensures { λ _. ⌜ now (x .exit) ≡ indexMade (now (t .entry)) (now (x .entry)) ⌝ }
 {
     let mut late = [0u16; 118];
     check_records(t, x, &mut late)
@@ -261,6 +264,7 @@ fn check_long(t: &[u8], x: &mut [u16]) -> Checked
     requires { ⌜ (length (now t) ≤ 60000) × IndexRoom (now t) (now x) ⌝ }
     ensures { λ r. ⌜ r ≡ checkedOf (now (t .entry)) ⌝ }
     ensures { λ r. ⌜ (tableFault (now (t .entry)) ≡ 0 → Accepted (now (t .entry)) (now (x .exit))) ⌝ }
+    ensures { λ _. ⌜ now (x .exit) ≡ indexMade (now (t .entry)) (now (x .entry)) ⌝ }
 {
     let mut late = [0u16; 2347];
     check_records(t, x, &mut late)
@@ -271,6 +275,7 @@ pub fn check_table(table: &[u8], index: &mut [u16]) -> Checked
     requires { ⌜ IndexRoom (now table) (now index) ⌝ }
     ensures { λ r. ⌜ r ≡ checkedOf (now (table .entry)) ⌝ }
     ensures { λ r. ⌜ (tableFault (now (table .entry)) ≡ 0 → Accepted (now (table .entry)) (now (index .exit))) ⌝ }
+    ensures { λ _. ⌜ now (index .exit) ≡ indexMade (now (table .entry)) (now (index .entry)) ⌝ }
 {
     if table.len() <= 2048 {
         return check_short(table, index);

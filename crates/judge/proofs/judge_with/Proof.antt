@@ -16,7 +16,7 @@ returns : tie.Need-returns
 returns c = ret-table (c .before .before .before .before .before .before .before .before .before .before .before .before .args .table .now) (c .before .before .before .before .before .before .before .before .before .before .before .before .args .question .now) _ _ (c .before .before .before .before .before .check-table .ensures .0) (c .before .if1 .taken) _ (refused-blank _ _ _ (c .before .before .before .before .before .before .before .before .before .before .before .before .pre .2) (c .refused .ensures)) _ (c .before .before .before .before .before .before .before .before .before .before .before .before .pre .1)
 
 judge-checked-requires : tie.Need-judge-checked-requires
-judge-checked-requires c κs = ((c .before .before .before .before .before .before .before .check-table .ensures .1) (table-ok (c .before .before .before .before .before .before .before .before .before .before .before .before .before .before .args .table .now) (c .before .before .before .before .before .before .before .before .before .before .before .before .before .before .args .question .now) 0 _ (c .before .before .before .before .before .before .before .check-table .ensures .0) (c .before .before .before .if1 .left)), names-checked (c .before .before .before .before .before .before .before .before .before .before .before .before .before .before .args .table .now) (c .before .before .before .before .before .before .before .before .before .before .before .before .before .before .args .question .now) 0 _ (c .before .before .before .before .before .before .before .check-table .ensures .0) (c .before .before .before .if1 .left), (c .before .before .before .before .before .before .before .before .before .before .before .before .before .before .pre .1), (c .before .before .before .before .before .before .before .before .before .before .before .before .before .before .pre .2))
+judge-checked-requires c κs = ((c .before .before .before .before .before .before .before .check-table .ensures .1 .0) (table-ok (c .before .before .before .before .before .before .before .before .before .before .before .before .before .before .args .table .now) (c .before .before .before .before .before .before .before .before .before .before .before .before .before .before .args .question .now) 0 _ (c .before .before .before .before .before .before .before .check-table .ensures .0) (c .before .before .before .if1 .left)), names-checked (c .before .before .before .before .before .before .before .before .before .before .before .before .before .before .args .table .now) (c .before .before .before .before .before .before .before .before .before .before .before .before .before .before .args .question .now) 0 _ (c .before .before .before .before .before .before .before .check-table .ensures .0) (c .before .before .before .if1 .left), (c .before .before .before .before .before .before .before .before .before .before .before .before .before .before .pre .1), (c .before .before .before .before .before .before .before .before .before .before .before .before .before .before .pre .2))
 
 same-length-2 : tie.Need-same-length-2
 same-length-2 c = search needs

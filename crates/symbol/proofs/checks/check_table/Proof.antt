@@ -2,6 +2,7 @@ use borrow.Author.Needs.{needs}
 use mathlib.Core.Path.{_∙_}
 use native.Mathlib.Omega.{arith}
 use Rattle.symbol.proofs.Faults.{long-fault}
+use Rattle.symbol.proofs.Mades.{made-long}
 use Rattle.symbol.proofs.Passes.{refused}
 use Rattle.symbol.proofs.checks.check_table.Statement.{statement}
 use Rattle.symbol.proofs.checks.check_table.Tie as tie
@@ -19,7 +20,7 @@ refuse-requires : tie.Need-refuse-requires
 refuse-requires c κs = search needs
 
 returns-2 : tie.Need-returns-2
-returns-2 c = ((c .refuse .ensures) ∙ refused (c .before .before .before .before .before .args .table .now) 1 (long-fault (c .before .before .before .before .before .args .table .now) (c .before .if2 .taken)) (λ z. omega arith), λ z. absurd (omega (arith, long-fault (c .before .before .before .before .before .args .table .now) (c .before .if2 .taken))))
+returns-2 c = ((c .refuse .ensures) ∙ refused (c .before .before .before .before .before .args .table .now) 1 (long-fault (c .before .before .before .before .before .args .table .now) (c .before .if2 .taken)) (λ z. omega arith), (λ z. absurd (omega (arith, long-fault (c .before .before .before .before .before .args .table .now) (c .before .if2 .taken))), made-long (c .before .before .before .before .before .args .table .now) (c .before .before .before .before .before .args .index .now) (c .before .if2 .taken)))
 
 check-long-requires : tie.Need-check-long-requires
 check-long-requires c κs = search needs
