@@ -1,6 +1,9 @@
 //! Document 01's examples, its marked cases and its corners as cases, each with the answer that
 //! document 01 has for it, written by hand. The stored sample begins with them.
 
+mod question_edges;
+mod table_edges;
+
 use crate::bytes::*;
 use crate::name::{built_in, NONE};
 
@@ -45,6 +48,22 @@ impl List {
         let (name, expected) = (name.to_string(), expected.to_string());
         self.all.push(Example { sentence: self.sentence, name, table, question, expected });
     }
+
+    /// A table and its number, or 0: an Int passes under it.
+    fn table(&mut self, name: &str, table: Bytes, number: u8) {
+        let expected = if number == 0 { "0 1 1 00 0".to_string() } else { refused(number) };
+        self.raw(name, table, question(&leaf(&[INT])), &expected);
+    }
+
+    /// A question that is refused without a table; its number stands in front of the case's name.
+    fn question(&mut self, name: &str, question: Bytes, number: u8) {
+        self.raw(&format!("question.{}-{}", number, name), vec![], question, &refused(number));
+    }
+}
+
+/// What the program prints of a refusal.
+fn refused(number: u8) -> String {
+    format!("{} 0 0 - 0", number)
 }
 
 /// The names of `base()`.
@@ -60,8 +79,12 @@ const LIB: u16 = 48;
 const Z: u16 = 49;
 
 fn base() -> Table {
+    with_names(&["f", "p", "q", "Aa", "Bb", "Cc", "T", "pkg", "lib", "z"])
+}
+
+fn with_names(names: &[&str]) -> Table {
     let mut table = Table::new();
-    for name in ["f", "p", "q", "Aa", "Bb", "Cc", "T", "pkg", "lib", "z"] {
+    for name in names {
         table.name(name);
     }
     table
@@ -101,6 +124,8 @@ pub fn all() -> Vec<Example> {
     question_refusals(&mut list);
     orders_of_refusal(&mut list);
     unsaid(&mut list);
+    table_edges::add(&mut list);
+    question_edges::add(&mut list);
     list.all
 }
 
@@ -737,14 +762,8 @@ fn methods(list: &mut List) {
 }
 
 fn table_refusals(list: &mut List) {
-    let plain = || question(&leaf(&[INT]));
-    let refused = |n: u8| format!("{} 0 0 - 0", n);
-    const FINE: &str = "0 1 1 00 0";
-    let mut put = |name: &str, table: Bytes, number: u8| {
-        list.of("refusals_of_tables");
-        let expected = if number == 0 { FINE.to_string() } else { refused(number) };
-        list.raw(name, table, plain(), &expected);
-    };
+    list.of("refusals_of_tables");
+    let mut put = |name: &str, table: Bytes, number: u8| list.table(name, table, number);
     let name = |text: &str| {
         let mut table = Table::new();
         table.name(text);

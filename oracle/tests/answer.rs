@@ -59,20 +59,6 @@ fn more_diagnostics_than_two_bytes_count() {
 }
 
 #[test]
-fn a_tie_of_more_than_255() {
-    let mut table = Table::new();
-    let f = table.name("f");
-    for _ in 0..6_661 {
-        table.plain(f, &[INT], &[]);
-    }
-    for id in 0..5 {
-        table.suspend(0, id);
-    }
-    assert_eq!(table.bytes().len(), 60_000);
-    assert_eq!(printed(&table.bytes(), &question(&call(f, &[]))), "0 0 1 00 1\n19 0 6661\n");
-}
-
-#[test]
 fn tables_of_60000_bytes_are_read_and_of_60001_refused() {
     for kind in [1, 5, 7] {
         for (len, number) in [(59_999, 0), (60_000, 0), (60_001, 1)] {

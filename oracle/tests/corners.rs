@@ -88,6 +88,29 @@ sentences! {
     the_first_faulty_record
     the_longest_types
     what_document_01_leaves_to_the_rust
+    limits_of_tables
+    lengths_and_letters_of_names
+    every_built_in_name_is_a_key
+    a_cut_record_is_malformed
+    every_kind_that_falls
+    every_id_of_a_record
+    every_id_in_a_type
+    a_key_again_behind_another
+    a_key_of_two_ids_is_both_of_them
+    a_parameters_name_is_a_key_within_its_function
+    a_superclass_behind_its_class
+    error_in_every_part_of_a_type
+    types_at_192_bytes_in_every_place
+    members_in_a_table_of_every_kind
+    operators_in_a_table_of_every_kind
+    functions_in_a_table_of_every_kind
+    headers_of_questions
+    a_cut_node_and_a_byte_behind_the_tree
+    the_last_operators_and_kinds
+    every_id_of_a_node
+    eight_before_ten_within_a_node
+    counts_of_arguments_and_nodes
+    types_of_leaves_at_192_bytes
 }
 
 #[test]

@@ -1,7 +1,7 @@
 //! The stored answers are what the oracle says today.
 
 use oracle::sample::{files, hex, replayed, unhex, BINARY, REPLAYED, TEXT};
-use std::collections::HashSet;
+use std::collections::{BTreeSet, HashSet};
 use std::path::PathBuf;
 use std::sync::OnceLock;
 
@@ -25,7 +25,7 @@ fn the_stored_files_are_what_the_oracle_says() {
     assert!(stored_text == *text, "the text has another length");
     assert!(std::fs::read(place(BINARY)).expect(BINARY) == *binary);
     assert_eq!(std::fs::read_to_string(place(REPLAYED)).expect(REPLAYED), replayed(text));
-    assert!(text.len() + binary.len() < 2_300_000);
+    assert!(text.len() + binary.len() < 2_450_000);
 }
 
 #[test]
@@ -37,6 +37,14 @@ fn there_are_at_least_3000_cases_and_each_has_its_own_name() {
     let marked = names.iter().filter(|n| n.contains(".marked.")).count();
     // One per mark of document 01.
     assert_eq!(marked, 13);
+}
+
+/// Number 13 is drawn by no input.
+#[test]
+fn each_number_from_0_to_12_is_drawn_by_some_case() {
+    let number = |line: &str| line.split(' ').nth(3).and_then(|n| n.parse::<u8>().ok());
+    let drawn: BTreeSet<u8> = made().0.lines().filter(|l| !l.starts_with('#')).filter_map(number).collect();
+    assert_eq!(drawn, (0..=12).collect());
 }
 
 #[test]
