@@ -41,11 +41,13 @@ mod diagnostic;
 mod names;
 pub mod raw;
 mod refusal;
+mod spellings;
 mod ty;
 
 pub use diagnostic::{Diagnostic, DiagnosticKind, Diagnostics};
-pub use names::{Names, BUILT_IN};
+pub use names::Names;
 pub use refusal::{Doer, Refusal};
+pub use spellings::BUILT_IN;
 pub use ty::{NameId, Shown, Type, TypeError};
 
 use raw::{Fields, ANSWER_SIZE, DIAGNOSTIC_SIZE};

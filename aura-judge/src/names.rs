@@ -1,50 +1,7 @@
 //! Names by id, for showing types.
 
+use crate::spellings::BUILT_IN;
 use crate::ty::NameId;
-
-/// The names that have fixed numbers.
-pub const BUILT_IN: [&str; 40] = [
-    "Pair",
-    "List",
-    "ArrayList",
-    "MutableList",
-    "Array",
-    "Set",
-    "plus",
-    "minus",
-    "times",
-    "div",
-    "mod",
-    "eq",
-    "ne",
-    "lt",
-    "gt",
-    "le",
-    "ge",
-    "toString",
-    "hashCode",
-    "equals",
-    "first",
-    "second",
-    "size",
-    "count",
-    "isEmpty",
-    "last",
-    "get",
-    "getAt",
-    "set",
-    "add",
-    "push",
-    "append",
-    "contains",
-    "indexOf",
-    "length",
-    "isNotEmpty",
-    "trim",
-    "lowercase",
-    "uppercase",
-    "keys",
-];
 
 const NAME_RECORD: usize = 26;
 

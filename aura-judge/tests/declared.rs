@@ -1,5 +1,5 @@
 //! The functions that Rattle exports (crates/aura_c), that the header declares and that `src/raw.rs` declares are the
-//! same, parameter by parameter.
+//! same, parameter by parameter; so are the built-in names, those of the judge's definition.
 
 use std::collections::BTreeMap;
 
@@ -84,4 +84,15 @@ fn the_sizes_are_those_of_the_code_and_the_header() {
         assert!(code.contains(&format!("{code_has}{size};")), "{code_has}{size};");
         assert!(header.contains(&format!("{header_has}{size} ")), "{header_has}{size}");
     }
+}
+
+/// The definition has each name as `padded (80 ∷ 97 ∷ 105 ∷ 114 ∷ [])`, in the order of the ids.
+#[test]
+fn the_built_in_names_are_those_of_the_definition() {
+    let text = read("crates/symbol/specs/Spelling.antt");
+    let names = text.split("padded (").skip(1).map(|rest| {
+        let bytes = rest.split(" ∷ ").map_while(|number| number.parse().ok());
+        String::from_utf8(bytes.collect()).expect("a name has letters")
+    });
+    assert_eq!(names.collect::<Vec<_>>(), aura_judge::BUILT_IN);
 }

@@ -2,7 +2,7 @@
 //! an answer slice of every length, and all lent bytes.
 
 use aura_judge::raw::{self, field, Fields, ANSWER_SIZE, DIAGNOSTIC_SIZE, TOO_SHORT};
-use aura_judge::{judge, Answer, Diagnostic, DiagnosticKind, Doer, Refusal, Type};
+use aura_judge::{judge, Answer, Diagnostic, DiagnosticKind, Doer, Refusal, Type, BUILT_IN};
 
 const NO_HEADER: [u8; 5] = [0xff, 0xff, 0xff, 0xff, 0];
 const FILL: u8 = 0xa5;
@@ -161,6 +161,16 @@ fn a_diagnostics_buffer_of_every_length() {
         }
         assert_eq!(diagnostics, expected);
     }
+}
+
+/// Each is a key of every table (number 5), and id 40 is the first that a table has to define (number 10).
+#[test]
+fn the_library_has_just_the_built_in_names() {
+    for (spelled, id) in BUILT_IN.into_iter().zip(0..) {
+        assert_eq!(judge(&name(spelled), &question(&[0, 0]), &mut []).number(), 5, "{spelled}");
+        assert_eq!(judge(&[], &question(&[0, 17, id, 0]), &mut []).ty(), Some(&Type::Named(id.into())));
+    }
+    assert_eq!(judge(&[], &question(&[0, 17, 40, 0]), &mut []).number(), 10);
 }
 
 /// Hex, `-` for none, `xx*N` for N times xx, `.` between such runs.

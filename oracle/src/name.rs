@@ -1,47 +1,9 @@
 //! Names by number: the 40 built-in ones, then the table's.
 
-pub const BUILT_IN: [&str; 40] = [
-    "Pair",
-    "List",
-    "ArrayList",
-    "MutableList",
-    "Array",
-    "Set",
-    "plus",
-    "minus",
-    "times",
-    "div",
-    "mod",
-    "eq",
-    "ne",
-    "lt",
-    "gt",
-    "le",
-    "ge",
-    "toString",
-    "hashCode",
-    "equals",
-    "first",
-    "second",
-    "size",
-    "count",
-    "isEmpty",
-    "last",
-    "get",
-    "getAt",
-    "set",
-    "add",
-    "push",
-    "append",
-    "contains",
-    "indexOf",
-    "length",
-    "isNotEmpty",
-    "trim",
-    "lowercase",
-    "uppercase",
-    "keys",
-];
+#[path = "../../aura-judge/src/spellings.rs"]
+mod spellings;
+
+pub use spellings::BUILT_IN;
 
 /// In owner, superclass and package fields, and in a question's header: none.
 pub const NONE: u16 = 65_535;
