@@ -149,6 +149,15 @@ impl Table {
         Table::default()
     }
 
+    /// A table of name records; the first has number 40.
+    pub fn with_names(names: &[&str]) -> Table {
+        let mut table = Table::new();
+        for name in names {
+            table.name(name);
+        }
+        table
+    }
+
     fn push(&mut self, kind: u8, fields: &[&[u8]]) {
         self.records[kind as usize - 1].push(with(kind, fields));
     }

@@ -79,15 +79,7 @@ const LIB: u16 = 48;
 const Z: u16 = 49;
 
 fn base() -> Table {
-    with_names(&["f", "p", "q", "Aa", "Bb", "Cc", "T", "pkg", "lib", "z"])
-}
-
-fn with_names(names: &[&str]) -> Table {
-    let mut table = Table::new();
-    for name in names {
-        table.name(name);
-    }
-    table
+    Table::with_names(&["f", "p", "q", "Aa", "Bb", "Cc", "T", "pkg", "lib", "z"])
 }
 
 fn l(kind: u8) -> Bytes {

@@ -269,10 +269,7 @@ fn judged(table: &[u8], question: &[u8]) -> (Vec<u8>, Vec<u8>) {
 fn for_all_types_a_bitwise_operator_gives_the_left_type() {
     use oracle::bytes::*;
     let types: Vec<Bytes> = type_list().iter().filter(|t| t[0] != 12 && t[0] != ERROR).cloned().collect();
-    let mut table = Table::new();
-    for name in ["T", "U", "Page", "Scan"] {
-        table.name(name);
-    }
+    let table = Table::with_names(&["T", "U", "Page", "Scan"]);
     let (mut reported, mut silent) = (0, 0);
     for op in BIT_AND..ASSIGN {
         for left in &types {
@@ -294,10 +291,7 @@ fn for_all_types_a_bitwise_operator_gives_the_left_type() {
 #[test]
 fn for_all_types_not_null_gives_error_the_arm_for_a_nullable_operand_is_never_reached() {
     use oracle::bytes::*;
-    let mut table = Table::new();
-    for name in ["T", "U", "Page", "Scan"] {
-        table.name(name);
-    }
+    let table = Table::with_names(&["T", "U", "Page", "Scan"]);
     for ty in type_list() {
         let kind = if ty[0] == 12 { 8 } else { 13 };
         let said = judged(&table.bytes(), &question(&unary(NOT_NULL, &leaf(ty))));
@@ -308,10 +302,7 @@ fn for_all_types_not_null_gives_error_the_arm_for_a_nullable_operand_is_never_re
 #[test]
 fn for_all_types_an_error_operand_gives_error_silently() {
     use oracle::bytes::*;
-    let mut table = Table::new();
-    for name in ["T", "U", "Page", "Scan"] {
-        table.name(name);
-    }
+    let mut table = Table::with_names(&["T", "U", "Page", "Scan"]);
     table.operators(43, 0x7ff);
     for op in 0..23 {
         for ty in type_list() {

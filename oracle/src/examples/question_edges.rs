@@ -1,7 +1,7 @@
 //! Questions at the edges of the format: headers, each node cut behind each of its bytes, each id, counts, and types at
 //! their limits.
 
-use super::{with_names, List};
+use super::List;
 use crate::bytes::*;
 use crate::name::NONE;
 
@@ -31,8 +31,8 @@ fn headers(list: &mut List) {
     list.raw("question.current-type-and-package-39", vec![], under(39, 39, 0), int);
     list.question("current-type-65534", under(65_534, NONE, 0), 10);
     list.question("package-65534", under(NONE, 65_534, 0), 10);
-    list.ask("question.10-package-41-of-one-name", &with_names(&["a"]), under(40, 41, 0), "10 0 0 - 0");
-    list.ask("question.package-41-of-two-names", &with_names(&["a", "b"]), under(40, 41, 0), int);
+    list.ask("question.10-package-41-of-one-name", &Table::with_names(&["a"]), under(40, 41, 0), "10 0 0 - 0");
+    list.ask("question.package-41-of-two-names", &Table::with_names(&["a", "b"]), under(40, 41, 0), int);
 }
 
 fn cut_nodes(list: &mut List) {
@@ -87,7 +87,7 @@ fn ids(list: &mut List) {
             list.question(&format!("{}-{}", what, id), question(&tree), 10);
         }
     }
-    let names = with_names(&["a"]);
+    let names = Table::with_names(&["a"]);
     list.tree("question.member-40-of-one-name", &names, member(40, &leaf(&[ANY])), "0 1 1 09 0");
     list.tree("question.10-member-41-of-one-name", &names, member(41, &leaf(&[ANY])), "10 0 0 - 0");
 }

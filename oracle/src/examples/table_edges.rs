@@ -1,7 +1,7 @@
 //! Tables at the edges of the format: each record cut behind each of its bytes, each kind behind each higher one, each
 //! id and each key, names by length and letter, types at their limits, and the lookups of one table that has every kind.
 
-use super::{with_names, List};
+use super::List;
 use crate::bytes::*;
 use crate::gen::boundary::diagnostics_case;
 use crate::name::{built_in, BUILT_IN, NONE};
@@ -53,7 +53,7 @@ fn record(kind: u8, one: u16, other: u16) -> Bytes {
 /// The longest table that is read, and one diagnostic more than the program's buffer holds.
 fn limits(list: &mut List) {
     list.of("limits_of_tables");
-    let mut table = with_names(&["f"]);
+    let mut table = Table::with_names(&["f"]);
     for _ in 0..6_661 {
         table.plain(40, &[INT], &[]);
     }
@@ -91,12 +91,12 @@ fn names(list: &mut List) {
 fn built_in_names(list: &mut List) {
     list.of("every_built_in_name_is_a_key");
     for name in BUILT_IN {
-        put(list, &format!("the-built-in-name-{}", name), with_names(&[name]).bytes(), 5);
+        put(list, &format!("the-built-in-name-{}", name), Table::with_names(&[name]).bytes(), 5);
     }
     let longer: Vec<String> = BUILT_IN.iter().map(|name| format!("{}x", name)).collect();
     let longer: Vec<&str> = longer.iter().map(String::as_str).collect();
-    put(list, "built-in-names-with-a-letter-more", with_names(&longer).bytes(), 0);
-    put(list, "parts-of-built-in-names", with_names(&["Pai", "g", "oString", "ke", "PLUS"]).bytes(), 0);
+    put(list, "built-in-names-with-a-letter-more", Table::with_names(&longer).bytes(), 0);
+    put(list, "parts-of-built-in-names", Table::with_names(&["Pai", "g", "oString", "ke", "PLUS"]).bytes(), 0);
 }
 
 fn cut_records(list: &mut List) {
@@ -155,7 +155,7 @@ fn ids(list: &mut List) {
             put(list, &format!("kind-{}-{}-{}", kind, what, id), table, number);
         }
     }
-    let (a, b) = (with_names(&["A"]).bytes(), with_names(&["b"]).bytes());
+    let (a, b) = (Table::with_names(&["A"]).bytes(), Table::with_names(&["b"]).bytes());
     put(list, "an-id-of-a-name-before", [&a[..], &b, &record(2, 41, 0)].concat(), 0);
     put(list, "an-id-of-a-name-behind", [&a[..], &record(2, 41, 0), &b].concat(), 4);
 }
@@ -179,7 +179,7 @@ fn ids_in_types(list: &mut List) {
 
 fn keys(list: &mut List) {
     list.of("a_key_again_behind_another");
-    let names = ["a", "b", "a"].map(|name| with_names(&[name]).bytes());
+    let names = ["a", "b", "a"].map(|name| Table::with_names(&[name]).bytes());
     put(list, "kind-1-again-behind-another", names.concat(), 5);
     for kind in 2..=8 {
         let other = if kind < 4 { record(kind, 3, 0) } else { record(kind, 1, 3) };
@@ -283,7 +283,7 @@ const B: u16 = 41;
 /// Every kind of record: class A in `types`, class b below it; operators of A; A.b, and b twice; a field, a visibility
 /// and a variant of A; a suspend function b.
 fn every_kind() -> Table {
-    let mut table = with_names(&["A", "b"]);
+    let mut table = Table::with_names(&["A", "b"]);
     table.class(A, NONE, NONE, true);
     table.class(B, A, A, false);
     table.operators(A, 1 | 1 << 10);

@@ -150,6 +150,13 @@ fn in_table(rng: &mut Rng, ty: &[u8]) -> Bytes {
     table.bytes()
 }
 
+fn in_leaf_or_table(rng: &mut Rng, ty: &[u8]) -> Pair {
+    if rng.chance(50) {
+        return (Vec::new(), question(&leaf(ty)));
+    }
+    (in_table(rng, ty), question(&leaf(&[INT])))
+}
+
 pub fn boundary(rng: &mut Rng, index: u64) -> Pair {
     let no_table = Vec::new();
     let plain = question(&leaf(&[INT]));
@@ -214,11 +221,7 @@ pub fn boundary(rng: &mut Rng, index: u64) -> Pair {
             let count = 15 + rng.below(3);
             let params: Vec<&[u8]> = (0..count).map(|_| &[INT][..]).collect();
             let ty = function(&params, &[STRING]);
-            if rng.chance(50) {
-                (no_table, question(&leaf(&ty)))
-            } else {
-                (in_table(rng, &ty), plain)
-            }
+            in_leaf_or_table(rng, &ty)
         }
         10 => {
             let count = 15 + rng.below(3);
@@ -426,11 +429,7 @@ pub fn boundary(rng: &mut Rng, index: u64) -> Pair {
         25 => {
             let mut ty = array(Some(rng.below(2) as u32 * rng.next() as u32), &[INT]);
             ty[1] = rng.below(3) as u8;
-            if rng.chance(50) {
-                (no_table, question(&leaf(&ty)))
-            } else {
-                (in_table(rng, &ty), plain)
-            }
+            in_leaf_or_table(rng, &ty)
         }
         // Deep calls and method calls.
         26 => {

@@ -9,10 +9,7 @@ type Pair = (Bytes, Bytes);
 
 /// Names that the sweeps' table adds: 40 T (a type variable), 41 U (in `types`), 42 Page, 43 Scan, 44 f, 45 x.
 fn small_table() -> Table {
-    let mut table = Table::new();
-    for name in ["T", "U", "Page", "Scan", "f", "x"] {
-        table.name(name);
-    }
+    let mut table = Table::with_names(&["T", "U", "Page", "Scan", "f", "x"]);
     table.class(41, NONE, NONE, true);
     table.class(42, NONE, NONE, true);
     table.class(43, 42, NONE, true);
