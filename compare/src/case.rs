@@ -1,17 +1,12 @@
 //! One case: what the Rust says for some buffer lengths, and what the proved judge does.
 
 use aura_judge::raw::{self, Fields, ANSWER_SIZE};
-use oracle::answer::{diagnostics, finish, inside, refusal, run};
-use oracle::diagnostic::Diagnostic;
 use oracle::gen::Case;
-use oracle::question::build;
-use oracle::rust::Judged;
 use oracle::sample::hex;
-use oracle::table::fill;
-use oracle::{print_answer, Answer};
+use oracle::{answer, print_answer, Answer};
 
 /// What lies in and around the lent slices before a call.
-const POISON: u8 = 0xa5;
+pub const POISON: u8 = 0xa5;
 
 /// Bytes before and behind a lent slice, which a call must leave alone.
 const GUARD: usize = 64;
@@ -20,10 +15,7 @@ const GUARD: usize = 64;
 const LONGEST: usize = 66_000;
 
 /// What the Rust says of a table and a question.
-pub enum Said {
-    Refused(u8),
-    Judged { judged: Box<Judged>, diagnostics: Vec<Diagnostic>, names: Vec<String>, inside: bool },
-}
+pub struct Said(answer::Said);
 
 /// What a call of the proved judge left behind: the number that it answered, the answer slice, the lent buffer.
 pub struct Given<'a> {
@@ -34,35 +26,18 @@ pub struct Given<'a> {
 
 impl Said {
     pub fn of(table: &[u8], question: &[u8]) -> Said {
-        let number = refusal(table, question);
-        if number != 0 {
-            return Said::Refused(number);
-        }
-        let mut filled = fill(table);
-        let asked = build(question, &filled.names);
-        let judged = run(&mut filled, &asked, true);
-        let inside = inside(table, &filled.names, &asked, &judged);
-        let diagnostics = diagnostics(&judged, &asked);
-        Said::Judged { judged: Box::new(judged), diagnostics, names: filled.names, inside }
+        Said(answer::Said::of(table, question, true))
     }
 
     /// Whether the case is inside the compared domain.
     pub fn inside(&self) -> bool {
-        !matches!(self, Said::Judged { inside: false, .. })
-    }
-
-    /// The answer under a lent buffer, which is zero.
-    fn answer(&self, buffer: &mut [u8]) -> Answer {
-        match self {
-            Said::Refused(number) => Answer::refused(*number),
-            Said::Judged { judged, diagnostics, names, .. } => finish(judged, diagnostics, names, buffer),
-        }
+        self.0.inside()
     }
 
     /// The buffer lengths at which number 12 begins and ends.
     pub fn limits(&self) -> Vec<usize> {
-        match self {
-            Said::Judged { diagnostics, .. } if !diagnostics.is_empty() => {
+        match &self.0 {
+            answer::Said::Judged { diagnostics, .. } if !diagnostics.is_empty() => {
                 let need = 5 * diagnostics.len();
                 [need - 1, need, need + 4].into_iter().filter(|n| *n <= LONGEST).collect()
             }
@@ -75,7 +50,7 @@ impl Said {
     pub fn agrees(&self, given: &Given, expected: &mut [u8]) -> Result<u8, String> {
         let Given { number, answer: bytes, buffer } = given;
         expected.fill(0);
-        let right = self.answer(expected);
+        let right = self.0.answer(expected);
         let (answer, rest) = read(bytes);
         if *number == right.number && answer == right && rest.iter().all(|b| *b == 0) && *buffer == &*expected {
             return Ok(*number);

@@ -2,9 +2,9 @@
 
 use crate::counts;
 use crate::fault::Fault;
-use crate::pages::{At, Pages, POISON};
+use crate::pages::{At, Pages};
 use aura_judge::raw::ANSWER_SIZE;
-use compare::case::{described, Given, Said};
+use compare::case::{described, Given, Said, POISON};
 use oracle::answer::BUFFER;
 use oracle::gen::Case;
 use oracle::sample::hex;

@@ -1,6 +1,5 @@
 //! Mutations that keep the table's length right, and mostly its records and the tree whole.
 
-use crate::seeds::joined;
 use oracle::bytes::{binary, call, leaf, member, method, named_arg, unary, Bytes};
 use oracle::gen::damage::damage;
 use oracle::gen::model::random_type;
@@ -8,8 +7,8 @@ use oracle::gen::sweep::type_list;
 use oracle::name::NONE;
 use oracle::question::read_node;
 use oracle::rng::Rng;
-use oracle::split_input;
 use oracle::table::{name_count, record_lengths};
+use oracle::{join_input, split_input};
 use std::ops::Range;
 
 extern "C" {
@@ -50,10 +49,10 @@ pub extern "C" fn LLVMFuzzerCustomCrossOver(
     let (_, strange) = split_input(other);
     let parts = subtrees(strange);
     let made = if parts.is_empty() || rng.chance(40) {
-        joined(table, strange)
+        join_input(table, strange)
     } else {
         let part = &strange[rng.pick(&parts).clone()];
-        joined(table, &replaced(&mut rng, question, part))
+        join_input(table, &replaced(&mut rng, question, part))
     };
     match made {
         Some(made) if made.len() <= most => put(&made, out),
@@ -92,7 +91,7 @@ fn mutated(rng: &mut Rng, input: &[u8]) -> Option<Bytes> {
             _ => question = wrapped(rng, &table, &question),
         }
     }
-    joined(&table, &question)
+    join_input(&table, &question)
 }
 
 /// libFuzzer's own mutation of a part.

@@ -1,6 +1,7 @@
 //! A slice in pages of its own, with a forbidden page before and behind: the processor stops whoever steps over the end
 //! that touches one, also code that no sanitizer has instrumented.
 
+use compare::case::POISON;
 use std::ffi::{c_int, c_void};
 
 extern "C" {
@@ -12,9 +13,6 @@ const PAGE: usize = 4096;
 const NONE: c_int = 0;
 const READ_WRITE: c_int = 3;
 const PRIVATE_ANONYMOUS: c_int = 0x22;
-
-/// What lies in and around a lent slice before a call.
-pub const POISON: u8 = 0xa5;
 
 /// How many bytes at a slice's free end are watched for writing.
 const WATCHED: usize = 64;

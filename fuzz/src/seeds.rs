@@ -1,6 +1,7 @@
 //! The first corpus: the named examples and stored answers of the oracle, and generated cases of every profile.
 
 use oracle::gen::{case, PROFILES};
+use oracle::join_input;
 use oracle::sample::stored;
 use std::fs;
 use std::path::Path;
@@ -11,16 +12,10 @@ const EACH: u64 = 30;
 /// The seed of these.
 const SEED: u64 = 9;
 
-/// The program's input; None where the table's length does not fit.
-pub fn joined(table: &[u8], question: &[u8]) -> Option<Vec<u8>> {
-    let length = u16::try_from(table.len()).ok()?;
-    Some([&length.to_le_bytes(), table, question].concat())
-}
-
 pub fn write(folder: &Path) -> std::io::Result<()> {
     fs::create_dir_all(folder)?;
     let mut written = 0;
-    let mut put = |name: &str, table: &[u8], question: &[u8]| match joined(table, question) {
+    let mut put = |name: &str, table: &[u8], question: &[u8]| match join_input(table, question) {
         Some(bytes) => {
             written += 1;
             fs::write(folder.join(name.replace('/', "-")), bytes)

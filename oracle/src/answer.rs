@@ -72,16 +72,43 @@ pub fn in_domain(table: &[u8], question: &[u8]) -> bool {
 
 fn judge(table: &[u8], question: &[u8], buffer: &mut [u8], ask_domain: bool) -> (Answer, bool) {
     buffer.fill(0);
-    let number = refusal(table, question);
-    if number != 0 {
-        return (Answer::refused(number), true);
+    let said = Said::of(table, question, ask_domain);
+    (said.answer(buffer), said.inside())
+}
+
+/// What the Rust says of a table and a question, whatever buffer is lent.
+pub enum Said {
+    Refused(u8),
+    Judged { judged: Box<Judged>, diagnostics: Vec<Diagnostic>, names: Vec<String>, inside: bool },
+}
+
+impl Said {
+    /// Where the compared domain is not asked for, every case counts as inside.
+    pub fn of(table: &[u8], question: &[u8], ask_domain: bool) -> Said {
+        let number = refusal(table, question);
+        if number != 0 {
+            return Said::Refused(number);
+        }
+        let mut filled = fill(table);
+        let asked = build(question, &filled.names);
+        let judged = run(&mut filled, &asked, ask_domain);
+        let inside = !ask_domain || inside(table, &filled.names, &asked, &judged);
+        let diagnostics = diagnostics(&judged, &asked);
+        Said::Judged { judged: Box::new(judged), diagnostics, names: filled.names, inside }
     }
-    let mut filled = fill(table);
-    let asked = build(question, &filled.names);
-    let judged = run(&mut filled, &asked, ask_domain);
-    let inside = !ask_domain || inside(table, &filled.names, &asked, &judged);
-    let diagnostics = diagnostics(&judged, &asked);
-    (finish(&judged, &diagnostics, &filled.names, buffer), inside)
+
+    /// Whether the case is inside the compared domain.
+    pub fn inside(&self) -> bool {
+        !matches!(self, Said::Judged { inside: false, .. })
+    }
+
+    /// The answer under a lent buffer, which is zero.
+    pub fn answer(&self, buffer: &mut [u8]) -> Answer {
+        match self {
+            Said::Refused(number) => Answer::refused(*number),
+            Said::Judged { judged, diagnostics, names, .. } => finish(judged, diagnostics, names, buffer),
+        }
+    }
 }
 
 /// The answer to a run, under a lent buffer that is zero.
@@ -129,6 +156,12 @@ pub fn split_input(input: &[u8]) -> (&[u8], &[u8]) {
     rest.split_at(len)
 }
 
+/// The program's input; none where the table's length does not fit in 2 bytes.
+pub fn join_input(table: &[u8], question: &[u8]) -> Option<Vec<u8>> {
+    let length = u16::try_from(table.len()).ok()?;
+    Some([&length.to_le_bytes(), table, question].concat())
+}
+
 /// What the program prints of an answer and its buffer.
 pub fn print_answer(answer: &Answer, buffer: &[u8]) -> String {
     let mut out = format!("{} {} {} ", answer.number, answer.pass, answer.len);
@@ -148,9 +181,7 @@ pub fn print_answer(answer: &Answer, buffer: &[u8]) -> String {
 /// The program: standard input to standard output.
 pub fn program(input: &[u8]) -> String {
     let (table, question) = split_input(input);
-    let mut buffer = vec![0; BUFFER];
-    let answer = answer(table, question, &mut buffer);
-    print_answer(&answer, &buffer)
+    printed(table, question)
 }
 
 /// The same from a table and a question.

@@ -18,7 +18,9 @@ pub mod table;
 pub mod types;
 pub mod words;
 
-pub use answer::{answer, answer_and_domain, in_domain, print_answer, printed, program, split_input, Answer};
+pub use answer::{
+    answer, answer_and_domain, in_domain, join_input, print_answer, printed, program, split_input, Answer,
+};
 pub use question::question_number;
 pub use table::table_number;
 

@@ -25,9 +25,7 @@ fn document_01s_two_samples() {
 #[test]
 fn the_examples_through_the_program() {
     for e in examples::all().into_iter().step_by(7) {
-        let mut input = (e.table.len() as u16).to_le_bytes().to_vec();
-        input.extend(&e.table);
-        input.extend(&e.question);
+        let input = oracle::join_input(&e.table, &e.question).expect("the length fits");
         assert_eq!(run(&input), e.printed(), "{}", e.name);
     }
 }
