@@ -2,7 +2,8 @@
 
 use crate::inputs::Input;
 use aura_judge::raw;
-use oracle::{answer, question, table};
+use compare::case::{Outcome, Space};
+use oracle::{answer, gen, question, table};
 use std::hint::black_box;
 use std::time::{Duration, Instant};
 
@@ -174,20 +175,10 @@ pub fn parts(mut cases: Vec<Case>, effort: Effort) -> Vec<Times> {
 
 /// Stops where the two sides differ on an input, or where it is refused.
 fn same_answer(input: &Input) {
-    let mut theirs_buffer = [0; BUFFER];
-    let theirs = oracle::answer(&input.table, &input.question, &mut theirs_buffer);
-    let mut ours_buffer = [0; BUFFER];
-    let mut bytes = [0; raw::ANSWER_SIZE];
-    raw::judge(&input.table, &input.question, &mut ours_buffer, &mut bytes);
-    let ours = raw::Fields::of(&bytes);
-    let what = format!("{}, {} bytes, {}", input.make.words(), input.table.len(), input.asked);
-    assert_eq!(theirs.number, 0, "refused: {what}");
-    assert_eq!(
-        (ours.number, ours.pass, ours.len as usize, ours.count as usize, ours.ty),
-        (theirs.number, theirs.pass, theirs.len, theirs.count, &theirs.ty),
-        "the answers differ: {what}"
-    );
-    assert!(ours_buffer == theirs_buffer, "the diagnostics differ: {what}");
+    let case = gen::Case { table: input.table.clone(), question: input.question.clone(), buffer: BUFFER };
+    let said = format!("{}, {} bytes, {}", input.make.words(), input.table.len(), input.asked);
+    let outcome = Space::default().compare(&case, false).unwrap_or_else(|what| panic!("{said}: {what}"));
+    assert_eq!(outcome, Outcome::Agrees { number: 0, calls: 1 }, "{said}");
 }
 
 #[cfg(test)]
