@@ -173,27 +173,19 @@ fn the_library_has_just_the_built_in_names() {
     assert_eq!(judge(&[], &question(&[0, 17, 40, 0]), &mut []).number(), 10);
 }
 
-/// Hex, `-` for none, `xx*N` for N times xx, `.` between such runs.
-fn unhex(text: &str) -> Vec<u8> {
-    let mut out = Vec::new();
-    for part in text.split('.').filter(|part| *part != "-") {
-        let (digits, times) = part.split_once('*').unwrap_or((part, "1"));
-        let byte = |at: usize| u8::from_str_radix(&digits[at..at + 2], 16).unwrap();
-        let bytes: Vec<u8> = (0..digits.len()).step_by(2).map(byte).collect();
-        out.extend(bytes.repeat(times.parse().unwrap()));
+/// The stored cases: table, question, what the program prints, each behind its length in 2 bytes.
+fn stored() -> Vec<[Vec<u8>; 3]> {
+    let bytes = std::fs::read(concat!(env!("CARGO_MANIFEST_DIR"), "/../crates/replay/stdin")).unwrap();
+    let (mut cases, mut rest) = (Vec::new(), bytes.as_slice());
+    while !rest.is_empty() {
+        cases.push([(); 3].map(|()| {
+            let (len, behind) = rest.split_first_chunk().unwrap();
+            let (part, behind) = behind.split_at(u16::from_le_bytes(*len) as usize);
+            rest = behind;
+            part.to_vec()
+        }));
     }
-    out
-}
-
-/// The stored cases: table, question, what the program prints.
-fn stored() -> Vec<(Vec<u8>, Vec<u8>, String)> {
-    let text = std::fs::read_to_string(concat!(env!("CARGO_MANIFEST_DIR"), "/../samples/answers.txt")).unwrap();
-    let lines = text.lines().filter(|line| !line.starts_with('#'));
-    let case = |line: &str| {
-        let parts: Vec<&str> = line.splitn(4, ' ').collect();
-        (unhex(parts[1]), unhex(parts[2]), parts[3].replace('/', "\n") + "\n")
-    };
-    lines.map(case).collect()
+    cases
 }
 
 /// What the program prints of an answer as Rust values.
@@ -214,10 +206,10 @@ fn the_stored_answers() {
     let cases = stored();
     assert!(cases.len() > 3000);
     let mut kinds = [0; 24];
-    for (table, question, printed) in &cases {
+    for [table, question, printed] in &cases {
         let mut buffer = vec![FILL; 4000];
         let answer = judge(table, question, &mut buffer);
-        assert_eq!(print(&answer), *printed, "{table:02x?} {question:02x?}");
+        assert_eq!(print(&answer).as_bytes(), printed, "{table:02x?} {question:02x?}");
         answer.diagnostics().for_each(|d| kinds[d.kind.number() as usize] += 1);
         let used = 5 * answer.diagnostics().len();
         assert!(buffer[used..].iter().all(|&byte| byte == 0), "zeros behind the diagnostics");
@@ -232,16 +224,8 @@ fn refusals_by_number() {
         assert_eq!(Refusal::from_number(refusal.number()), Some(refusal));
     }
     assert_eq!((Refusal::from_number(0), Refusal::from_number(14)), (None, None));
-    let by = |number| Refusal::from_number(number).unwrap().by();
-    for number in 1..=13 {
-        let expected = match number {
-            1..=7 => Doer::TableWriter,
-            8..=11 => Doer::ScriptAuthor,
-            12 => Doer::Caller,
-            _ => Doer::Judge,
-        };
-        assert_eq!(by(number), expected);
-    }
+    let by = [&[Doer::TableWriter; 7][..], &[Doer::ScriptAuthor; 4], &[Doer::Caller, Doer::Judge]].concat();
+    assert_eq!(Refusal::ALL.map(Refusal::by).to_vec(), by);
 }
 
 #[test]
