@@ -1,4 +1,4 @@
-//! Keys chosen against the index of a table (crates/symbol/specs/Bucket.antt): they share a bucket, and names also the
+//! Keys chosen against the index of a table (crates/index/specs/Inside/Bucket.antt): they share a bucket, and names also the
 //! first digits by which a search in the bucket's tree goes one of eight ways.
 
 use oracle::rng::Rng;

@@ -1,18 +1,19 @@
 -- Laws of the lent buffer: two runs of diagnostics compose, and with room for all of them the buffer is their records with zeros behind.
--- Assumes nothing.
-use Prim.Native.Nat.{ℕ, suc, _+_, _-_, _*_, _/_, _%_, _≤_, _<_}
+--
+use Prim.Native.Nat.{ℕ, suc, _+_, _-_, _*_, _≤_, _<_}
 use borrow.Author.Tests.{le-leb, lt-leb}
-use lib.ListN.{length, set, replicate, length-append, length-replicate}
+use lib.ListN.{length, set, replicate, length-append, length-replicate, length-set}
 use lib.Seq.{sets, length-sets}
 use mathlib.Core.List.{List, [], _∷_, _++_, append-assoc}
 use mathlib.Core.Path.{_≡_, refl, sym, ap, _∙_}
 use native.Mathlib.Nat.{add-zero}
 use native.Mathlib.Numerals.{towards-suc}
 use native.Mathlib.Omega.{arith}
-use Rattle.area.proofs.Lists.{sets-zeros}
+use Rattle.area.proofs.ListFacts.{stored-length, sets-zeros}
 use Rattle.area.specs.Diagnostic.{Diag, recordOf, records, putOne, putAll}
-use Rattle.area.specs.Padding.{padded}
+use Rattle.area.specs.Padding.{paddedTo}
 use Rattle.ty.proofs.Choice.{by-choice, chosen, passed}
+use Rattle.ty.specs.Bytes.{twoBytes}
 
 pub record-length : (d : Diag) → length (recordOf d) ≡ 5
 unfolding recordOf
@@ -42,12 +43,18 @@ module _ (b : List ℕ) (n : ℕ) (d : Diag) where
   unfolding putOne
   putOne-length = by-choice (λ (l : List ℕ). length l ≡ length b) _ (λ e. length-sets b (5 * n) (recordOf d)) (λ e. refl)
 
--- the five stores of `report`
-pub put-bytes : (b : List ℕ) (n kind node number : ℕ) → 5 * n + 5 ≤ length b
-    → set (set (set (set (set b (5 * n) kind) (5 * n + 1) (node % 256)) (5 * n + 2) (node / 256 % 256)) (5 * n + 3) (number % 256)) (5 * n + 4) (number / 256 % 256)
-    ≡ putOne b n (record { kind = kind; node = node; number = number })
-unfolding putOne recordOf
-put-bytes b n kind node number h = chosen _ _ _ _ (le-leb _ _ h) (simp towards-suc)
+-- the stores of `report`
+module _ {b₁ : List ℕ} (b : List ℕ) (n kind node : ℕ) (e : b₁ ≡ sets (set b (5 * n) kind) (5 * n + 1) (twoBytes node)) where
+  pub first-length : length b₁ ≡ length b
+  first-length = stored-length (set b (5 * n) kind) (5 * n + 1) (twoBytes node) e ∙ length-set b (5 * n) kind
+
+  module _ {b₂ : List ℕ} (number : ℕ) (f : b₂ ≡ sets b₁ (5 * n + 3) (twoBytes number)) where
+    pub second-length : length b₂ ≡ length b
+    second-length = stored-length b₁ (5 * n + 3) (twoBytes number) f ∙ first-length
+
+    pub put-bytes : 5 * n + 5 ≤ length b → b₂ ≡ putOne b n (record { kind = kind; node = node; number = number })
+    unfolding putOne recordOf
+    put-bytes h = chosen _ b₂ _ _ (le-leb _ _ h) (f ∙ ap (λ (x : List ℕ). sets x (5 * n + 3) (twoBytes number)) e ∙ simp towards-suc)
 
 -- ---- several
 pub putAll-none : (b : List ℕ) (n : ℕ) → putAll b n [] ≡ b
@@ -102,6 +109,6 @@ put-behind (d ∷ ds) pre k m e h =
 pub put-zeros : (n : ℕ) (ds : List Diag) → 5 * length ds ≤ n → putAll (replicate n 0) 0 ds ≡ records ds ++ replicate (n - 5 * length ds) 0
 put-zeros n ds h = put-behind ds [] 0 n refl h
 
-pub put-padded : (n : ℕ) (ds : List Diag) → 5 * length ds ≤ n → putAll (replicate n 0) 0 ds ≡ padded n (records ds)
-unfolding padded
+pub put-padded : (n : ℕ) (ds : List Diag) → 5 * length ds ≤ n → putAll (replicate n 0) 0 ds ≡ paddedTo n (records ds)
+unfolding paddedTo
 put-padded n ds h = put-zeros n ds h ∙ ap (λ (k : ℕ). records ds ++ replicate (n - k) 0) (sym (records-length ds))

@@ -1,7 +1,7 @@
-pub mod Lists
 pub mod Paddings
 pub mod Diagnostics
 pub mod Slots
 pub mod Stores
 pub mod Sources
-pub mod Examples
+pub mod AreaExamples
+pub mod ListFacts

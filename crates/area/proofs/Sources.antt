@@ -1,15 +1,16 @@
--- Laws of sources: what a store of one asks and leaves, by its case. Assumes nothing.
-use Prim.Native.Nat.{ℕ, _+_, _/_, _%_, _≤_, _<_}
+-- Laws of sources: what a store of one asks and leaves, by its case.
+use Prim.Native.Nat.{ℕ, _+_, _≤_, _<_}
 use lib.ListN.{length, getD, take, drop}
 use mathlib.Core.List.{List, [], _∷_}
 use mathlib.Core.Path.{_≡_}
 use native.Mathlib.Omega.{arith}
 use Rattle.area.proofs.Slots.{slot-length, held-stored, held-slot}
-use Rattle.area.specs.Slot.{Lent, Slot, Stored, Held, slotOf}
-use Rattle.area.specs.Source.{typeFrom, Reads, Storable}
+use Rattle.area.specs.Inside.Slot.{Lent, Slot, Stored, SlotHolds, slotOf}
+use Rattle.area.specs.Inside.Storable.{Reads, Storable}
+use Rattle.area.specs.Source.{typeFrom}
 use Rattle.area.specs.declared.Source.the-variants.{Kind, ListOf, Name, First, Second, Inner, Pointer, Part, Function}
 use Rattle.area.specs.declared.Source.{Source}
-use Rattle.ty.specs.Bytes.{Ty, plainTy, innerOf}
+use Rattle.ty.specs.Bytes.{Ty, plainTy, innerOf, twoBytes}
 use Rattle.ty.specs.Kind.{pointerKind, listKind, namedKind, functionKind}
 
 -- ---- what `store` asks
@@ -40,7 +41,7 @@ pub storable : (table a l : List ℕ) (node first second : ℕ) (x y : Ty) (s : 
 storable table a l node first second x y s h r e f short = record { room = h; reads = r; short = rw (e, f) short }
 
 -- the children's slots hold x and y
-pub storable-held : (table a l : List ℕ) (node first second : ℕ) (x y : Ty) (s : Source) → node < first → node < second → Held a l first x → Held a l second y
+pub storable-held : (table a l : List ℕ) (node first second : ℕ) (x y : Ty) (s : Source) → node < first → node < second → SlotHolds a l first x → SlotHolds a l second y
     → length (typeFrom table x y s) ≤ 256 → Storable table a l node first second s
 storable-held table a l node first second x y s p q v w short =
     storable table a l node first second x y s (omega (arith, v .inside)) (reads-both l node first second (held-slot a l node first x p v) (held-slot a l node second y q w) s) (v .is) (w .is) short
@@ -81,7 +82,7 @@ module _ (table a l : List ℕ) (node first second : ℕ) (s : Source) (lent : L
 -- ---- what it leaves
 -- the slot then holds the type that the source stands for
 pub held-source : (table a a′ l l′ : List ℕ) (node first second : ℕ) (s : Source) → Lent a l → Storable table a l node first second s
-    → Stored a a′ l l′ node (typeFrom table (slotOf a l first) (slotOf a l second) s) → Held a′ l′ node (typeFrom table (slotOf a l first) (slotOf a l second) s)
+    → Stored a a′ l l′ node (typeFrom table (slotOf a l first) (slotOf a l second) s) → SlotHolds a′ l′ node (typeFrom table (slotOf a l first) (slotOf a l second) s)
 held-source table a a′ l l′ node first second s lent h w = held-stored a a′ l l′ node _ w lent (h .room) (h .short)
 
 module _ (table : List ℕ) (x y : Ty) (a a′ l l′ : List ℕ) (node : ℕ) (s : Source) where
@@ -93,7 +94,7 @@ module _ (table : List ℕ) (x y : Ty) (a a′ l l′ : List ℕ) (node : ℕ) (
   unfolding typeFrom
   from-list k e w = rw e w
 
-  pub from-name : (id : ℕ) → s ≡ Name id → Stored a a′ l l′ node (namedKind ∷ id % 256 ∷ id / 256 % 256 ∷ []) → Stored a a′ l l′ node (typeFrom table x y s)
+  pub from-name : (id : ℕ) → s ≡ Name id → Stored a a′ l l′ node (namedKind ∷ twoBytes id) → Stored a a′ l l′ node (typeFrom table x y s)
   unfolding typeFrom
   from-name id e w = rw e w
 

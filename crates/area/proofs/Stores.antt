@@ -1,16 +1,16 @@
--- What the copy loops and the stores leave. Assumes nothing.
+-- What the copy loops and the stores leave.
 use Prim.Native.Nat.{ℕ, _+_, _-_, _*_, _≤_, _<_}
-use lib.ListN.{length, getD, take, drop, set, length-drop}
+use lib.ListN.{length, getD, take, drop, set, length-drop, length-set}
 use lib.Seq.{sets, drop-set-lt, drop-drop, take-all}
 use mathlib.Core.List.{List, [], _∷_, _++_}
 use mathlib.Core.Path.{_≡_, refl, sym, ap, _∙_}
 use native.Mathlib.Numerals.{add-one, towards-suc}
 use native.Mathlib.Omega.{arith}
-use Rattle.area.proofs.Lists.{part-length, part-next, sets-snoc, sets-behind, drop-take}
+use Rattle.area.proofs.ListFacts.{part-length, part-next, sets-snoc, stored-length, sets-behind, drop-take}
 use Rattle.area.proofs.Slots.{slot-in, slot-length, stored-as}
-use Rattle.area.specs.Slot.{Lent, Slot, Stored, store, storeLen, slotOf}
+use Rattle.area.specs.Inside.Slot.{Lent, Slot, Stored, store, storeLen, slotOf}
 use Rattle.ty.proofs.Ends.{inner-last}
-use Rattle.ty.specs.Bytes.{Ty, innerOf}
+use Rattle.ty.specs.Bytes.{Ty, innerOf, twoBytes}
 
 -- ---- the copy loops: i bytes of s from `at` on have been stored at p
 unfoldable pub filled : List ℕ → ℕ → List ℕ → ℕ → ℕ → List ℕ
@@ -73,9 +73,13 @@ stored-kind a l node k = stored-bytes a _ l node (k ∷ []) 1 refl refl
 pub stored-two : (a l : List ℕ) (node x y : ℕ) → Stored a (set (set a (256 * node) x) (256 * node + 1) y) l (set l node 2) node (x ∷ y ∷ [])
 stored-two a l node x y = stored-bytes a _ l node (x ∷ y ∷ []) 2 (simp towards-suc) refl
 
-pub stored-three : (a l : List ℕ) (node x y z : ℕ)
-    → Stored a (set (set (set a (256 * node) x) (256 * node + 1) y) (256 * node + 2) z) l (set l node 3) node (x ∷ y ∷ z ∷ [])
-stored-three a l node x y z = stored-bytes a _ l node (x ∷ y ∷ z ∷ []) 3 (simp towards-suc) refl
+-- a byte in front of a number's two
+module _ {a′ : List ℕ} (a : List ℕ) (node x id : ℕ) (e : a′ ≡ sets (set a (256 * node) x) (256 * node + 1) (twoBytes id)) where
+  pub name-length : length a′ ≡ length a
+  name-length = stored-length (set a (256 * node) x) (256 * node + 1) (twoBytes id) e ∙ length-set a (256 * node) x
+
+  pub stored-name : (l : List ℕ) → Stored a a′ l (set l node 3) node (x ∷ twoBytes id)
+  stored-name l = stored-bytes a a′ l node (x ∷ twoBytes id) 3 (e ∙ simp towards-suc) refl
 
 -- two bytes in front of some
 pub stored-behind : (a a′ l : List ℕ) (node x y : ℕ) (t u : Ty) (n : ℕ) → u ≡ t → a′ ≡ sets (set (set a (256 * node) x) (256 * node + 1) y) (256 * node + 2) u → n ≡ length u + 2

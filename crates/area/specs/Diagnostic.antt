@@ -1,10 +1,10 @@
--- Diagnostics, and what a lent buffer holds of them. Document 01, "Answer": diagnostics are records of 5 bytes in order, kind, 2-byte node, 2-byte number;
--- "Types as bytes": numbers are low byte first.
-use Prim.Native.Nat.{ℕ, _+_, _*_, _/_, _%_}
+-- Diagnostics, and what a lent buffer holds of them. Document 01, "Answer": diagnostics are records of 5 bytes in order, kind, 2-byte node, 2-byte number.
+use Prim.Native.Nat.{ℕ, _+_, _*_}
 use mathlib.Core.List.{List, [], _∷_, _++_}
 use lib.Dec.{leb}
 use lib.ListN.{length}
 use lib.Seq.{sets}
+use Rattle.ty.specs.Bytes.{twoBytes}
 use Rattle.ty.specs.Choose.{choose}
 
 pub record Diag : Type 0 where
@@ -17,7 +17,7 @@ abbrev pub recordLength : ℕ
 recordLength = 5
 
 unfoldable pub recordOf : Diag → List ℕ
-recordOf d = d .kind ∷ d .node % 256 ∷ d .node / 256 % 256 ∷ d .number % 256 ∷ d .number / 256 % 256 ∷ []
+recordOf d = d .kind ∷ (twoBytes (d .node) ++ twoBytes (d .number))
 
 -- the records in order
 unfoldable pub records : List Diag → List ℕ

@@ -1,4 +1,4 @@
 pub mod Diagnostic
 pub mod Padding
-pub mod Slot
 pub mod Source
+pub mod Inside

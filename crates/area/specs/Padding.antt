@@ -4,5 +4,5 @@ use mathlib.Core.List.{List, _++_}
 use lib.ListN.{length, replicate}
 
 -- s in n bytes
-unfoldable pub padded : ℕ → List ℕ → List ℕ
-padded n s = s ++ replicate (n - length s) 0
+unfoldable pub paddedTo : ℕ → List ℕ → List ℕ
+paddedTo n s = s ++ replicate (n - length s) 0

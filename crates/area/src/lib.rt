@@ -1,14 +1,15 @@
 // Where types and diagnostics are kept while a question is judged: an area of at most 64 slots of 256 bytes with their lengths, and a lent buffer.
 ghost use mathlib.Core.Path.{_≡_};
-ghost use mathlib.Core.List.{[], _∷_};
-ghost use Prim.Native.Nat.{_+_, _-_, _*_, _/_, _%_, _≤_, _<_};
+ghost use mathlib.Core.List.{_∷_};
+ghost use Prim.Native.Nat.{_+_, _≤_, _<_};
 ghost use lib.ListN.{length, replicate, take, drop, getD};
 ghost use lib.Seq.{sets};
 ghost use Rattle.ty.specs.Kind.{errorKind, pointerKind, listKind, namedKind, functionKind};
-ghost use Rattle.ty.specs.Bytes.{plainTy, innerOf, sameBytes};
+ghost use Rattle.ty.specs.Bytes.{plainTy, innerOf, sameBytes, twoBytes};
 ghost use Rattle.area.specs.Diagnostic.{putOne, countLimit};
-ghost use Rattle.area.specs.Slot.{Lent, Slot, Stored, slotOf, slotSize};
-ghost use Rattle.area.specs.Source.{typeFrom, Storable};
+ghost use Rattle.area.specs.Inside.Slot.{Lent, Slot, Stored, StoredOf, slotOf, lastOf, slotSize};
+ghost use Rattle.area.specs.Source.{bytesFrom};
+ghost use Rattle.area.specs.Inside.Storable.{Storable, sourceType};
 use ty::Kind;
 
 // Where a node's type comes from: a kind without body, a List of one, a name, a child's type, what the first child's type holds, a Pointer to it, a
@@ -25,6 +26,15 @@ pub enum Source {
     Function { start: usize, len: usize },
 }
 
+// n goes into two bytes from `at` on, low byte first.
+pub fn put_two(n: usize, out: &mut [u8], at: usize)
+    requires { ⌜ at + 2 ≤ length (now out) ⌝ }
+    ensures { λ _. ⌜ now (out .exit) ≡ sets (now (out .entry)) at (twoBytes n) ⌝ }
+{
+    out[at] = (n % 256) as u8;
+    out[at + 1] = (n / 256 % 256) as u8;
+}
+
 // Reports a diagnostic, count having been reported before, and answers the new count.
 pub fn report(buf: &mut [u8], count: usize, kind: u8, node: usize, number: usize) -> usize
     requires { ⌜ count < countLimit ⌝ }
@@ -35,10 +45,8 @@ pub fn report(buf: &mut [u8], count: usize, kind: u8, node: usize, number: usize
         return count + 1;
     }
     buf[p] = kind;
-    buf[p + 1] = (node % 256) as u8;
-    buf[p + 2] = (node / 256 % 256) as u8;
-    buf[p + 3] = (number % 256) as u8;
-    buf[p + 4] = (number / 256 % 256) as u8;
+    put_two(node, buf, p + 1);
+    put_two(number, buf, p + 3);
     count + 1
 }
 
@@ -55,7 +63,7 @@ pub fn clear(buf: &mut [u8])
 
 // So many bytes from start on, or as many as there are.
 pub fn part(s: &[u8], start: usize, len: usize) -> &[u8]
-    ensures { λ r. ⌜ now r ≡ take len (drop start (now (s .entry))) ⌝ }
+    ensures { λ r. ⌜ now r ≡ bytesFrom (now (s .entry)) start len ⌝ }
 {
     let rest = ty::tail(s, start);
     if len <= rest.len() {
@@ -131,12 +139,11 @@ fn store_list(area: &mut [u8], lens: &mut [usize], node: usize, kind: u8)
 // A Named becomes the type of node.
 fn store_name(area: &mut [u8], lens: &mut [usize], node: usize, id: u16)
     requires { ⌜ Lent (now area) (now lens) × (node < length (now lens)) ⌝ }
-    ensures { λ _. ⌜ Stored (now (area .entry)) (now (area .exit)) (now (lens .entry)) (now (lens .exit)) node (namedKind ∷ id % 256 ∷ id / 256 % 256 ∷ []) ⌝ }
+    ensures { λ _. ⌜ Stored (now (area .entry)) (now (area .exit)) (now (lens .entry)) (now (lens .exit)) node (namedKind ∷ twoBytes id) ⌝ }
 {
     let p = 256 * node;
     area[p] = Kind::NAMED;
-    area[p + 1] = (id % 256) as u8;
-    area[p + 2] = (id / 256 % 256) as u8;
+    put_two(id as usize, area, p + 1);
     lens[node] = 3;
 }
 
@@ -149,8 +156,8 @@ pub fn store_part(
     start: usize,
     len: usize,
 )
-    requires { ⌜ Lent (now area) (now lens) × (node < length (now lens)) × (length (take len (drop start (now source))) ≤ slotSize) ⌝ }
-    ensures { λ _. ⌜ Stored (now (area .entry)) (now (area .exit)) (now (lens .entry)) (now (lens .exit)) node (take len (drop start (now (source .entry)))) ⌝ }
+    requires { ⌜ Lent (now area) (now lens) × (node < length (now lens)) × (length (bytesFrom (now source) start len) ≤ slotSize) ⌝ }
+    ensures { λ _. ⌜ Stored (now (area .entry)) (now (area .exit)) (now (lens .entry)) (now (lens .exit)) node (bytesFrom (now (source .entry)) start len) ⌝ }
 {
     let t = part(source, start, len);
     copy_in(area, 256 * node, t);
@@ -166,8 +173,9 @@ fn store_function(
     start: usize,
     len: usize,
 )
-    requires { ⌜ Lent (now area) (now lens) × (node < length (now lens)) × (length (take len (drop start (now table))) + 2 ≤ slotSize) ⌝ }
-    ensures { λ _. ⌜ Stored (now (area .entry)) (now (area .exit)) (now (lens .entry)) (now (lens .exit)) node (functionKind ∷ 0 ∷ take len (drop start (now (table .entry)))) ⌝ }
+    requires { ⌜ Lent (now area) (now lens) × (node < length (now lens)) × (length (bytesFrom (now table) start len) + 2 ≤ slotSize) ⌝ }
+    ensures { λ _. ⌜ Stored (now (area .entry)) (now (area .exit)) (now (lens .entry)) (now (lens .exit)) node
+        (functionKind ∷ 0 ∷ bytesFrom (now (table .entry)) start len) ⌝ }
 {
     let t = part(table, start, len);
     let p = 256 * node;
@@ -180,7 +188,7 @@ fn store_function(
 // The last n bytes of the type in slot m become the type of node.
 fn store_last(area: &mut [u8], lens: &mut [usize], node: usize, m: usize, n: usize)
     requires { ⌜ Lent (now area) (now lens) × Slot (now lens) node m × (n ≤ getD (now lens) m 0) ⌝ }
-    ensures { λ _. ⌜ Stored (now (area .entry)) (now (area .exit)) (now (lens .entry)) (now (lens .exit)) node (drop (getD (now (lens .entry)) m 0 - n) (slotOf (now (area .entry)) (now (lens .entry)) m)) ⌝ }
+    ensures { λ _. ⌜ StoredOf (now (area .entry)) (now (area .exit)) (now (lens .entry)) (now (lens .exit)) node (lastOf m n) ⌝ }
 {
     let skipped = lens[m] - n;
     move_down(area, 256 * m + skipped, 256 * node, n);
@@ -190,7 +198,7 @@ fn store_last(area: &mut [u8], lens: &mut [usize], node: usize, m: usize, n: usi
 // The type in slot m becomes the type of node.
 fn store_same(area: &mut [u8], lens: &mut [usize], node: usize, m: usize)
     requires { ⌜ Lent (now area) (now lens) × Slot (now lens) node m ⌝ }
-    ensures { λ _. ⌜ Stored (now (area .entry)) (now (area .exit)) (now (lens .entry)) (now (lens .exit)) node (slotOf (now (area .entry)) (now (lens .entry)) m) ⌝ }
+    ensures { λ _. ⌜ StoredOf (now (area .entry)) (now (area .exit)) (now (lens .entry)) (now (lens .exit)) node (λ a l. slotOf a l m) ⌝ }
 {
     let n = lens[m];
     store_last(area, lens, node, m, n);
@@ -206,7 +214,7 @@ fn inner_len(area: &[u8], lens: &[usize], m: usize) -> usize
 // What the type in slot m holds becomes the type of node.
 fn store_inner(area: &mut [u8], lens: &mut [usize], node: usize, m: usize)
     requires { ⌜ Lent (now area) (now lens) × Slot (now lens) node m ⌝ }
-    ensures { λ _. ⌜ Stored (now (area .entry)) (now (area .exit)) (now (lens .entry)) (now (lens .exit)) node (innerOf (slotOf (now (area .entry)) (now (lens .entry)) m)) ⌝ }
+    ensures { λ _. ⌜ StoredOf (now (area .entry)) (now (area .exit)) (now (lens .entry)) (now (lens .exit)) node (λ a l. innerOf (slotOf a l m)) ⌝ }
 {
     let n = inner_len(area, lens, m);
     store_last(area, lens, node, m, n);
@@ -215,7 +223,7 @@ fn store_inner(area: &mut [u8], lens: &mut [usize], node: usize, m: usize)
 // A Pointer to the type in slot m becomes the type of node.
 fn store_pointer(area: &mut [u8], lens: &mut [usize], node: usize, m: usize)
     requires { ⌜ Lent (now area) (now lens) × Slot (now lens) node m × (getD (now lens) m 0 < slotSize) ⌝ }
-    ensures { λ _. ⌜ Stored (now (area .entry)) (now (area .exit)) (now (lens .entry)) (now (lens .exit)) node (pointerKind ∷ slotOf (now (area .entry)) (now (lens .entry)) m) ⌝ }
+    ensures { λ _. ⌜ StoredOf (now (area .entry)) (now (area .exit)) (now (lens .entry)) (now (lens .exit)) node (λ a l. pointerKind ∷ slotOf a l m) ⌝ }
 {
     let n = lens[m];
     let p = 256 * node;
@@ -235,7 +243,8 @@ pub fn store(
     source: Source,
 )
     requires { ⌜ Lent (now area) (now lens) × Storable (now table) (now area) (now lens) node first second source ⌝ }
-    ensures { λ _. ⌜ Stored (now (area .entry)) (now (area .exit)) (now (lens .entry)) (now (lens .exit)) node (typeFrom (now (table .entry)) (slotOf (now (area .entry)) (now (lens .entry)) first) (slotOf (now (area .entry)) (now (lens .entry)) second) source) ⌝ }
+    ensures { λ _. ⌜ StoredOf (now (area .entry)) (now (area .exit)) (now (lens .entry)) (now (lens .exit)) node
+        (sourceType (now (table .entry)) first second source) ⌝ }
 {
     match source {
         Source::Kind(kind) => store_kind(area, lens, node, kind),

@@ -1,3 +1,3 @@
-pub mod Numbers
 pub mod Stored
 pub mod Results
+pub mod NumberBytes

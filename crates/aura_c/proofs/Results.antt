@@ -1,4 +1,4 @@
--- From what the calls say to what a caller from C is told. Assumes nothing.
+-- From what the calls say to what a caller from C is told.
 use Prim.Native.Nat.{ℕ, _≤_, _<_}
 use borrow.Author.Tests.{lt-ltb, le-ltb}
 use lib.Dec.{ltb}
@@ -7,10 +7,10 @@ use lib.Seq.{sets}
 use mathlib.Core.Bool.{true, false}
 use mathlib.Core.List.{List, [], _++_}
 use mathlib.Core.Path.{_≡_, refl, sym, ap, _∙_, subst}
-use Rattle.area.specs.Padding.{padded}
+use Rattle.area.specs.Padding.{paddedTo}
 use Rattle.aura_c.proofs.Stored.{joined}
-use Rattle.aura_c.specs.Layout.{bytesOf, answerSize, tooShort, resultOf, answerSlice, diagnosticsSlice}
-use Rattle.judge.specs.Answer.{outcomeIs}
+use Rattle.aura_c.specs.AnswerBytes.{bytesOf, answerSize, tooShort, resultOf, answerSlice, diagnosticsSlice}
+use Rattle.judge.specs.Answered.{outcomeIs}
 use Rattle.judge.specs.declared.Outcome.{Outcome}
 use Rattle.ty.proofs.Choice.{chosen, passed}
 use Rattle.typing.proofs.Sized.{Sized, sized}
@@ -36,10 +36,10 @@ module _ (t q : List ℕ) (lent room : ℕ) where
   told {b} {d} {z} a ty h e g f k =
       let w : ltb room answerSize ≡ false = le-ltb room answerSize h in
       let s : Sized (outcomeIs a ty) = subst (λ (x : Answer). Sized x) (sym e) (sized t q lent) in
-      let p : b ≡ padded room (bytesOf (outcomeIs a ty)) = joined room a ty h (s .ty) g f in (
+      let p : b ≡ paddedTo room (bytesOf (outcomeIs a ty)) = joined room a ty h (s .ty) g f in (
         passed _ (a .number) _ (answerOf t q lent .number) w (ap (λ (x : Answer). x .number) e),
         (
-          passed _ b _ (padded room (bytesOf (answerOf t q lent))) w (p ∙ ap (λ (x : Answer). padded room (bytesOf x)) e),
+          passed _ b _ (paddedTo room (bytesOf (answerOf t q lent))) w (p ∙ ap (λ (x : Answer). paddedTo room (bytesOf x)) e),
           passed _ d _ (bufferOf t q lent) w k,
         ),
       )

@@ -1,21 +1,21 @@
--- What stands before an answer's type, stored field by field, and the type behind it. Assumes nothing.
+-- What stands before an answer's type, stored field by field, and the type behind it.
 use Prim.Native.Nat.{ℕ, zero, suc, _-_, _≤_}
 use lib.ListN.{length, set, take, drop, replicate, length-set}
 use lib.Seq.{sets}
 use mathlib.Core.List.{List, [], _∷_, _++_}
 use mathlib.Core.Path.{_≡_, refl, ap, _∙_}
 use native.Mathlib.Omega.{arith}
-use Rattle.area.proofs.Lists.{drop-replicate}
-use Rattle.area.specs.Padding.{padded}
-use Rattle.aura_c.proofs.Numbers.{stored-length}
-use Rattle.aura_c.specs.Layout.{littleEndian, bytesOf, answerSize}
-use Rattle.judge.specs.Answer.{outcomeIs}
+use Rattle.area.proofs.ListFacts.{stored-length, drop-replicate}
+use Rattle.area.specs.Padding.{paddedTo}
+use Rattle.aura_c.specs.AnswerBytes.{littleEndian, bytesOf, answerSize}
+use Rattle.judge.specs.Answered.{outcomeIs}
 use Rattle.judge.specs.declared.Outcome.{Outcome}
+use Rattle.ty.specs.Bytes.{twoBytes}
 
-module _ (b : List ℕ) (a : Outcome) {b₁ : List ℕ} (first : b₁ ≡ sets (set (set b 0 (a .number)) 1 (a .pass)) 2 (littleEndian 2 (a .len))) where
+module _ (b : List ℕ) (a : Outcome) {b₁ : List ℕ} (first : b₁ ≡ sets (set (set b 0 (a .number)) 1 (a .pass)) 2 (twoBytes (a .len))) where
   pub first-length : length b₁ ≡ length b
   first-length =
-      stored-length (set (set b 0 (a .number)) 1 (a .pass)) 2 (littleEndian 2 (a .len)) first
+      stored-length (set (set b 0 (a .number)) 1 (a .pass)) 2 (twoBytes (a .len)) first
       ∙ length-set (set b 0 (a .number)) 1 (a .pass)
       ∙ length-set b 0 (a .number)
 
@@ -38,8 +38,8 @@ part-zeros room h e = ap (λ (l : List ℕ). take 256 (drop 12 l)) e ∙ ap (λ 
 
 -- z was all zero; its part from byte 12 to byte 268 has become the type, and then the front was stored
 pub joined : {b z : List ℕ} (room : ℕ) (a : Outcome) (ty : List ℕ) → answerSize ≤ room → length ty ≡ 256 → z ≡ replicate room 0
-    → b ≡ sets (take 12 z ++ (ty ++ drop 256 (drop 12 z))) 0 (bytesOf (outcomeIs a [])) → b ≡ padded room (bytesOf (outcomeIs a ty))
-unfolding littleEndian bytesOf padded
+    → b ≡ sets (take 12 z ++ (ty ++ drop 256 (drop 12 z))) 0 (bytesOf (outcomeIs a [])) → b ≡ paddedTo room (bytesOf (outcomeIs a ty))
+unfolding littleEndian bytesOf paddedTo
 joined {b} {z} room a ty h n e f =
     let front : take 12 (replicate {A = ℕ} room 0) ≡ replicate 12 0 = take-zeros 12 room (omega arith) in
     let back : drop 256 (drop 12 (replicate {A = ℕ} room 0)) ≡ replicate (room - 12 - 256) 0 = ap (λ (l : List ℕ). drop 256 l) (drop-replicate 12 room 0) ∙ drop-replicate 256 (room - 12) 0 in

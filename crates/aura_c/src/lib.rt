@@ -1,12 +1,13 @@
 // The judge for C and Rust: a static library whose functions take numbers and byte slices. include/aura_judge.h declares them.
 ghost use mathlib.Core.Path.{_≡_};
 ghost use mathlib.Core.List.{[]};
-ghost use Prim.Native.Nat.{_+_, _%_, _≤_};
+ghost use Prim.Native.Nat.{_+_, _≤_};
 ghost use lib.ListN.{length};
 ghost use lib.Seq.{sets};
-ghost use Rattle.judge.specs.Answer.{outcomeIs};
-ghost use Rattle.aura_c.specs.Layout.{littleEndian, bytesOf, answerSize, resultOf, answerSlice, diagnosticsSlice};
+ghost use Rattle.judge.specs.Answered.{outcomeIs};
+ghost use Rattle.aura_c.specs.AnswerBytes.{littleEndian, bytesOf, answerSize, resultOf, answerSlice, diagnosticsSlice};
 use area::clear;
+use area::put_two;
 use judge::Outcome;
 use judge::judge_into;
 
@@ -17,23 +18,7 @@ const TYPE_AT: usize = 12;
 
 const TOO_SHORT: u8 = 255;
 
-// The low byte of n.
-fn low_byte(n: usize) -> u8
-    ensures { λ r. ⌜ r ≡ n % 256 ⌝ }
-{
-    (n % 256) as u8
-}
-
-// n goes into two bytes from `at` on, low byte first.
-fn put_two(n: usize, out: &mut [u8], at: usize)
-    requires { ⌜ at + 2 ≤ length (now out) ⌝ }
-    ensures { λ _. ⌜ now (out .exit) ≡ sets (now (out .entry)) at (littleEndian 2 n) ⌝ }
-{
-    out[at] = low_byte(n);
-    out[at + 1] = low_byte(n / 256);
-}
-
-// n goes into four bytes.
+// n goes into four bytes from `at` on, low byte first.
 fn put_four(n: usize, out: &mut [u8], at: usize)
     requires { ⌜ at + 4 ≤ length (now out) ⌝ }
     ensures { λ _. ⌜ now (out .exit) ≡ sets (now (out .entry)) at (littleEndian 4 n) ⌝ }
@@ -70,8 +55,8 @@ pub extern "C" fn aura_judge_answer_size() -> usize
     ANSWER_SIZE
 }
 
-// Judges a question under a table. The diagnostics go into one lent slice and the answer into the other, with zeros behind both. Answers the answer's number, or
-// 255 where the answer slice has fewer than 268 bytes; both slices are then zero.
+// Judges a question under a table. The diagnostics go into one lent slice and the answer into the other, with zeros behind both. Answers the answer's number,
+// or 255 where the answer slice has fewer than 268 bytes; both slices are then zero.
 #[no_mangle]
 pub extern "C" fn aura_judge(
     table: &[u8],
@@ -80,8 +65,10 @@ pub extern "C" fn aura_judge(
     answer: &mut [u8],
 ) -> u8
     ensures { λ r. ⌜ r ≡ resultOf (now (table .entry)) (now (question .entry)) (length (now (diagnostics .entry))) (length (now (answer .entry))) ⌝ }
-    ensures { λ _. ⌜ now (answer .exit) ≡ answerSlice (now (table .entry)) (now (question .entry)) (length (now (diagnostics .entry))) (length (now (answer .entry))) ⌝ }
-    ensures { λ _. ⌜ now (diagnostics .exit) ≡ diagnosticsSlice (now (table .entry)) (now (question .entry)) (length (now (diagnostics .entry))) (length (now (answer .entry))) ⌝ }
+    ensures { λ _. ⌜ now (answer .exit)
+        ≡ answerSlice (now (table .entry)) (now (question .entry)) (length (now (diagnostics .entry))) (length (now (answer .entry))) ⌝ }
+    ensures { λ _. ⌜ now (diagnostics .exit)
+        ≡ diagnosticsSlice (now (table .entry)) (now (question .entry)) (length (now (diagnostics .entry))) (length (now (answer .entry))) ⌝ }
 {
     clear(answer);
     if answer.len() < ANSWER_SIZE {

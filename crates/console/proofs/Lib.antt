@@ -1,5 +1,5 @@
-pub mod Lists
 pub mod Writing
-pub mod Parts
-pub mod Samples
-pub mod Sizes
+pub mod TextLists
+pub mod TextSamples
+pub mod TextSizes
+pub mod InputParts

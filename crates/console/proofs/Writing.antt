@@ -1,4 +1,4 @@
--- Laws of `Wrote`. Assumes nothing.
+-- Laws of `Wrote`.
 use Prim.Native.Nat.{ℕ, _+_, _*_, _/_, _%_, _≤_, _<_}
 use borrow.Author.Tests.{leb-true, leb-false}
 use lib.Dec.{leb}
@@ -8,9 +8,10 @@ use mathlib.Core.Bool.{Bool, true, false}
 use mathlib.Core.List.{List, [], _∷_, _++_}
 use mathlib.Core.Path.{_≡_, refl, sym, ap, _∙_}
 use native.Mathlib.Omega.{arith}
-use Rattle.console.proofs.Lists.{sets-past, sets-append, sets-zeros, decimal-one, decimal-more, hex-next, lines-next}
-use Rattle.console.specs.Answer.{blank, lineBreak, dash, fieldOf, typeText, lineOf, lineAt, linesOf}
-use Rattle.console.specs.Buffer.{Filled, Wrote}
+use Rattle.console.proofs.TextLists.{sets-past, sets-append, sets-zeros, decimal-one, decimal-more, hex-next, lines-next}
+use Rattle.console.specs.AnswerText.{blank, lineBreak, dash, fieldText, typeText, lineOf, lineAt, linesOf}
+use Rattle.console.specs.Buffer.{Filled}
+use Rattle.console.specs.Inside.Wrote.{Wrote}
 use Rattle.console.specs.Text.{decimal, hexDigit, hexByte, hexBytes}
 use Rattle.ty.specs.Bytes.{idAt}
 
@@ -62,8 +63,8 @@ module _ {b b′ : List ℕ} {at r : ℕ} where
   unfolding hexByte
   wrote-hex {b₁} v {d} {e} {next} h w k z = wrote-as (wrote-then w z) (ap (λ (x : ℕ). d ∷ x ∷ []) k ∙ ap (λ (x : ℕ). x ∷ hexDigit (v % 16) ∷ []) h)
 
-  pub wrote-field : {b₁ : List ℕ} (n : ℕ) {end next : ℕ} → Wrote b b₁ at next (decimal n) → Wrote b₁ b′ next r (end ∷ []) → Wrote b b′ at r (fieldOf n end)
-  unfolding fieldOf
+  pub wrote-field : {b₁ : List ℕ} (n : ℕ) {end next : ℕ} → Wrote b b₁ at next (decimal n) → Wrote b₁ b′ next r (end ∷ []) → Wrote b b′ at r (fieldText n end)
+  unfolding fieldText
   wrote-field n w z = wrote-then w z
 
 -- ---- bytes in hex
@@ -101,14 +102,14 @@ pub lines-done : {b b′ : List ℕ} {at r : ℕ} (d : List ℕ) (i n : ℕ) →
 lines-done d i n e w = wrote-as w (ap (linesOf d) e)
 
 module _ {b b₁ b₂ b₃ : List ℕ} {at next₁ next₂ r : ℕ} (d : List ℕ) (p k n m : ℕ) where
-  pub wrote-line : k ≡ getD d p 0 → Wrote b b₁ at next₁ (fieldOf k blank) → n ≡ idAt d (p + 1) → Wrote b₁ b₂ next₁ next₂ (fieldOf n blank) → m ≡ idAt d (p + 3)
-      → Wrote b₂ b₃ next₂ r (fieldOf m lineBreak) → Wrote b b₃ at r (lineAt d p)
+  pub wrote-line : k ≡ getD d p 0 → Wrote b b₁ at next₁ (fieldText k blank) → n ≡ idAt d (p + 1) → Wrote b₁ b₂ next₁ next₂ (fieldText n blank) → m ≡ idAt d (p + 3)
+      → Wrote b₂ b₃ next₂ r (fieldText m lineBreak) → Wrote b b₃ at r (lineAt d p)
   unfolding lineAt lineOf
   wrote-line f w g x h y =
       wrote-as (wrote-then w (wrote-then x y))
-      (ap (λ (z : ℕ). fieldOf z blank ++ (fieldOf n blank ++ fieldOf m lineBreak)) f
-      ∙ ap (λ (z : ℕ). fieldOf (getD d p 0) blank ++ (fieldOf z blank ++ fieldOf m lineBreak)) g
-      ∙ ap (λ (z : ℕ). fieldOf (getD d p 0) blank ++ (fieldOf (idAt d (p + 1)) blank ++ fieldOf z lineBreak)) h)
+      (ap (λ (z : ℕ). fieldText z blank ++ (fieldText n blank ++ fieldText m lineBreak)) f
+      ∙ ap (λ (z : ℕ). fieldText (getD d p 0) blank ++ (fieldText z blank ++ fieldText m lineBreak)) g
+      ∙ ap (λ (z : ℕ). fieldText (getD d p 0) blank ++ (fieldText (idAt d (p + 1)) blank ++ fieldText z lineBreak)) h)
 
 -- all that is printed, in a cleared buffer
 pub wrote-all : {b₀ b b₁ b₂ : List ℕ} {next r : ℕ} {xs ys : List ℕ} → b ≡ replicate (length b₀) 0 → Wrote b b₁ 0 next xs → Wrote b₁ b₂ next r ys

@@ -1,9 +1,8 @@
 -- Text in a lent buffer.
-use Prim.Native.Nat.{ℕ, _+_, _-_, _≤_, min}
+use Prim.Native.Nat.{ℕ, _-_, _≤_, min}
 use mathlib.Core.Path.{_≡_}
 use mathlib.Core.List.{List, _++_}
 use lib.ListN.{length, take, replicate}
-use lib.Seq.{sets}
 
 -- a buffer of n bytes that holds a text: as much of the text as fits, and zeros behind it
 unfoldable pub holding : ℕ → List ℕ → List ℕ
@@ -18,8 +17,3 @@ pub record Filled (b b′ : List ℕ) (r : ℕ) (text : List ℕ) : Type 0 where
   pub bytes : b′ ≡ holding (length b) text
   pub size : r ≡ min (length text) (length b)
   pub part : Counts r b′
-
--- what fits of a text was written into b from `at` on, and the rest of b left as it was: now it is b′, and the next place is r
-pub record Wrote (b b′ : List ℕ) (at r : ℕ) (text : List ℕ) : Type 0 where
-  pub bytes : b′ ≡ sets b at text
-  pub next : r ≡ at + min (length text) (length b - at)

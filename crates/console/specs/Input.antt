@@ -1,5 +1,5 @@
--- How the program's input falls into table and question (document 01, "Answer"): "a 2-byte table length, table and question ..; with fewer than 2 bytes, or fewer
--- table bytes than the length says, it judges both as empty".
+-- How the program's input falls into table and question (document 01, "Answer"): "a 2-byte table length, table and question ..; with fewer than 2 bytes,
+-- or fewer table bytes than the length says, it judges both as empty".
 use Prim.Native.Nat.{ℕ, _+_, _<_}
 use mathlib.Core.Bool.{Bool, _&&_}
 use mathlib.Core.List.{List, []}

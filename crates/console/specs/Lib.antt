@@ -1,4 +1,5 @@
 pub mod Text
-pub mod Answer
+pub mod AnswerText
 pub mod Input
 pub mod Buffer
+pub mod Inside

@@ -2,23 +2,16 @@
 pub mod print;
 
 ghost use mathlib.Core.Path.{_≡_};
-ghost use Prim.Native.Nat.{_+_, _*_, _≤_};
+ghost use Prim.Native.Nat.{_≤_};
 ghost use Rattle.console.specs.Input.{tableLength, isWhole, tableOf, questionOf};
 pub use print::print_answer;
-use ty::byte_at;
-
-// A 2-byte number.
-fn number(low: u8, high: u8) -> usize
-    ensures { λ r. ⌜ (r ≡ low + 256 * high) × (r ≤ 65535) ⌝ }
-{
-    low as usize + 256 * (high as usize)
-}
+use ty::id_at;
 
 // The table length that the input begins with.
 fn table_length(input: &[u8]) -> usize
     ensures { λ r. ⌜ (r ≡ tableLength (now (input .entry))) × (r ≤ 65535) ⌝ }
 {
-    number(byte_at(input, 0), byte_at(input, 1))
+    id_at(input, 0) as usize
 }
 
 // The input has a table length and as many bytes behind it.

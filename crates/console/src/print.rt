@@ -2,13 +2,14 @@
 ghost use Prim.Native.Nat.{_+_, _*_, _%_, _<_, _≤_};
 ghost use mathlib.Core.Path.{_≡_};
 ghost use mathlib.Core.List.{[], _∷_};
-ghost use lib.ListN.{length, replicate};
-ghost use Rattle.ty.specs.Bytes.{idAt};
+ghost use lib.ListN.{length};
 ghost use Rattle.console.specs.Text.{decimal, hexDigit, hexByte, hexBytes};
-ghost use Rattle.console.specs.Answer.{fieldOf, typeText, firstLine, lineAt, linesOf, recordsIn, printed};
-ghost use Rattle.console.specs.Buffer.{Filled, Wrote};
-use crate::number;
+ghost use Rattle.console.specs.AnswerText.{fieldText, typeText, firstLine, lineAt, linesOf, recordsIn, printed};
+ghost use Rattle.console.specs.Buffer.{Filled};
+ghost use Rattle.console.specs.Inside.Wrote.{Wrote};
+use area::clear;
 use ty::byte_at;
+use ty::id_at;
 
 const BLANK: u8 = 32;
 
@@ -83,7 +84,7 @@ fn put_type(ty: &[u8], out: &mut [u8], at: usize) -> usize
 
 // A number and the byte that ends its field.
 fn put_field(n: usize, end: u8, out: &mut [u8], at: usize) -> usize
-    ensures { λ r. ⌜ Wrote (now (out .entry)) (now (out .exit)) at r (fieldOf n end) ⌝ }
+    ensures { λ r. ⌜ Wrote (now (out .entry)) (now (out .exit)) at r (fieldText n end) ⌝ }
 {
     let next = put_decimal(n, out, at);
     put_byte(end, out, next)
@@ -100,22 +101,14 @@ fn put_first_line(number: u8, pass: u8, ty: &[u8], count: usize, out: &mut [u8],
     put_field(count, LINE_BREAK, out, e)
 }
 
-// The 2-byte number at `at`, low byte first.
-fn number_at(s: &[u8], at: usize) -> usize
-    requires { ⌜ at < length (now s) ⌝ }
-    ensures { λ r. ⌜ r ≡ idAt (now (s .entry)) at ⌝ }
-{
-    number(byte_at(s, at), byte_at(s, at + 1))
-}
-
 // The line of the diagnostic whose record is at `p`.
 fn put_line(diagnostics: &[u8], p: usize, out: &mut [u8], at: usize) -> usize
     requires { ⌜ p + 5 ≤ length (now diagnostics) ⌝ }
     ensures { λ r. ⌜ Wrote (now (out .entry)) (now (out .exit)) at r (lineAt (now (diagnostics .entry)) p) ⌝ }
 {
     let a = put_field(byte_at(diagnostics, p) as usize, BLANK, out, at);
-    let b = put_field(number_at(diagnostics, p + 1), BLANK, out, a);
-    put_field(number_at(diagnostics, p + 3), LINE_BREAK, out, b)
+    let b = put_field(id_at(diagnostics, p + 1) as usize, BLANK, out, a);
+    put_field(id_at(diagnostics, p + 3) as usize, LINE_BREAK, out, b)
 }
 
 // How many of `count` records a buffer of `size` bytes has whole.
@@ -141,16 +134,6 @@ fn put_lines(diagnostics: &[u8], n: usize, out: &mut [u8], at: usize) -> usize
         i += 1;
     }
     next
-}
-
-fn clear(out: &mut [u8])
-    ensures { λ _. ⌜ now (out .exit) ≡ replicate (length (now (out .entry))) 0 ⌝ }
-{
-    let mut i = 0;
-    while i < out.len() {
-        out[i] = 0;
-        i += 1;
-    }
 }
 
 // Puts what is printed for an answer at the front of `out`, as much of it as fits, and zeros behind it; answers how many bytes of `out` it takes.

@@ -1,4 +1,4 @@
--- Laws of the answer, on plain values: what each return leaves. Assumes nothing.
+-- Laws of the answer, on plain values: what each return leaves.
 use Prim.Native.Nat.{ℕ, zero, suc, _+_, _-_, _*_, _≤_}
 use borrow.Author.Tests.{eq-eqb, ne-eqb, ltb-false, eqb-true}
 use lib.Dec.{eqb, ltb}
@@ -9,24 +9,25 @@ use mathlib.Core.List.{List, [], _∷_}
 use mathlib.Core.Path.{_≡_, refl, sym, ap, subst, _∙_}
 use native.Mathlib.Omega.{arith}
 use Rattle.area.proofs.Diagnostics.{putAll-length, put-padded}
-use Rattle.area.proofs.Lists.{sets-zeros}
+use Rattle.area.proofs.ListFacts.{sets-zeros}
 use Rattle.area.specs.Diagnostic.{Diag, recordLength, records, putAll}
-use Rattle.area.specs.Padding.{padded}
-use Rattle.area.specs.Slot.{Held, slotOf}
-use Rattle.judge.proofs.Spaces.{tree-room}
-use Rattle.judge.specs.Answer.{outcomeIs, Answered, markIs, rootNumber, rootAnswer, RootIs}
-use Rattle.judge.specs.Contract.{NodeAsked, NodeIs}
+use Rattle.cycle.proofs.Spaces.{tree-room}
+use Rattle.judge.specs.Answered.{outcomeIs, Answered, AcceptedDemand3}
+use Rattle.judge.specs.Inside.Root.{markIs, rootNumber, rootAnswer, RootIs}
+use Rattle.cycle.specs.Inside.Contract.{NodeAsked, NodeIs}
+use Rattle.area.specs.Padding.{paddedTo}
+use Rattle.area.specs.Inside.Slot.{SlotHolds, slotOf}
 use Rattle.judge.specs.declared.Outcome.{Outcome}
-use Rattle.judge.specs.declared.progress.State.{State}
+use Rattle.nodes.specs.declared.progress.State.{State}
 use Rattle.question.proofs.Accepted.{accepted}
 use Rattle.question.specs.Header.{headerOf}
 use Rattle.question.specs.Parse.{treeOf}
-use Rattle.question.specs.Refused.{questionFault}
+use Rattle.question.specs.QuestionRefused.{questionFault}
 use Rattle.question.specs.declared.Header.{Header}
-use Rattle.symbol.specs.Front.{headOf}
-use Rattle.symbol.specs.Refused.{tableFault}
-use Rattle.symbol.specs.Accepted.{checkedOf}
-use Rattle.symbol.specs.Table.{Record, recordsFrom, recordsOf, countOf, nameCount}
+use Rattle.symbol.proofs.AcceptedTable.{names-few}
+use Rattle.record.specs.TableRefused.{tableFault}
+use Rattle.symbol.specs.Inside.Checked.{checkedOf}
+use Rattle.record.specs.Table.{recordsOf, nameCount}
 use Rattle.symbol.specs.declared.checks.Checked.{Checked}
 use Rattle.ty.proofs.Choice.{by-choice, choose-yes, choose-no}
 use Rattle.ty.specs.Choose.{choose}
@@ -37,7 +38,6 @@ use Rattle.typing.proofs.Demand3.{demand3}
 use Rattle.typing.specs.Answer as of
 use Rattle.typing.specs.Answer.{answerBytes, zeros, namesOf, faultOf, judgementOf, refused, given, answered, answerOf, bufferOf}
 use Rattle.typing.specs.Demand1.{Demand1}
-use Rattle.typing.specs.Demand3.{Demand3}
 use Rattle.typing.specs.Judge.{Judged}
 use Rattle.typing.specs.Mark.{noDiag, noError, passes, markOf}
 
@@ -53,11 +53,11 @@ module _ (s : State) (a l b : List ℕ) (n : ℕ) (is : n ≡ rootNumber (getD l
   root-no h r e b′ f =
       record { answer = rw (← is) (e ∙ sym (choose-no _ _ _ (ne-eqb n 0 h))); buffer = rw (← is) (f ∙ sym (choose-no _ _ _ (ne-eqb n 0 h))) }
 
-  pub root-yes : n ≡ 0 → (r : of.Answer) → r ≡ record { number = n; pass = markIs s; ty = padded answerBytes (slotOf a l 0); len = getD l 0 0; count = s .count } → RootIs s a l b b r
+  pub root-yes : n ≡ 0 → (r : of.Answer) → r ≡ record { number = n; pass = markIs s; ty = paddedTo answerBytes (slotOf a l 0); len = getD l 0 0; count = s .count } → RootIs s a l b b r
   unfolding rootAnswer
   root-yes z r e =
       record {
-        answer = rw (← is) (e ∙ ap (λ (m : ℕ). record { number = m; pass = markIs s; ty = padded answerBytes (slotOf a l 0); len = getD l 0 0; count = s .count }) z ∙ sym (choose-yes _ _ _ (eq-eqb n 0 z)));
+        answer = rw (← is) (e ∙ ap (λ (m : ℕ). record { number = m; pass = markIs s; ty = paddedTo answerBytes (slotOf a l 0); len = getD l 0 0; count = s .count }) z ∙ sym (choose-yes _ _ _ (eq-eqb n 0 z)));
         buffer = rw (← is) (sym (choose-yes _ _ _ (eq-eqb n 0 z)));
       }
 
@@ -70,25 +70,8 @@ pub answer-path : {n : ℕ} {t t′ : List ℕ} {p p′ m c : ℕ} → p ≡ p�
 answer-path {n} {m = m} {c = c} e f = λ i. record { number = n; pass = e i; ty = f i; len = m; count = c }
 
 -- ---- fewer names than ids
-count-few : (k : ℕ) (rs : List Record) → countOf k rs ≤ length rs
-unfolding countOf
-count-few k [] = omega arith
-count-few k (r ∷ rs) =
-    let e : choose (eqb (headOf r .kind) k) 1 0 ≤ 1 = by-choice (λ (n : ℕ). n ≤ 1) _ (λ _. omega arith) (λ _. omega arith) in
-    omega (arith, count-few k rs)
-
-records-few : (s : List ℕ) (n : ℕ) → length (recordsFrom s n) ≤ length s
-unfolding recordsFrom
-records-few [] n = omega arith
-records-few (b ∷ bs) zero = omega (arith, records-few bs (headOf (b ∷ bs) .len - 1))
-records-few (b ∷ bs) (suc n) = omega (arith, records-few bs n)
-
-table-short : (t : List ℕ) → tableFault t ≡ 0 → length t ≤ 60000
-unfolding tableFault
-table-short t = by-choice (λ (n : ℕ). n ≡ 0 → length t ≤ 60000) _ (λ _ z. absurd (omega arith)) (λ e _. ltb-false 60000 (length t) e)
-
 names-known : (t : List ℕ) → tableFault t ≡ 0 → firstTableId + nameCount (recordsOf t) ≤ noId
-names-known t e = omega (arith, count-few 1 (recordsOf t), records-few t 0, table-short t e)
+names-known t e = omega (arith, names-few t e)
 
 -- ---- a judgement's answer
 no-diag : (ds : List Diag) → noDiag ds ≡ eqb (length ds) 0
@@ -108,7 +91,7 @@ mark-is s j e f =
     let b : eqb (s .count) 0 && s .fine ≡ noDiag (j .diags) && noError (j .typed) = rw (e, f, no-diag (j .diags)) in
     mark-by (eqb (s .count) 0 && s .fine) ∙ ap markOf b
 
-module _ (lent : ℕ) (s : State) (j : Judged) (a l b : List ℕ) (held : Held a l 0 (j .ty)) (cnt : s .count ≡ length (j .diags)) (fine : s .fine ≡ noError (j .typed))
+module _ (lent : ℕ) (s : State) (j : Judged) (a l b : List ℕ) (held : SlotHolds a l 0 (j .ty)) (cnt : s .count ≡ length (j .diags)) (fine : s .fine ≡ noError (j .typed))
     (is : b ≡ putAll (zeros lent) 0 (j .diags)) where
   buffer-long : length b ≡ lent
   buffer-long = ap (λ (w : List ℕ). length w) is ∙ putAll-length (zeros lent) 0 (j .diags) ∙ length-replicate lent 0
@@ -122,8 +105,8 @@ module _ (lent : ℕ) (s : State) (j : Judged) (a l b : List ℕ) (held : Held a
   by-number : rootAnswer number s (j .ty) (length (j .ty)) ≡ answered lent j
   unfolding rootAnswer rootNumber answered choose
   by-number =
-      let g : _≡_ {A = of.Answer} (record { number = 0; pass = markIs s; ty = padded answerBytes (j .ty); len = length (j .ty); count = s .count }) (given j)
-      = λ i. record { number = 0; pass = mark-is s j cnt fine i; ty = padded answerBytes (j .ty); len = length (j .ty); count = cnt i } in
+      let g : _≡_ {A = of.Answer} (record { number = 0; pass = markIs s; ty = paddedTo answerBytes (j .ty); len = length (j .ty); count = s .count }) (given j)
+      = λ i. record { number = 0; pass = mark-is s j cnt fine i; ty = paddedTo answerBytes (j .ty); len = length (j .ty); count = cnt i } in
       go g (ltb answerBytes (length (j .ty))) (ltb lent (recordLength * length (j .diags)))
     where
       go : {x : of.Answer} → x ≡ given j → (y z : Bool) → choose (eqb (choose y 13 (choose z 12 0)) 0) x (refused (choose y 13 (choose z 12 0))) ≡ choose y (refused 13) (choose z (refused 12) (given j))
@@ -149,12 +132,12 @@ module _ (lent : ℕ) (s : State) (j : Judged) (a l b : List ℕ) (held : Held a
       go false true = refl
       go false false = refl
 
-  by-buffer : (k : ℕ) → number ≡ k → choose (eqb k 0) b (zeros (length b)) ≡ choose (eqb k 0) (padded lent (records (j .diags))) (zeros lent)
+  by-buffer : (k : ℕ) → number ≡ k → choose (eqb k 0) b (zeros (length b)) ≡ choose (eqb k 0) (paddedTo lent (records (j .diags))) (zeros lent)
   unfolding choose
   by-buffer zero e = is ∙ put-padded lent (j .diags) (number-fits e)
   by-buffer (suc k) e = rw (ne-eqb (suc k) 0 (λ z. omega arith)) (ap zeros buffer-long)
 
-  pub buffer-is : choose (eqb (rootNumber (getD l 0 0) (s .count) (length b)) 0) b (zeros (length b)) ≡ choose (eqb (answered lent j .number) 0) (padded lent (records (j .diags))) (zeros lent)
+  pub buffer-is : choose (eqb (rootNumber (getD l 0 0) (s .count) (length b)) 0) b (zeros (length b)) ≡ choose (eqb (answered lent j .number) 0) (paddedTo lent (records (j .diags))) (zeros lent)
   buffer-is = rw (number-is, answer-number) (by-buffer number refl)
 
 -- ---- a refusal before anything is judged
@@ -237,7 +220,7 @@ module _ (t q : List ℕ) (lent : ℕ) where
           record {
             answer = w .answer ∙ root ∙ sym ans;
             buffer = w .buffer ∙ buffer-is lent s j a l b (root-node .top) cnt ok (root-node .reached .buffer)
-                ∙ ap (λ (z : of.Answer). choose (eqb (z .number) 0) (padded lent (records (j .diags))) (zeros lent)) (sym ans);
+                ∙ ap (λ (z : of.Answer). choose (eqb (z .number) 0) (paddedTo lent (records (j .diags))) (zeros lent)) (sym ans);
           }
 
 -- ---- a refusal's type is all zero, as the type's bytes were
@@ -245,8 +228,8 @@ pub refused-blank : (r : Outcome) (ty : List ℕ) (n : ℕ) → ty ≡ zeros ans
 refused-blank r ty n e f = ap (λ (w : List ℕ). outcomeIs r w) e ∙ f
 
 -- ---- a type goes to the front of zeros
-pub type-padded : (ty ty′ u t : List ℕ) → ty ≡ zeros answerBytes → ty′ ≡ sets ty 0 u → u ≡ t → length t ≤ answerBytes → ty′ ≡ padded answerBytes t
-unfolding padded
+pub type-padded : (ty ty′ u t : List ℕ) → ty ≡ zeros answerBytes → ty′ ≡ sets ty 0 u → u ≡ t → length t ≤ answerBytes → ty′ ≡ paddedTo answerBytes t
+unfolding paddedTo
 type-padded ty ty′ u t e f g h =
     f ∙ ap (λ (w : List ℕ). sets w 0 u) e ∙ ap (λ (w : List ℕ). sets (zeros answerBytes) 0 w) g ∙ sets-zeros [] t answerBytes h
 
@@ -265,5 +248,5 @@ module _ {t q : List ℕ} {lent : ℕ} {r : of.Answer} {b : List ℕ} (w : Answe
   pub answer-1 : Demand1 t q lent r b
   answer-1 = rw (w .answer, w .buffer) (demand1 t q lent)
 
-  pub answer-3 : tableFault t ≡ 0 → questionFault (namesOf t) q ≡ 0 → Demand3 t q lent r b
-  answer-3 e f = rw (w .answer, w .buffer) (demand3 t q lent e f)
+  pub answer-3 : AcceptedDemand3 t q lent r b
+  answer-3 x = rw (w .answer, w .buffer) (demand3 t q lent (x .table) (x .question))

@@ -1,6 +1,2 @@
-pub mod Answer
-pub mod Call
-pub mod Contract
-pub mod Progress
-pub mod Row
-pub mod Rule
+pub mod Inside
+pub mod Answered

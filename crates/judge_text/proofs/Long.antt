@@ -1,4 +1,4 @@
--- Of a longer input the first 81,922 bytes draw the same answer, and so the same text. Assumes nothing.
+-- Of a longer input the first 81,922 bytes draw the same answer, and so the same text.
 use Prim.Native.Nat.{ℕ, _<_}
 use borrow.Author.Tests.{lt-ltb, ltb-true, ltb-false}
 use lib.Dec.{ltb, eqb}
@@ -7,12 +7,12 @@ use mathlib.Core.Bool.{Bool, true, false}
 use mathlib.Core.List.{List}
 use mathlib.Core.Path.{_≡_, refl, sym, ap, _∙_}
 use Rattle.area.specs.Diagnostic.{records}
-use Rattle.area.specs.Padding.{padded}
-use Rattle.console.proofs.Parts.{table-kept, question-kept, question-long}
+use Rattle.area.specs.Padding.{paddedTo}
+use Rattle.console.proofs.InputParts.{table-kept, question-kept, question-long}
 use Rattle.console.specs.Input.{tableOf, questionOf, Bytes, inputLimit}
-use Rattle.judge_text.specs.Text.{textOf, answerText, inputText}
-use Rattle.question.specs.Refused.{longestQuestion, questionFault}
-use Rattle.symbol.specs.Refused.{tableFault}
+use Rattle.judge_text.specs.ProgramText.{textOf, answerText, inputText}
+use Rattle.question.specs.QuestionRefused.{longestQuestion, questionFault}
+use Rattle.record.specs.TableRefused.{tableFault}
 use Rattle.ty.proofs.Choice.{chosen, passed}
 use Rattle.ty.specs.Choose.{choose}
 use Rattle.typing.specs.Answer.{Answer, zeros, faultOf, judgementOf, refused, answered, answerOf, bufferOf}
@@ -47,7 +47,7 @@ module _ (t q : List ℕ) (lent : ℕ) (long : longestQuestion < length q) where
   unfolding bufferOf
   long-buffer =
       let e : eqb (answerOf t q lent .number) 0 ≡ false = rw long-answer (drawn-some t) in
-      sym (passed (eqb (answerOf t q lent .number) 0) (zeros lent) (padded lent (records (judgementOf t q .diags))) (zeros lent) e refl)
+      sym (passed (eqb (answerOf t q lent .number) 0) (zeros lent) (paddedTo lent (records (judgementOf t q .diags))) (zeros lent) e refl)
 
 module _ (input : List ℕ) (bytes : Bytes input) where
   abbrev kept : List ℕ

@@ -1,15 +1,15 @@
--- From what the calls say to the text. Assumes nothing.
+-- From what the calls say to the text.
 use Prim.Native.Nat.{ℕ, _≤_, _<_, _^_}
 use lib.ListN.{length, take, length-take}
 use lib.Seq.{length-take-le}
 use mathlib.Core.List.{List}
 use mathlib.Core.Path.{_≡_, sym, ap, _∙_, subst}
 use native.Mathlib.Omega.{arith}
-use Rattle.console.proofs.Sizes.{printed-short}
-use Rattle.console.specs.Answer.{printed}
+use Rattle.console.proofs.TextSizes.{printed-short}
+use Rattle.console.specs.AnswerText.{printed}
 use Rattle.console.specs.Buffer.{Counts, Filled}
 use Rattle.console.specs.Input.{tableOf, questionOf, Bytes}
-use Rattle.judge_text.specs.Text.{textOf, answerText, inputText, programBuffer, longestText}
+use Rattle.judge_text.specs.ProgramText.{textOf, answerText, inputText, inputBuffer, programBuffer, longestText, Short}
 use Rattle.typing.proofs.Sized.{Sized, sized}
 use Rattle.typing.specs.Answer.{Answer, answerOf, bufferOf}
 
@@ -46,11 +46,11 @@ module _ (t q : List ℕ) (lent : ℕ) (a : Answer) (e : a ≡ answerOf t q lent
 
 -- what is said of a table and a question: the text in a buffer, that it is short, and the diagnostics buffer
 abbrev Told : List ℕ → List ℕ → ℕ → List ℕ → List ℕ → ℕ → List ℕ → Type 0
-Told t q lent b b′ r d = Filled b b′ r (answerText t q lent) × ((lent ≤ programBuffer → length (answerText t q lent) ≤ longestText) × (d ≡ bufferOf t q lent))
+Told t q lent b b′ r d = Filled b b′ r (answerText t q lent) × (Short (answerText t q) lent × (d ≡ bufferOf t q lent))
 
 -- what is said of an input's parts is said of the input
 pub told-input : (input t q : List ℕ) {lent : ℕ} {b b′ : List ℕ} {r : ℕ} {d : List ℕ} → t ≡ tableOf input → q ≡ questionOf input → Told t q lent b b′ r d
-    → Filled b b′ r (inputText input lent) × ((lent ≤ programBuffer → length (inputText input lent) ≤ longestText) × (d ≡ bufferOf (tableOf input) (questionOf input) lent))
+    → Filled b b′ r (inputText input lent) × (Short (inputText input) lent × (d ≡ inputBuffer input lent))
 unfolding inputText
 told-input input t q {lent} {b} {b′} {r} {d} e f h =
     subst (λ (x : List ℕ). Told (tableOf input) x lent b b′ r d) f (subst (λ (x : List ℕ). Told x q lent b b′ r d) e h)

@@ -1,4 +1,4 @@
--- A text that fits stands whole at the front of the buffer. Assumes nothing.
+-- A text that fits stands whole at the front of the buffer.
 use Prim.Native.Nat.{ℕ, _-_, _≤_}
 use lib.ListN.{length, take, replicate}
 use lib.Seq.{take-all, take-at}

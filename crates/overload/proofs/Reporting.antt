@@ -1,4 +1,4 @@
--- Diagnostics of single arguments, reported one after the other. Assumes nothing.
+-- Diagnostics of single arguments, reported one after the other.
 use Prim.Native.Nat.{ℕ, suc, _+_, _*_, _≤_, _<_}
 use lib.ListN.{getD, length, length-append}
 use mathlib.Core.List.{List, [], _∷_, _++_}
@@ -8,15 +8,15 @@ use native.Mathlib.Nat.{add-zero}
 use native.Mathlib.Omega.{arith}
 use Rattle.area.proofs.Diagnostics.{putAll-none, putAll-one, putAll-append}
 use Rattle.area.specs.Diagnostic.{Diag, putOne, putAll}
-use Rattle.overload.proofs.Rows.{paramsLeft, params-all, params-next, params-none, argsLeft, args-all, args-next, args-none}
-use Rattle.overload.specs.Arg.{Arg}
-use Rattle.overload.specs.Args.{nameIn, argAt, argsIn}
+use Rattle.scoring.proofs.ParamsAndArgsLeft.{paramsLeft, params-all, params-next, params-none, argsLeft, args-all, args-next, args-none}
+use Rattle.scoring.specs.Arg.{Arg}
 use Rattle.overload.specs.ByIndex.{absent, unknownOne, unknowns, allUnknown, mismatchOne, mismatches}
-use Rattle.overload.specs.Params.{paramsIn}
-use Rattle.overload.specs.Reported.{Reported}
-use Rattle.overload.specs.Score.{paramOf}
-use Rattle.overload.specs.declared.args.Args.{Args}
-use Rattle.symbol.specs.Answer.{paramAt}
+use Rattle.scoring.specs.Inside.Args.{nameIn, argAt, argsIn}
+use Rattle.scoring.specs.Inside.Params.{paramsIn}
+use Rattle.overload.specs.Inside.Reported.{Reported}
+use Rattle.scoring.specs.Score.{paramNamed}
+use Rattle.scoring.specs.declared.args.Args.{Args}
+use Rattle.symbol.specs.Inside.LookupAnswer.{paramAt}
 use Rattle.symbol.specs.Symbols.{Param, Overload, Symbols}
 use Rattle.symbol.specs.declared.functions.Params.{Params}
 use Rattle.ty.proofs.Choice.{by-choice}
@@ -53,7 +53,7 @@ absent-few (some p) i n = omega arith
 pub unknown-few : (m : Option ℕ) (ps : List Param) (i n : ℕ) → length (unknownOne m ps i n) ≤ 1
 unfolding unknownOne
 unknown-few none ps i n = omega arith
-unknown-few (some id) ps i n = absent-few (paramOf id ps) i n
+unknown-few (some id) ps i n = absent-few (paramNamed id ps) i n
 
 pub unknowns-few : (ps : List Param) (i : ℕ) (xs : List Arg) → length (unknowns ps i xs) ≤ length xs
 unfolding unknowns

@@ -1,4 +1,4 @@
--- What the walk over a function list keeps, one function at a time. Assumes nothing.
+-- What the walk over a function list keeps, one function at a time.
 use Prim.Native.Nat.{ℕ, _+_, _≤_}
 use lib.ListN.{length, length-append}
 use mathlib.Core.Bool.{false}
@@ -7,21 +7,24 @@ use mathlib.Core.Option.{Option}
 use mathlib.Core.Path.{_≡_, refl, sym, ap, _∙_, subst}
 use native.Mathlib.Omega.{arith}
 use Rattle.area.specs.Diagnostic.{countLimit}
-use Rattle.overload.proofs.Chosen.{chosen-snoc, unknown-snoc}
+use Rattle.overload.proofs.OverloadFold.{chosen-snoc, unknown-snoc}
 use Rattle.overload.proofs.Reporting.{reported-none, reported-as, reported-append, all-unknown-few}
-use Rattle.overload.specs.Arg.{Arg}
+use Rattle.scoring.specs.Arg.{Arg}
 use Rattle.overload.specs.Best.{Best, nobody, better, chosen}
 use Rattle.overload.specs.ByIndex.{unknowns, allUnknown}
-use Rattle.overload.specs.Reported.{Reported}
-use Rattle.overload.specs.Score.{score}
-use Rattle.overload.specs.Tally.{firstOf, mostDiagnostics, Room, HighestIs, FirstIs, FirstAt, TallyIs}
+use Rattle.scoring.specs.Inside.Params.{paramsIn}
+use Rattle.overload.specs.Inside.Reported.{Reported}
+use Rattle.scoring.specs.Score.{score}
+use Rattle.overload.specs.Inside.Tally.{firstOf, mostDiagnostics, Room, ReadAt, HighestIs, HigherWith, FirstIs, FirstAt, TallyIs}
 use Rattle.overload.specs.declared.calls.Highest.{Highest}
 use Rattle.overload.specs.declared.calls.Tally.{Tally}
-use Rattle.symbol.specs.Answer.{FunctionAt, overloadAt}
+use Rattle.index.specs.Inside.Found.{FunctionAt}
+use Rattle.symbol.specs.Inside.LookupAnswer.{overloadAt, overloadIn}
 use Rattle.symbol.specs.Symbols.{Overload, Symbols}
-use Rattle.symbol.specs.declared.index.Found.the-variants.{Nothing, Here}
-use Rattle.symbol.specs.declared.index.Found.{Found}
-use Rattle.symbol.specs.declared.index.Place.{Place}
+use Rattle.symbol.specs.declared.functions.Function.{Function}
+use Rattle.index.specs.declared.index.Found.the-variants.{Nothing, Here}
+use Rattle.index.specs.declared.index.Found.{Found}
+use Rattle.index.specs.declared.index.Place.{Place}
 
 module _ (t : List ℕ) (p : Place) where
   first-more : (vs : List Overload) (f : Found) → FirstIs t vs f → FirstIs t (vs ++ (overloadAt t p ∷ [])) (firstOf f p)
@@ -43,21 +46,27 @@ module _ (t : List ℕ) (S : Symbols) (xs : List Arg) (b₀ : List ℕ) (n₀ : 
       record { first = tt; stands = tt; fitting = refl; highest = refl; few = omega arith; reported = reported-none b₀ n₀ }
 
   module _ (b : List ℕ) (vs : List Overload) (w : Tally) (is : TallyIs t S xs b₀ n₀ b vs w) where
-    -- one more
-    pub tally-more : (p : Place) (b₁ : List ℕ) (n₁ : ℕ) (f : Found) (h : Highest) (s : Option ℕ) → FunctionAt t p → f ≡ firstOf (w .first) p
-        → s ≡ score S (overloadAt t p) xs → HighestIs t (better (chosen S nobody vs xs) (overloadAt t p) s) h → h .many ≤ w .highest .many + 1
-        → Reported b (w .count) b₁ n₁ (unknowns (overloadAt t p .params) 1 xs)
-        → TallyIs t S xs b₀ n₀ b₁ (vs ++ (overloadAt t p ∷ [])) (record { first = f; fitting = w .fitting + 1; highest = h; count = n₁ })
-    tally-more p b₁ n₁ f h s stands first scored high many told =
-        record {
-          first = subst (λ (z : Found). FirstIs t (vs ++ (overloadAt t p ∷ [])) z) (sym first) (first-more t p vs (w .first) (is .first));
-          stands = subst (λ (z : Found). FirstAt t z) (sym first) (first-stands t p (w .first) stands (is .stands));
-          fitting = omega (arith, length-append vs (overloadAt t p ∷ []), is .fitting);
-          highest = subst (λ (z : Best). HighestIs t z h)
-              (ap (λ (z : Option ℕ). better (chosen S nobody vs xs) (overloadAt t p) z) scored ∙ sym (chosen-snoc S nobody vs (overloadAt t p) xs)) high;
-          few = omega (arith, length-append vs (overloadAt t p ∷ []), is .few, many);
-          reported = reported-as (sym (unknown-snoc vs (overloadAt t p) xs)) (reported-append (is .reported) told);
-        }
+    -- one more, at the place p, which was read as f
+    module _ (p : Place) (f : Function) (stands : FunctionAt t p) (read : ReadAt t p f) where
+      pub tally-more : (q : Found) (s : Option ℕ) (h : Highest) (b₁ : List ℕ) (n₁ : ℕ) → q ≡ firstOf (w .first) p → s ≡ score S (overloadIn t f) xs
+          → HigherWith (f .start) (f .len) s (w .highest) h → Reported b (w .count) b₁ n₁ (unknowns (paramsIn t (f .params)) 1 xs)
+          → TallyIs t S xs b₀ n₀ b₁ (vs ++ (overloadAt t p ∷ [])) (record { first = q; fitting = w .fitting + 1; highest = h; count = n₁ })
+      tally-more q s h b₁ n₁ first scored higher told =
+          record {
+            first = subst (λ (z : Found). FirstIs t (vs ++ (overloadAt t p ∷ [])) z) (sym first) (first-more t p vs (w .first) (is .first));
+            stands = subst (λ (z : Found). FirstAt t z) (sym first) (first-stands t p (w .first) stands (is .stands));
+            fitting = omega (arith, length-append vs (overloadAt t p ∷ []), is .fitting);
+            highest = subst (λ (z : Best). HighestIs t z h) chosen-more
+                (higher .highest t (chosen S nobody vs xs) (overloadAt t p) (is .highest) (ap (λ (o : Overload). o .result) (read .same)));
+            few = omega (arith, length-append vs (overloadAt t p ∷ []), is .few, higher .few);
+            reported = reported-as (sym (unknown-snoc vs (overloadAt t p) xs))
+                (reported-append (is .reported) (reported-as (ap (λ (o : Overload). unknowns (o .params) 1 xs) (read .same)) told));
+          }
+        where
+          chosen-more : better (chosen S nobody vs xs) (overloadAt t p) s ≡ chosen S nobody (vs ++ (overloadAt t p ∷ [])) xs
+          chosen-more =
+              ap (λ (z : Option ℕ). better (chosen S nobody vs xs) (overloadAt t p) z) (scored ∙ ap (λ (o : Overload). score S o xs) (read .same))
+              ∙ sym (chosen-snoc S nobody vs (overloadAt t p) xs)
 
     -- no count wraps
     pub tally-room : length vs ≤ 60000 → length xs ≤ 16 → n₀ + mostDiagnostics ≤ countLimit → Room w

@@ -5,8 +5,8 @@ use mathlib.Core.List.{List, _++_}
 use Rattle.ty.specs.Name.{noId}
 use Rattle.symbol.specs.Symbols.{Symbols}
 use Rattle.question.specs.declared.Header.{Header}
-use Rattle.rules.specs.Diagnostic.{suspendDiag}
-use Rattle.rules.specs.Out.{Report, report, unless}
+use Rattle.operators.specs.DiagnosticKind.{suspendDiag}
+use Rattle.operators.specs.Out.{Report, report, unless}
 use Rattle.rules.specs.Access.{accessReport}
 
 -- the function of an owner and a name may be called where the script stands

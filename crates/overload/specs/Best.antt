@@ -5,8 +5,8 @@ use mathlib.Core.Option.{Option, none, some}
 use lib.Dec.{eqb, ltb}
 use Rattle.ty.specs.Choose.{choose}
 use Rattle.symbol.specs.Symbols.{Overload, Symbols}
-use Rattle.overload.specs.Arg.{Arg}
-use Rattle.overload.specs.Score.{score}
+use Rattle.scoring.specs.Arg.{Arg}
+use Rattle.scoring.specs.Score.{score}
 
 -- so far: nobody matches, or the highest score, the first overload that has it and how many have it
 pub data Best : Type 0 where

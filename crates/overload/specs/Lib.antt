@@ -1,13 +1,6 @@
-pub mod Arg
 pub mod Before
-pub mod Arity
-pub mod Score
-pub mod Unnamed
 pub mod Best
 pub mod ByIndex
 pub mod Resolve
-pub mod Walk
-pub mod Args
-pub mod Params
-pub mod Reported
-pub mod Tally
+pub mod Inside
+pub mod LastWalk

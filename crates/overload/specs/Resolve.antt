@@ -7,12 +7,12 @@ use lib.ListN.{length}
 use lib.Dec.{ltb}
 use Rattle.ty.specs.Choose.{choose}
 use Rattle.symbol.specs.Symbols.{Overload, Symbols}
-use Rattle.rules.specs.Diagnostic.{argumentCountDiag, noMatchDiag, tieDiag}
-use Rattle.rules.specs.Out.{errorTy}
+use Rattle.operators.specs.DiagnosticKind.{argumentCountDiag, noMatchDiag, tieDiag}
+use Rattle.operators.specs.Out.{errorTy}
 use Rattle.area.specs.Diagnostic.{Diag}
-use Rattle.rules.specs.Diag.{diag}
-use Rattle.overload.specs.Arg.{Arg, Verdict}
-use Rattle.overload.specs.Arity.{anyOwn, usable, fitting}
+use Rattle.operators.specs.Diag.{diag}
+use Rattle.scoring.specs.Arg.{Arg, Verdict}
+use Rattle.scoring.specs.Arity.{anyOwn, usable, fitting}
 use Rattle.overload.specs.Best.{Best, nobody, best, chosen}
 use Rattle.overload.specs.ByIndex.{allUnknown, mismatches}
 

@@ -1,17 +1,18 @@
 // What a call reports before its arguments are visited.
 use area::report;
+use operators::ruled::Diagnostic;
 use question::Header;
 use rules::access::check_access;
 use symbol::lookups::is_suspend;
 use ty::NameId;
 ghost use Prim.Native.Nat.{_+_, _≤_, _<_};
 ghost use Rattle.area.specs.Diagnostic.{countLimit};
-ghost use Rattle.symbol.specs.Accepted.{Accepted};
+ghost use Rattle.index.specs.Inside.IndexedTable.{IndexedTable};
 ghost use Rattle.symbol.specs.Lookup.{symbolsOf};
-ghost use Rattle.rules.specs.Diag.{at as atNode};
+ghost use Rattle.operators.specs.Diag.{reportedAt as atNode};
 ghost use Rattle.rules.specs.Access.{accessReport};
 ghost use Rattle.overload.specs.Before.{suspendReport, callReports, methodReports};
-ghost use Rattle.overload.specs.Reported.{Reported};
+ghost use Rattle.overload.specs.Inside.Reported.{Reported};
 
 // A suspend function called from outside of one.
 fn report_suspend(
@@ -24,13 +25,14 @@ fn report_suspend(
     buf: &mut [u8],
     count: usize,
 ) -> usize
-    requires { ⌜ Accepted (now table) (now index) × (count < countLimit) ⌝ }
-    ensures { λ r. ⌜ Reported (now (buf .entry)) count (now (buf .exit)) r (atNode node (suspendReport (symbolsOf (now (table .entry))) header owner id)) ⌝ }
+    requires { ⌜ IndexedTable (now table) (now index) × (count < countLimit) ⌝ }
+    ensures { λ r. ⌜ Reported (now (buf .entry)) count (now (buf .exit)) r
+        (atNode node (suspendReport (symbolsOf (now (table .entry))) header owner id)) ⌝ }
 {
     if header.suspend | !is_suspend(table, index, owner, id) {
         return count;
     }
-    report(buf, count, 14, node, 0)
+    report(buf, count, Diagnostic::SUSPEND, node, 0)
 }
 
 // A function that the script may not access.
@@ -44,11 +46,12 @@ fn report_access(
     buf: &mut [u8],
     count: usize,
 ) -> usize
-    requires { ⌜ Accepted (now table) (now index) × (count < countLimit) ⌝ }
-    ensures { λ r. ⌜ Reported (now (buf .entry)) count (now (buf .exit)) r (atNode node (accessReport (symbolsOf (now (table .entry))) header vis owner)) ⌝ }
+    requires { ⌜ IndexedTable (now table) (now index) × (count < countLimit) ⌝ }
+    ensures { λ r. ⌜ Reported (now (buf .entry)) count (now (buf .exit)) r
+        (atNode node (accessReport (symbolsOf (now (table .entry))) header vis owner)) ⌝ }
 {
     if check_access(table, index, header, vis, owner) {
-        return report(buf, count, 20, node, vis as usize);
+        return report(buf, count, Diagnostic::ACCESS, node, vis as usize);
     }
     count
 }
@@ -63,8 +66,9 @@ pub fn before_call(
     buf: &mut [u8],
     count: usize,
 ) -> usize
-    requires { ⌜ Accepted (now table) (now index) × (count < countLimit) ⌝ }
-    ensures { λ r. ⌜ Reported (now (buf .entry)) count (now (buf .exit)) r (atNode node (callReports (symbolsOf (now (table .entry))) header id)) ⌝ }
+    requires { ⌜ IndexedTable (now table) (now index) × (count < countLimit) ⌝ }
+    ensures { λ r. ⌜ Reported (now (buf .entry)) count (now (buf .exit)) r
+        (atNode node (callReports (symbolsOf (now (table .entry))) header id)) ⌝ }
 {
     report_suspend(table, index, header, NameId::NONE, id, node, buf, count)
 }
@@ -81,8 +85,9 @@ pub fn before_method(
     buf: &mut [u8],
     count: usize,
 ) -> usize
-    requires { ⌜ Accepted (now table) (now index) × (count + 2 ≤ countLimit) ⌝ }
-    ensures { λ r. ⌜ Reported (now (buf .entry)) count (now (buf .exit)) r (atNode node (methodReports (symbolsOf (now (table .entry))) header vis owner id)) ⌝ }
+    requires { ⌜ IndexedTable (now table) (now index) × (count + 2 ≤ countLimit) ⌝ }
+    ensures { λ r. ⌜ Reported (now (buf .entry)) count (now (buf .exit)) r
+        (atNode node (methodReports (symbolsOf (now (table .entry))) header vis owner id)) ⌝ }
 {
     let more = report_access(table, index, header, vis, owner, node, buf, count);
     report_suspend(table, index, header, owner, id, node, buf, more)

@@ -1,38 +1,36 @@
 // A call of a list of functions.
-use crate::args::Args;
-use crate::arity::viable;
 use crate::reports::by_index;
 use crate::reports::unknown_names;
-use crate::score::Score;
-use crate::score::score_function;
 use area::Source;
 use area::report;
+use index::index::Found;
+use index::index::Place;
+use operators::ruled::Diagnostic;
+use scoring::args::Args;
+use scoring::arity::viable;
+use scoring::score::Score;
+use scoring::score::score_function;
 use symbol::functions::Function;
 use symbol::functions::is_builtin_function;
 use symbol::functions::read_function;
-use symbol::index::Found;
-use symbol::index::Place;
 use symbol::lookups::first_function;
 use symbol::lookups::next_function;
 use ty::Kind;
 ghost use Prim.Native.Nat.{ℕ, _+_, _≤_, _<_};
 ghost use mathlib.Core.Path.{_≡_};
-ghost use mathlib.Core.Bool.{Bool};
-ghost use mathlib.Core.List.{List, [], _∷_, _++_};
-ghost use lib.ListN.{take, drop};
+ghost use mathlib.Core.List.{List, [], _∷_};
 ghost use Rattle.area.specs.Diagnostic.{countLimit};
-ghost use Rattle.symbol.specs.Symbols.{Overload};
-ghost use Rattle.symbol.specs.Accepted.{Accepted};
+ghost use Rattle.index.specs.Inside.IndexedTable.{IndexedTable};
 ghost use Rattle.symbol.specs.Lookup.{symbolsOf};
-ghost use Rattle.symbol.specs.Answer.{FunctionAt, FunctionRead, overloadAt};
-ghost use Rattle.symbol.specs.declared.index.Found.the-variants.{Here};
-ghost use Rattle.overload.specs.Args.{argsIn};
-ghost use Rattle.overload.specs.Params.{scoreOf};
-ghost use Rattle.overload.specs.Arity.{anyOwn};
-ghost use Rattle.overload.specs.Best.{Best, better};
-ghost use Rattle.overload.specs.Reported.{Reported};
-ghost use Rattle.overload.specs.Resolve.{noneFits, tieReport, resolveIn, resolve};
-ghost use Rattle.overload.specs.Tally.{taken, picked, firstOf, mostDiagnostics, Room, HighestIs, TallyIs, CalledIs};
+ghost use Rattle.index.specs.Inside.Found.{FunctionAt};
+ghost use Rattle.symbol.specs.Inside.LookupAnswer.{overloadAt};
+ghost use Rattle.scoring.specs.Arity.{anyOwn};
+ghost use Rattle.overload.specs.Resolve.{noneFits, tieReport};
+ghost use Rattle.scoring.specs.Inside.Args.{argsIn};
+ghost use Rattle.overload.specs.Inside.Reported.{Reported};
+ghost use Rattle.scoring.specs.Inside.Scored.{scoreOf};
+ghost use Rattle.overload.specs.Inside.Tally.{taken, pickedIn, firstOf, mostDiagnostics, callAt};
+ghost use Rattle.overload.specs.Inside.Tally.{ReadAt, HigherWith, Room, TallyIn, Takes, Settles, CalledIs};
 
 // The highest score so far: whether anything matches, the score, how many have it, and where the result of the first of them lies in the table.
 pub struct Highest {
@@ -59,7 +57,7 @@ pub struct Called {
 
 // Whether a function of the list is not a builtin.
 fn any_own(table: &[u8], index: &[u16], owner: u16, id: u16) -> bool
-    requires { ⌜ Accepted (now table) (now index) ⌝ }
+    requires { ⌜ IndexedTable (now table) (now index) ⌝ }
     ensures { λ r. ⌜ r ≡ anyOwn (symbolsOf (now (table .entry)) .functionsOf owner id) ⌝ }
 {
     let mut found = first_function(table, index, owner, id);
@@ -77,7 +75,7 @@ fn any_own(table: &[u8], index: &[u16], owner: u16, id: u16) -> bool
 // The highest score once one more overload has its score. Its result lies in the table from start on.
 fn higher(h: Highest, start: usize, len: usize, s: Score) -> Highest
     requires { ⌜ h .many ≤ 60000 ⌝ }
-    ensures { λ r. ⌜ (r .many ≤ h .many + 1) × ((t : List ℕ) (b : Best) (o : Overload) → HighestIs t b h → take len (drop start t) ≡ o .result → HighestIs t (better b o (scoreOf s)) r) ⌝ }
+    ensures { λ r. ⌜ HigherWith start len (scoreOf s) h r ⌝ }
 {
     if !s.matched {
         return h;
@@ -129,8 +127,9 @@ fn take_one(
     w: Tally,
     buf: &mut [u8],
 ) -> Tally
-    requires { ⌜ Accepted (now table) (now index) × FunctionAt (now table) p × FunctionRead (now table) (overloadAt (now table) p) f × (args .count ≤ 16) × Room w ⌝ }
-    ensures { λ r. ⌜ ((b : List ℕ) (n : ℕ) (vs : List Overload) → TallyIs (now (table .entry)) (symbolsOf (now (table .entry))) (argsIn (now (area .entry)) (now (lens .entry)) args) b n (now (buf .entry)) vs w → TallyIs (now (table .entry)) (symbolsOf (now (table .entry))) (argsIn (now (area .entry)) (now (lens .entry)) args) b n (now (buf .exit)) (vs ++ (overloadAt (now (table .entry)) p ∷ [])) r) ⌝ }
+    requires { ⌜ IndexedTable (now table) (now index) × FunctionAt (now table) p × ReadAt (now table) p f × (args .count ≤ 16) × Room w ⌝ }
+    ensures { λ r. ⌜ Takes (now (table .entry)) (argsIn (now (area .entry)) (now (lens .entry)) args)
+        (overloadAt (now (table .entry)) p ∷ []) (now (buf .entry)) w (now (buf .exit)) r ⌝ }
 {
     let params = f.params;
     let found = w.first;
@@ -159,8 +158,9 @@ fn turn(
     w: Tally,
     buf: &mut [u8],
 ) -> Tally
-    requires { ⌜ Accepted (now table) (now index) × FunctionAt (now table) p × (args .count ≤ 16) × Room w ⌝ }
-    ensures { λ r. ⌜ ((b : List ℕ) (n : ℕ) (vs : List Overload) → TallyIs (now (table .entry)) (symbolsOf (now (table .entry))) (argsIn (now (area .entry)) (now (lens .entry)) args) b n (now (buf .entry)) vs w → TallyIs (now (table .entry)) (symbolsOf (now (table .entry))) (argsIn (now (area .entry)) (now (lens .entry)) args) b n (now (buf .exit)) (vs ++ taken own (args .count) (overloadAt (now (table .entry)) p)) r) ⌝ }
+    requires { ⌜ IndexedTable (now table) (now index) × FunctionAt (now table) p × (args .count ≤ 16) × Room w ⌝ }
+    ensures { λ r. ⌜ Takes (now (table .entry)) (argsIn (now (area .entry)) (now (lens .entry)) args)
+        (taken own (args .count) (overloadAt (now (table .entry)) p)) (now (buf .entry)) w (now (buf .exit)) r ⌝ }
 {
     let f = read_function(table, p);
     if own & f.builtin {
@@ -185,8 +185,9 @@ fn walk(
     buf: &mut [u8],
     count: usize,
 ) -> Tally
-    requires { ⌜ Accepted (now table) (now index) × (args .count ≤ 16) × (count + mostDiagnostics ≤ countLimit) ⌝ }
-    ensures { λ r. ⌜ TallyIs (now (table .entry)) (symbolsOf (now (table .entry))) (argsIn (now (area .entry)) (now (lens .entry)) args) (now (buf .entry)) count (now (buf .exit)) (picked own (args .count) (symbolsOf (now (table .entry)) .functionsOf owner id)) r ⌝ }
+    requires { ⌜ IndexedTable (now table) (now index) × (args .count ≤ 16) × (count + mostDiagnostics ≤ countLimit) ⌝ }
+    ensures { λ r. ⌜ TallyIn (now (table .entry)) (argsIn (now (area .entry)) (now (lens .entry)) args) (now (buf .entry)) count (now (buf .exit))
+        (pickedIn (now (table .entry)) own (args .count) owner id) r ⌝ }
 {
     let mut found = first_function(table, index, owner, id);
     let mut w = Tally {
@@ -216,7 +217,7 @@ fn none_fits(own: bool, node: usize, n: usize, buf: &mut [u8], count: usize) -> 
     ensures { λ r. ⌜ ((t : List ℕ) → CalledIs t (now (buf .entry)) count (now (buf .exit)) (noneFits own node n) r) ⌝ }
 {
     if own {
-        let more = report(buf, count, 15, node, n);
+        let more = report(buf, count, Diagnostic::ARGUMENT_COUNT, node, n);
         return Called {
             source: Source::Kind(Kind::ERROR),
             count: more,
@@ -234,7 +235,7 @@ fn report_tie(node: usize, many: usize, buf: &mut [u8], count: usize) -> usize
     ensures { λ r. ⌜ Reported (now (buf .entry)) count (now (buf .exit)) r (tieReport node many) ⌝ }
 {
     if 1 < many {
-        return report(buf, count, 19, node, many);
+        return report(buf, count, Diagnostic::TIE, node, many);
     }
     count
 }
@@ -251,8 +252,8 @@ fn settle(
     w: Tally,
     buf: &mut [u8],
 ) -> Called
-    requires { ⌜ Accepted (now table) (now index) × FunctionAt (now table) p × (args .count ≤ 16) × Room w ⌝ }
-    ensures { λ r. ⌜ ((own : Bool) (b : List ℕ) (n : ℕ) (vs : List Overload) → w .first ≡ Here p → TallyIs (now (table .entry)) (symbolsOf (now (table .entry))) (argsIn (now (area .entry)) (now (lens .entry)) args) b n (now (buf .entry)) vs w → CalledIs (now (table .entry)) b n (now (buf .exit)) (resolveIn (symbolsOf (now (table .entry))) own node (argsIn (now (area .entry)) (now (lens .entry)) args) vs) r) ⌝ }
+    requires { ⌜ IndexedTable (now table) (now index) × FunctionAt (now table) p × (args .count ≤ 16) × Room w ⌝ }
+    ensures { λ r. ⌜ Settles (now (table .entry)) p node (argsIn (now (area .entry)) (now (lens .entry)) args) (now (buf .entry)) w (now (buf .exit)) r ⌝ }
 {
     let h = w.highest;
     if h.matched {
@@ -277,7 +278,7 @@ fn settle(
             count: checked,
         };
     }
-    let more = report(buf, w.count, 18, node, 0);
+    let more = report(buf, w.count, Diagnostic::NO_MATCH, node, 0);
     Called {
         source: Source::Kind(Kind::ERROR),
         count: more,
@@ -298,8 +299,9 @@ pub fn check_call_args(
     buf: &mut [u8],
     count: usize,
 ) -> Called
-    requires { ⌜ Accepted (now table) (now index) × (args .count ≤ 16) × (count + mostDiagnostics ≤ countLimit) ⌝ }
-    ensures { λ r. ⌜ CalledIs (now (table .entry)) (now (buf .entry)) count (now (buf .exit)) (resolve (symbolsOf (now (table .entry))) (symbolsOf (now (table .entry)) .functionsOf owner id) node (argsIn (now (area .entry)) (now (lens .entry)) args)) r ⌝ }
+    requires { ⌜ IndexedTable (now table) (now index) × (args .count ≤ 16) × (count + mostDiagnostics ≤ countLimit) ⌝ }
+    ensures { λ r. ⌜ CalledIs (now (table .entry)) (now (buf .entry)) count (now (buf .exit))
+        (callAt (now (table .entry)) owner id node (now (area .entry)) (now (lens .entry)) args) r ⌝ }
 {
     let own = any_own(table, index, owner, id);
     let w = walk(table, index, own, owner, id, area, lens, args, buf, count);

@@ -1,27 +1,23 @@
 // What is reported at single arguments.
-use crate::args::Args;
-use crate::score::place_of;
 use area::report;
+use operators::ruled::Diagnostic;
 use rules::accept::param_accepts;
+use scoring::args::Args;
+use scoring::score::named_place;
 use symbol::functions::Params;
 use ty::Kind;
 use ty::NameId;
 ghost use Prim.Native.Nat.{ℕ, _+_, _≤_, _<_};
 ghost use mathlib.Core.Path.{_≡_};
-ghost use mathlib.Core.Bool.{_||_};
 ghost use mathlib.Core.List.{List};
-ghost use lib.Dec.{eqb};
-ghost use Rattle.ty.specs.Kind.{anyKind, errorKind};
-ghost use Rattle.ty.specs.Bytes.{kindOf};
-ghost use Rattle.rules.specs.Accept.{paramAccepts};
 ghost use Rattle.area.specs.Diagnostic.{countLimit};
-ghost use Rattle.symbol.specs.Accepted.{Accepted};
+ghost use Rattle.index.specs.Inside.IndexedTable.{IndexedTable};
 ghost use Rattle.symbol.specs.Lookup.{symbolsOf};
-ghost use Rattle.symbol.specs.Answer.{paramAt};
-ghost use Rattle.overload.specs.Args.{nameIn, argAt, argsIn};
-ghost use Rattle.overload.specs.Params.{paramsIn};
-ghost use Rattle.overload.specs.ByIndex.{unknownOne, unknowns, mismatchOne, mismatches};
-ghost use Rattle.overload.specs.Reported.{Reported};
+ghost use Rattle.overload.specs.ByIndex.{unknownOne, unknowns, passesByIndex};
+ghost use Rattle.scoring.specs.Inside.Args.{nameIn, argsIn};
+ghost use Rattle.scoring.specs.Inside.Params.{paramsIn};
+ghost use Rattle.overload.specs.Inside.Mismatch.{mismatchAt, mismatchesIn};
+ghost use Rattle.overload.specs.Inside.Reported.{Reported};
 
 // An argument's name, where no parameter has it.
 fn unknown_one(
@@ -33,21 +29,23 @@ fn unknown_one(
     count: usize,
 ) -> usize
     requires { ⌜ (params .count ≤ 16) × (count < countLimit) ⌝ }
-    ensures { λ r. ⌜ ((t : List ℕ) → Reported (now (buf .entry)) count (now (buf .exit)) r (unknownOne (nameIn id) (paramsIn t params) position node)) ⌝ }
+    ensures { λ r. ⌜ ((t : List ℕ) → Reported (now (buf .entry)) count (now (buf .exit)) r
+        (unknownOne (nameIn id) (paramsIn t params) position node)) ⌝ }
 {
     if id == NameId::NONE {
         return count;
     }
-    if place_of(params, id) < params.count {
+    if named_place(params, id) < params.count {
         return count;
     }
-    report(buf, count, 16, node, position)
+    report(buf, count, Diagnostic::UNKNOWN_NAME, node, position)
 }
 
 // The unknown names among a call's arguments.
 pub fn unknown_names(params: Params, args: Args, buf: &mut [u8], count: usize) -> usize
     requires { ⌜ (params .count ≤ 16) × (args .count ≤ 16) × (count + 16 ≤ countLimit) ⌝ }
-    ensures { λ r. ⌜ ((t a l : List ℕ) → Reported (now (buf .entry)) count (now (buf .exit)) r (unknowns (paramsIn t params) 1 (argsIn a l args))) ⌝ }
+    ensures { λ r. ⌜ ((t a l : List ℕ) → Reported (now (buf .entry)) count (now (buf .exit)) r
+        (unknowns (paramsIn t params) 1 (argsIn a l args))) ⌝ }
 {
     let mut reported = count;
     let mut i: usize = 0;
@@ -59,9 +57,9 @@ pub fn unknown_names(params: Params, args: Args, buf: &mut [u8], count: usize) -
 }
 
 // Whether the check by index lets an argument of the type x pass for a parameter of the type p.
-fn passes(table: &[u8], index: &[u16], p: &[u8], x: &[u8], vararg: bool) -> bool
-    requires { ⌜ Accepted (now table) (now index) ⌝ }
-    ensures { λ r. ⌜ r ≡ (paramAccepts (symbolsOf (now (table .entry))) (now (p .entry)) (now (x .entry)) vararg || (eqb (kindOf (now (p .entry))) anyKind || (eqb (kindOf (now (x .entry))) errorKind || eqb (kindOf (now (x .entry))) anyKind))) ⌝ }
+fn passes_by_index(table: &[u8], index: &[u16], p: &[u8], x: &[u8], vararg: bool) -> bool
+    requires { ⌜ IndexedTable (now table) (now index) ⌝ }
+    ensures { λ r. ⌜ r ≡ passesByIndex (symbolsOf (now (table .entry))) (now (p .entry)) (now (x .entry)) vararg ⌝ }
 {
     let k = ty::kind_of(x);
     param_accepts(table, index, p, x, vararg)
@@ -80,16 +78,17 @@ fn mismatch_one(
     buf: &mut [u8],
     count: usize,
 ) -> usize
-    requires { ⌜ Accepted (now table) (now index) × (i < 16) × (count < countLimit) ⌝ }
-    ensures { λ r. ⌜ Reported (now (buf .entry)) count (now (buf .exit)) r (mismatchOne (symbolsOf (now (table .entry))) (paramAt (now (table .entry)) params i) (i + 1) (argAt (now (area .entry)) (now (lens .entry)) args i)) ⌝ }
+    requires { ⌜ IndexedTable (now table) (now index) × (i < 16) × (count < countLimit) ⌝ }
+    ensures { λ r. ⌜ Reported (now (buf .entry)) count (now (buf .exit)) r
+        (mismatchAt (now (table .entry)) params (now (area .entry)) (now (lens .entry)) args i) ⌝ }
 {
     let node = args.nodes[i];
     let p = area::part(table, params.starts[i], params.lens[i]);
     let x = area::slot(area, lens, node);
-    if passes(table, index, p, x, params.varargs[i]) {
+    if passes_by_index(table, index, p, x, params.varargs[i]) {
         return count;
     }
-    report(buf, count, 17, node, i + 1)
+    report(buf, count, Diagnostic::MISMATCH, node, i + 1)
 }
 
 // The check by index.
@@ -103,8 +102,9 @@ pub fn by_index(
     buf: &mut [u8],
     count: usize,
 ) -> usize
-    requires { ⌜ Accepted (now table) (now index) × (params .count ≤ 16) × (args .count ≤ 16) × (count + 16 ≤ countLimit) ⌝ }
-    ensures { λ r. ⌜ Reported (now (buf .entry)) count (now (buf .exit)) r (mismatches (symbolsOf (now (table .entry))) (paramsIn (now (table .entry)) params) 1 (argsIn (now (area .entry)) (now (lens .entry)) args)) ⌝ }
+    requires { ⌜ IndexedTable (now table) (now index) × (params .count ≤ 16) × (args .count ≤ 16) × (count + 16 ≤ countLimit) ⌝ }
+    ensures { λ r. ⌜ Reported (now (buf .entry)) count (now (buf .exit)) r
+        (mismatchesIn (now (table .entry)) params (now (area .entry)) (now (lens .entry)) args) ⌝ }
 {
     let mut reported = count;
     let mut i: usize = 0;

@@ -1,4 +1,4 @@
--- An accepted question: what holds of its bytes and its tree, and that what holds all that is accepted. Assumes nothing.
+-- An accepted question: what holds of its bytes and its tree, and that what holds all that is accepted.
 use Prim.Native.Nat.{ℕ, _+_, _≤_}
 use borrow.Author.Tests.{ltb-false, le-ltb, eq-eqb}
 use lib.Dec.{ltb}
@@ -11,10 +11,10 @@ use Rattle.question.proofs.Finds.{finds, passes, only}
 use Rattle.question.proofs.Found.{Found, both-none, found}
 use Rattle.question.proofs.Standing.{at-fits}
 use Rattle.question.specs.Header.{headerBytes, suspendByte, headerOf}
-use Rattle.question.specs.Legal.{Legal, RowLegal}
+use Rattle.question.specs.Inside.Legal.{Legal, RowLegal}
+use Rattle.question.specs.Inside.Stands.{TreeStands, RowStands}
 use Rattle.question.specs.Parse.{mostNodes, first, treeOf}
-use Rattle.question.specs.Refused.{longestQuestion, noneOrDefined, headerFault, endFault, treeFault, questionFault}
-use Rattle.question.specs.Stands.{At, Ats}
+use Rattle.question.specs.QuestionRefused.{longestQuestion, noneOrDefined, headerFault, endFault, treeFault, questionFault}
 use Rattle.question.specs.Tree.{Node, Row, nil, cons, size, sizes, count, bytes, bytess, LeavesFit}
 use Rattle.question.specs.declared.Names.{Names}
 use Rattle.ty.proofs.Choice.{by-choice, and-left, and-right}
@@ -29,7 +29,7 @@ pub record HeaderFine (N : Names) (q : List ℕ) : Type 0 where
 
 -- the tree t stands behind the header, to the end, and has at most 64 nodes and nothing undefined
 pub record Holds (N : Names) (q : List ℕ) (t : Node) : Type 0 where
-  pub stands : At q t headerBytes
+  pub stands : TreeStands q t headerBytes
   pub ends : headerBytes + bytes t ≡ length q
   pub few : size t ≤ mostNodes
   pub legal : Legal N t
@@ -65,7 +65,7 @@ fine-header N q h = rw (le-ltb (length q) headerBytes (h .there), le-ltb 1 (susp
 
 -- ---- the tree
 row-holds : (N : Names) (q : List ℕ) (r : Row) → Found N q headerBytes 1 mostNodes r → Holds N q (first r)
-unfolding Ats bytess sizes count RowLegal first
+unfolding RowStands bytess sizes count RowLegal first
 row-holds N q nil w = absurd (omega (arith, w .counted))
 row-holds N q (cons x nil) w =
     record { stands = w .stands .0; ends = omega (arith, w .ends); few = omega (arith, w .few); legal = w .legal .0 }
@@ -76,7 +76,7 @@ unfolding treeFault treeOf
 tree-holds N q e = row-holds N q _ (found N q mostNodes headerBytes 1 e)
 
 holds-tree : (N : Names) (q : List ℕ) (t : Node) → Holds N q t → treeFault N q ≡ 0
-unfolding treeFault Ats bytess sizes count RowLegal endFault choose
+unfolding treeFault RowStands bytess sizes count RowLegal endFault choose
 holds-tree N q t h =
     let e : headerBytes + (bytes t + 0) ≡ length q = omega (arith, h .ends) in
     passes q N mostNodes (cons t nil) headerBytes (h .stands, tt) (h .legal, tt) (omega (arith, h .few)) ∙ rw (eq-eqb (headerBytes + (bytes t + 0)) (length q) e)
@@ -101,10 +101,10 @@ module _ (N : Names) (q : List ℕ) where
   accepted-fits e = at-fits q (treeOf q) headerBytes (accepted e .tree .stands)
 
   -- no tree but one stands behind the header of an accepted question
-  pub accepted-only : questionFault N q ≡ 0 → (t : Node) → At q t headerBytes → t ≡ treeOf q
+  pub accepted-only : questionFault N q ≡ 0 → (t : Node) → TreeStands q t headerBytes → t ≡ treeOf q
   accepted-only e t s = only q t (treeOf q) headerBytes s (accepted e .tree .stands)
 
 -- a tree of at most 64 nodes that stands behind the header is the question's
-pub tree-found : (q : List ℕ) (t : Node) → At q t headerBytes → size t ≤ mostNodes → treeOf q ≡ t
-unfolding treeOf Ats sizes count first
+pub tree-found : (q : List ℕ) (t : Node) → TreeStands q t headerBytes → size t ≤ mostNodes → treeOf q ≡ t
+unfolding treeOf RowStands sizes count first
 tree-found q t s h = ap first (finds q mostNodes (cons t nil) headerBytes (s, tt) (omega arith))

@@ -1,4 +1,4 @@
--- What is read of nodes without a fault stands there, with nothing undefined in it. Assumes nothing.
+-- What is read of nodes without a fault stands there, with nothing undefined in it.
 use Prim.Native.Nat.{ℕ, zero, suc, _+_, _≤_}
 use borrow.Author.Tests.{eqb-true, eq-eqb}
 use lib.Dec.{eqb}
@@ -7,13 +7,15 @@ use mathlib.Core.Bool.{true, true≢false}
 use mathlib.Core.List.{List}
 use mathlib.Core.Path.{_≡_, refl, sym, ap, _∙_}
 use native.Mathlib.Omega.{arith}
-use Rattle.question.proofs.Reading.{leaf-length, leaf-whole}
+use Rattle.question.proofs.NodeIds.{same-fault}
+use Rattle.question.proofs.NodeReading.{leaf-length, leaf-whole}
 use Rattle.question.proofs.Trees.{take-count, split-count, split-bytes, split-sizes}
-use Rattle.question.specs.Legal.{Legal, RowLegal}
+use Rattle.question.specs.Inside.Legal.{Legal, RowLegal}
+use Rattle.question.specs.Inside.Stands.{TreeStands, RowStands}
+use Rattle.question.specs.Inside.Top.{idFault, endlessFault, readFault}
 use Rattle.question.specs.Parse.{first, rest, takeRow, dropRow, onto, rowAt}
-use Rattle.question.specs.Read.{nodeAt, ownBytes, children}
-use Rattle.question.specs.Refused.{defined, idFault, endlessFault, nodeFault, moreFault, endFault, nodesFault}
-use Rattle.question.specs.Stands.{At, Ats}
+use Rattle.question.specs.NodeRead.{nodeAt, ownBytes, children}
+use Rattle.question.specs.QuestionRefused.{defined, nodeFault, moreFault, endFault, nodesFault}
 use Rattle.question.specs.Tree.{Row, leaf, binary, unary, named, member, call, method, nil, cons, size, sizes, count, bytes, bytess}
 use Rattle.question.specs.declared.Names.{Names}
 use Rattle.question.specs.declared.node.NodeRead.the-variants.{Bad, Leaf, Endless, Binary, Unary, Named, Member, Call, Method}
@@ -22,7 +24,7 @@ use Rattle.ty.proofs.Choice.{by-choice}
 use Rattle.ty.specs.Choose.{choose}
 
 pub record Found (N : Names) (q : List ℕ) (at pending left : ℕ) (r : Row) : Type 0 where
-  pub stands : Ats q r at
+  pub stands : RowStands q r at
   pub ends : at + bytess r ≡ length q
   pub counted : count r ≡ pending
   pub few : sizes r ≤ left
@@ -59,8 +61,8 @@ both-none a x =
     by-choice (λ n. n ≡ 0 → (a ≡ 0) × (x ≡ 0)) (eqb a 0) (λ t e. (eqb-true a 0 t, e)) (λ t e. absurd (true≢false (sym (eq-eqb a 0 e) ∙ t)))
 
 -- ---- a row apart
-split-ats : (q : List ℕ) (n : ℕ) (r : Row) (at m : ℕ) → m ≡ at + bytess (takeRow n r) → Ats q r at → Ats q (takeRow n r) at × Ats q (dropRow n r) m
-unfolding takeRow dropRow Ats bytess
+split-ats : (q : List ℕ) (n : ℕ) (r : Row) (at m : ℕ) → m ≡ at + bytess (takeRow n r) → RowStands q r at → RowStands q (takeRow n r) at × RowStands q (dropRow n r) m
+unfolding takeRow dropRow RowStands bytess
 split-ats q zero r at m e s = let f : m ≡ at = omega arith in (tt, rw f s)
 split-ats q (suc n) nil at m e s = (tt, tt)
 split-ats q (suc n) (cons x r) at m e s = let w = split-ats q n r (at + bytes x) m (omega arith) (s .1) in ((s .0, w .0), w .1)
@@ -75,7 +77,7 @@ split-legal N (suc n) (cons x r) g = let w = split-legal N n r (g .1) in ((g .0,
 module _ (N : Names) (q : List ℕ) (at p f : ℕ) where
   found-leaf : (len top : ℕ) → nodeAt q at ≡ Leaf len top → defined N top ≡ true → (r : Row) → Found N q (at + (len + 1)) (p + 0) f r
       → Found N q at (suc p) (suc f) (cons (leaf (take len (drop (at + 1) q))) r)
-  unfolding At Ats bytes bytess size sizes count Legal RowLegal
+  unfolding TreeStands RowStands bytes bytess size sizes count Legal RowLegal
   found-leaf len top h k r w =
       let d : List ℕ = drop (at + 1) q in
       let l : length (take len d) ≡ len = leaf-length q at len top h in
@@ -91,7 +93,7 @@ module _ (N : Names) (q : List ℕ) (at p f : ℕ) where
 
   found-binary : (op : ℕ) → nodeAt q at ≡ Binary op → (r : Row) → Found N q (at + 2) (p + 2) f r
       → Found N q at (suc p) (suc f) (cons (binary op (first r) (first (rest r))) (rest (rest r)))
-  unfolding At Ats bytes bytess size sizes count Legal RowLegal first rest
+  unfolding TreeStands RowStands bytes bytess size sizes count Legal RowLegal first rest
   found-binary op h nil w = absurd (omega (arith, w .counted))
   found-binary op h (cons x nil) w = absurd (omega (arith, w .counted))
   found-binary op h (cons x (cons y r)) w =
@@ -107,7 +109,7 @@ module _ (N : Names) (q : List ℕ) (at p f : ℕ) where
       }
 
   found-unary : (op : ℕ) → nodeAt q at ≡ Unary op → (r : Row) → Found N q (at + 2) (p + 1) f r → Found N q at (suc p) (suc f) (cons (unary op (first r)) (rest r))
-  unfolding At Ats bytes bytess size sizes count Legal RowLegal first rest
+  unfolding TreeStands RowStands bytes bytess size sizes count Legal RowLegal first rest
   found-unary op h nil w = absurd (omega (arith, w .counted))
   found-unary op h (cons x r) w =
       let a : at + 2 + bytes x ≡ at + (2 + bytes x) = omega arith in
@@ -123,7 +125,7 @@ module _ (N : Names) (q : List ℕ) (at p f : ℕ) where
 
   found-named : (id : ℕ) → nodeAt q at ≡ Named id → defined N id ≡ true → (r : Row) → Found N q (at + 3) (p + 1) f r
       → Found N q at (suc p) (suc f) (cons (named id (first r)) (rest r))
-  unfolding At Ats bytes bytess size sizes count Legal RowLegal first rest
+  unfolding TreeStands RowStands bytes bytess size sizes count Legal RowLegal first rest
   found-named id h k nil w = absurd (omega (arith, w .counted))
   found-named id h k (cons x r) w =
       let a : at + 3 + bytes x ≡ at + (3 + bytes x) = omega arith in
@@ -139,7 +141,7 @@ module _ (N : Names) (q : List ℕ) (at p f : ℕ) where
 
   found-member : (id : ℕ) → nodeAt q at ≡ Member id → defined N id ≡ true → (r : Row) → Found N q (at + 3) (p + 1) f r
       → Found N q at (suc p) (suc f) (cons (member id (first r)) (rest r))
-  unfolding At Ats bytes bytess size sizes count Legal RowLegal first rest
+  unfolding TreeStands RowStands bytes bytess size sizes count Legal RowLegal first rest
   found-member id h k nil w = absurd (omega (arith, w .counted))
   found-member id h k (cons x r) w =
       let a : at + 3 + bytes x ≡ at + (3 + bytes x) = omega arith in
@@ -155,7 +157,7 @@ module _ (N : Names) (q : List ℕ) (at p f : ℕ) where
 
   found-call : (id n : ℕ) → nodeAt q at ≡ Call id n → defined N id ≡ true → (r : Row) → Found N q (at + 4) (p + n) f r
       → Found N q at (suc p) (suc f) (cons (call id (takeRow n r)) (dropRow n r))
-  unfolding At Ats bytes bytess size sizes count Legal RowLegal
+  unfolding TreeStands RowStands bytes bytess size sizes count Legal RowLegal
   found-call id n h k r w =
       let m : n ≤ count r = omega (arith, w .counted) in
       let a = split-ats q n r (at + 4) (at + (4 + bytess (takeRow n r))) (omega arith) (w .stands) in
@@ -170,7 +172,7 @@ module _ (N : Names) (q : List ℕ) (at p f : ℕ) where
 
   found-method : (id n : ℕ) → nodeAt q at ≡ Method id n → defined N id ≡ true → (r : Row) → Found N q (at + 4) (p + suc n) f r
       → Found N q at (suc p) (suc f) (cons (method id (first r) (takeRow n (rest r))) (dropRow n (rest r)))
-  unfolding At Ats bytes bytess size sizes count Legal RowLegal first rest
+  unfolding TreeStands RowStands bytes bytess size sizes count Legal RowLegal first rest
   found-method id n h k nil w = absurd (omega (arith, w .counted))
   found-method id n h k (cons x r) w =
       let m : n ≤ count r = omega (arith, w .counted) in
@@ -184,8 +186,8 @@ module _ (N : Names) (q : List ℕ) (at p f : ℕ) where
         legal = ((k, w .legal .0, g .0), g .1);
       }
 
-  found-node : (h : NodeRead) → nodeAt q at ≡ h → nodeFault N h ≡ 0 → (r : Row) → Found N q (at + ownBytes h) (p + children h) f r → Found N q at (suc p) (suc f) (onto h q at r)
-  unfolding nodeFault ownBytes children onto
+  found-node : (h : NodeRead) → nodeAt q at ≡ h → readFault N h ≡ 0 → (r : Row) → Found N q (at + ownBytes h) (p + children h) f r → Found N q at (suc p) (suc f) (onto h q at r)
+  unfolding readFault ownBytes children onto
   found-node Bad e z r w = absurd (omega arith)
   found-node (Leaf len top) e z r w = found-leaf len top e (id-known N top z) r w
   found-node (Endless top) e z r w = absurd (endless-some N top z)
@@ -197,7 +199,7 @@ module _ (N : Names) (q : List ℕ) (at p f : ℕ) where
   found-node (Method id n) e z r w = found-method id n e (id-known N id z) r w
 
 found-none : (N : Names) (q : List ℕ) (at left : ℕ) → endFault q at ≡ 0 → Found N q at 0 left nil
-unfolding Ats bytess sizes count RowLegal
+unfolding RowStands bytess sizes count RowLegal
 found-none N q at left e = record { stands = tt; ends = omega (arith, at-end q at e); counted = refl; few = omega arith; legal = tt }
 
 pub found : (N : Names) (q : List ℕ) (left at pending : ℕ) → nodesFault N left q at pending ≡ 0 → Found N q at pending left (rowAt left q at pending)
@@ -206,5 +208,5 @@ found N q zero at zero e = found-none N q at 0 e
 found N q zero at (suc p) e = absurd (more-some (nodeAt q at) e)
 found N q (suc left) at zero e = found-none N q at (suc left) e
 found N q (suc left) at (suc p) e =
-    let (z, y) = both-none (nodeFault N (nodeAt q at)) _ e in
-    found-node N q at p left (nodeAt q at) refl z _ (found N q left (at + ownBytes (nodeAt q at)) (p + children (nodeAt q at)) y)
+    let (z, y) = both-none (nodeFault N q at) _ e in
+    found-node N q at p left (nodeAt q at) refl (same-fault N q at ∙ z) _ (found N q left (at + ownBytes (nodeAt q at)) (p + children (nodeAt q at)) y)

@@ -1,5 +1,3 @@
-pub mod Cases
-pub mod Reading
 pub mod Walking
 pub mod Trees
 pub mod Standing
@@ -7,5 +5,8 @@ pub mod Opened
 pub mod Finds
 pub mod Found
 pub mod Accepted
-pub mod Moved
 pub mod Plain
+pub mod QuestionCases
+pub mod NodesMoved
+pub mod NodeReading
+pub mod NodeIds

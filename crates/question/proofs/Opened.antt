@@ -1,17 +1,18 @@
--- A row that stands, its first tree opened: the root's own bytes are read, and its children stand behind them, before the rest of the row. Assumes nothing.
+-- A row that stands, its first tree opened: the root's own bytes are read, and its children stand behind them, before the rest of the row.
 use Prim.Native.Nat.{ℕ, suc, _+_}
 use lib.ListN.{length}
 use mathlib.Core.Bool.{Bool, true}
 use mathlib.Core.List.{List}
 use mathlib.Core.Path.{_≡_, refl, sym, ap, _∙_}
 use native.Mathlib.Omega.{arith}
-use Rattle.question.proofs.Reading.{leaf-whole}
+use Rattle.question.proofs.NodeReading.{leaf-whole}
 use Rattle.question.proofs.Trees.{joined, joined-count, joined-bytes, joined-sizes, take-joined, drop-joined}
-use Rattle.question.specs.Legal.{Legal, RowLegal}
+use Rattle.question.specs.Inside.Legal.{Legal, RowLegal}
+use Rattle.question.specs.Inside.Stands.{LeafStands, TreeStands, RowStands}
+use Rattle.question.specs.Inside.Top.{idFault, readFault}
 use Rattle.question.specs.Parse.{first, rest, takeRow, dropRow, onto}
-use Rattle.question.specs.Read.{nodeAt, ownBytes, children}
-use Rattle.question.specs.Refused.{defined, idFault, nodeFault}
-use Rattle.question.specs.Stands.{LeafAt, At, Ats}
+use Rattle.question.specs.NodeRead.{nodeAt, ownBytes, children}
+use Rattle.question.specs.QuestionRefused.{defined}
 use Rattle.question.specs.Tree.{Node, Row, leaf, binary, unary, named, member, call, method, nil, cons, size, sizes, count, bytes, bytess}
 use Rattle.question.specs.declared.Names.{Names}
 use Rattle.question.specs.declared.node.NodeRead.the-variants.{Leaf, Binary, Unary, Named, Member, Call, Method}
@@ -37,15 +38,15 @@ inside t r = joined (childrenOf t) r
 pub record Opened (q : List ℕ) (at : ℕ) (t : Node) (r : Row) : Type 0 where
   pub root : NodeRead
   pub read : nodeAt q at ≡ root
-  pub stands : Ats q (inside t r) (at + ownBytes root)
+  pub stands : RowStands q (inside t r) (at + ownBytes root)
   pub counted : count r + children root ≡ count (inside t r)
   pub ends : at + ownBytes root + bytess (inside t r) ≡ at + (bytes t + bytess r)
   pub sized : suc (sizes (inside t r)) ≡ size t + sizes r
   pub built : onto root q at (inside t r) ≡ cons t r
-  pub fine : (N : Names) → Legal N t → RowLegal N r → (nodeFault N root ≡ 0) × RowLegal N (inside t r)
+  pub fine : (N : Names) → Legal N t → RowLegal N r → (readFault N root ≡ 0) × RowLegal N (inside t r)
 
-pub joined-ats : (q : List ℕ) (r s : Row) (at m : ℕ) → m ≡ at + bytess r → Ats q r at → Ats q s m → Ats q (joined r s) at
-unfolding Ats joined bytess
+pub joined-ats : (q : List ℕ) (r s : Row) (at m : ℕ) → m ≡ at + bytess r → RowStands q r at → RowStands q s m → RowStands q (joined r s) at
+unfolding RowStands joined bytess
 joined-ats q nil s at m e a b = let f : at ≡ m = omega arith in rw f b
 joined-ats q (cons x r) s at m e a b = (a .0, joined-ats q r s (at + bytes x) m (omega arith) (a .1) b)
 
@@ -59,7 +60,7 @@ unfolding idFault choose
 known N id e = rw e
 
 -- the highest id of a leaf, as its position and its own bytes give it
-same-top : (q t : List ℕ) (at top : ℕ) (error : Bool) → (s : LeafAt q t at) → readType t longestType ≡ Whole (length t) top error → top ≡ s .top
+same-top : (q t : List ℕ) (at top : ℕ) (error : Bool) → (s : LeafStands q t at) → readType t longestType ≡ Whole (length t) top error → top ≡ s .top
 same-top q t at top error s e =
     let (error₁, r) = leaf-whole q at (length t) (s .top) (s .read) in
     let f : readType t longestType ≡ Whole (length t) (s .top) error₁ = rw (s .part) at r in
@@ -68,8 +69,8 @@ same-top q t at top error s e =
 method-path : (id : ℕ) (x : Node) (c c₁ r r₁ : Row) → c ≡ c₁ → r ≡ r₁ → cons (method id x c) r ≡ cons (method id x c₁) r₁
 method-path id x c c₁ r r₁ e f = cc
 
-pub opened : (q : List ℕ) (at : ℕ) (t : Node) (r : Row) → At q t at → Ats q r (at + bytes t) → Opened q at t r
-unfolding At Ats size sizes count bytes bytess joined childrenOf ownBytes children onto first rest takeRow dropRow nodeFault Legal RowLegal
+pub opened : (q : List ℕ) (at : ℕ) (t : Node) (r : Row) → TreeStands q t at → RowStands q r (at + bytes t) → Opened q at t r
+unfolding TreeStands RowStands size sizes count bytes bytess joined childrenOf ownBytes children onto first rest takeRow dropRow readFault Legal RowLegal
 opened q at (leaf t) r s ss =
     let a : at + (1 + length t) ≡ at + (length t + 1) = omega arith in
     record {

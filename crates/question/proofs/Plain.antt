@@ -1,4 +1,4 @@
--- A kind below Nullable has no body and no child: the type is that byte. Assumes nothing.
+-- A kind below Nullable has no body and no child: the type is that byte.
 use Prim.Native.Nat.{ℕ, zero, suc, _-_, _<_, min}
 use borrow.Author.Tests.{ne-eqb, le-ltb, lt-leb}
 use lib.ListN.{length, getD}
@@ -6,14 +6,14 @@ use mathlib.Core.Bool.{Bool, false}
 use mathlib.Core.List.{List, [], _∷_}
 use mathlib.Core.Path.{_≡_}
 use native.Mathlib.Omega.{arith}
+use Rattle.question.specs.NodeRead.{leafOf}
+use Rattle.question.specs.declared.node.NodeRead.the-variants.{Leaf}
+use Rattle.ty.specs.Bytes.{idAt}
 use Rattle.ty.specs.Choose.{choose}
 use Rattle.ty.specs.Kind.{nullableKind, arrayKind, mapKind, namedKind, functionKind, typeVarKind, moduleKind, errorKind, noKind}
-use Rattle.ty.specs.Read.{bodyLength, children, idIn, itemOf, itemAt, zeros, readFrom, readType, longestType}
-use Rattle.ty.specs.Bytes.{idAt}
+use Rattle.ty.specs.Read.{bodyLength, childCount, idIn, itemOf, itemAt, fourZeros, readFrom, readType, longestType}
 use Rattle.ty.specs.declared.read.Item.the-variants.{Part}
 use Rattle.ty.specs.declared.read.TypeRead.the-variants.{Whole}
-use Rattle.question.specs.Read.{leafOf}
-use Rattle.question.specs.declared.node.NodeRead.the-variants.{Leaf}
 
 no-body : (k : ℕ) → k < nullableKind → bodyLength k ≡ 0
 unfolding bodyLength choose
@@ -27,7 +27,7 @@ no-body k h =
     )
 
 plain-item : (k c : ℕ) (z : Bool) (i next : ℕ) → k < nullableKind → itemOf k c z i next ≡ Part next 0 0 false
-unfolding itemOf children idIn choose
+unfolding itemOf childCount idIn choose
 plain-item k c z i next h =
     rw (
       ne-eqb k arrayKind (omega arith),
@@ -47,7 +47,7 @@ first-item s end n h =
       le-ltb errorKind (getD s 0 0) (omega arith),
       no-body (getD s 0 0) h,
       le-ltb (end - 1) 0 (omega arith),
-      plain-item (getD s 0 0) (getD s 1 0) (zeros s 2) (idAt s 1) 1 h,
+      plain-item (getD s 0 0) (getD s 1 0) (fourZeros s 2) (idAt s 1) 1 h,
     )
 
 plain-read : (s : List ℕ) (f : ℕ) → 0 < length s → getD s 0 0 < nullableKind → readFrom (suc (suc f)) s longestType 0 1 0 false ≡ Whole 1 0 false

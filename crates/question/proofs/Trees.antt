@@ -1,26 +1,26 @@
--- Laws of trees and rows: sizes, bytes, numbers, rows joined and split. Assumes nothing.
+-- Laws of trees and rows: sizes, bytes, numbers, rows joined and split.
 use Prim.Native.Nat.{ℕ, zero, suc, _+_, _≤_}
 use mathlib.Core.Path.{_≡_, refl, ap}
 use native.Mathlib.Omega.{arith}
 use Rattle.question.specs.Parse.{takeRow, dropRow}
-use Rattle.question.specs.Tree.{Node, Row, leaf, binary, unary, named, member, call, method, nil, cons, after, afters, size, sizes, count, bytes, bytess}
+use Rattle.question.specs.Tree.{Node, Row, leaf, binary, unary, named, member, call, method, nil, cons, numberAfter, numberAfterRow, size, sizes, count, bytes, bytess}
 
 -- the number behind a tree
 mutual
-  unfolding after afters size sizes
+  unfolding numberAfter numberAfterRow size sizes
 
-  pub after-size : (t : Node) (n : ℕ) → after t n ≡ n + size t
+  pub after-size : (t : Node) (n : ℕ) → numberAfter t n ≡ n + size t
   after-size (leaf t) n = omega arith
-  after-size (binary op l r) n = omega (arith, after-size r (after l (suc n)), after-size l (suc n))
+  after-size (binary op l r) n = omega (arith, after-size r (numberAfter l (suc n)), after-size l (suc n))
   after-size (unary op x) n = omega (arith, after-size x (suc n))
   after-size (named id x) n = omega (arith, after-size x (suc n))
   after-size (member id x) n = omega (arith, after-size x (suc n))
   after-size (call id r) n = omega (arith, afters-sizes r (suc n))
-  after-size (method id x r) n = omega (arith, afters-sizes r (after x (suc n)), after-size x (suc n))
+  after-size (method id x r) n = omega (arith, afters-sizes r (numberAfter x (suc n)), after-size x (suc n))
 
-  pub afters-sizes : (r : Row) (n : ℕ) → afters r n ≡ n + sizes r
+  pub afters-sizes : (r : Row) (n : ℕ) → numberAfterRow r n ≡ n + sizes r
   afters-sizes nil n = omega arith
-  afters-sizes (cons x r) n = omega (arith, afters-sizes r (after x n), after-size x n)
+  afters-sizes (cons x r) n = omega (arith, afters-sizes r (numberAfter x n), after-size x n)
 
 pub some-size : (t : Node) → 1 ≤ size t
 unfolding size

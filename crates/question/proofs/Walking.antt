@@ -1,13 +1,13 @@
--- One step of the walk over the nodes: of the check and of `skip`. Assumes nothing.
+-- One step of the walk over the nodes: of the check and of `skip`.
 use Prim.Native.Nat.{ℕ, zero, suc, _+_, _-_, _<_}
 use borrow.Author.Tests.{eq-eqb, ne-eqb}
 use mathlib.Core.List.{List}
 use mathlib.Core.Path.{_≡_, refl, sym}
 use native.Mathlib.Omega.{arith}
+use Rattle.question.specs.Inside.Skip.{skipFrom}
 use Rattle.question.specs.Parse.{mostNodes}
-use Rattle.question.specs.Read.{nodeAt, ownBytes, children}
-use Rattle.question.specs.Refused.{nodeFault, moreFault, endFault, nodesFault}
-use Rattle.question.specs.Skip.{skipFrom}
+use Rattle.question.specs.NodeRead.{nodeAt, ownBytes, children}
+use Rattle.question.specs.QuestionRefused.{nodeFault, moreFault, endFault, nodesFault}
 use Rattle.question.specs.declared.Names.{Names}
 use Rattle.ty.specs.Choose.{choose}
 
@@ -25,16 +25,16 @@ module _ (N : Names) (q : List ℕ) (at : ℕ) where
   fault-more (suc left) (suc pending) p e = absurd (omega arith)
 
   module _ (left pending : ℕ) (p : pending ≡ 0 → ⊥) (l : left ≡ 0 → ⊥) where
-    pub fault-stop : (nodeFault N (nodeAt q at) ≡ 0 → ⊥) → nodesFault N left q at pending ≡ nodeFault N (nodeAt q at)
+    pub fault-stop : (nodeFault N q at ≡ 0 → ⊥) → nodesFault N left q at pending ≡ nodeFault N q at
     unfolding nodesFault choose
     fault-stop e = stop left pending p l
       where
-        stop : (left pending : ℕ) → (pending ≡ 0 → ⊥) → (left ≡ 0 → ⊥) → nodesFault N left q at pending ≡ nodeFault N (nodeAt q at)
+        stop : (left pending : ℕ) → (pending ≡ 0 → ⊥) → (left ≡ 0 → ⊥) → nodesFault N left q at pending ≡ nodeFault N q at
         stop left zero p l = absurd (p refl)
         stop zero (suc pending) p l = absurd (l refl)
-        stop (suc left) (suc pending) p l = simp (ne-eqb (nodeFault N (nodeAt q at)) 0 e)
+        stop (suc left) (suc pending) p l = simp (ne-eqb (nodeFault N q at) 0 e)
 
-    pub fault-on : nodeFault N (nodeAt q at) ≡ 0
+    pub fault-on : nodeFault N q at ≡ 0
         → nodesFault N left q at pending ≡ nodesFault N (left - 1) q (at + ownBytes (nodeAt q at)) (pending - 1 + children (nodeAt q at))
     unfolding nodesFault choose
     fault-on e = on left pending p l
@@ -46,10 +46,10 @@ module _ (N : Names) (q : List ℕ) (at : ℕ) where
         on (suc left) (suc pending) p l =
             let a : suc left - 1 ≡ left = omega arith in
             let b : suc pending - 1 ≡ pending = omega arith in
-            rw (a, b, eq-eqb (nodeFault N (nodeAt q at)) 0 e)
+            rw (a, b, eq-eqb (nodeFault N q at) 0 e)
 
   -- a turn of the check, with the node's own bytes and its children in hand
-  pub fault-turn : (left pending own kids : ℕ) → (pending ≡ 0 → ⊥) → (left ≡ 0 → ⊥) → nodeFault N (nodeAt q at) ≡ 0 → own ≡ ownBytes (nodeAt q at)
+  pub fault-turn : (left pending own kids : ℕ) → (pending ≡ 0 → ⊥) → (left ≡ 0 → ⊥) → nodeFault N q at ≡ 0 → own ≡ ownBytes (nodeAt q at)
       → kids ≡ children (nodeAt q at) → nodesFault N (left - 1) q (at + own) (pending - 1 + kids) ≡ nodesFault N left q at pending
   fault-turn left pending own kids p l e o k = rw (o, k) (sym (fault-on left pending p l e))
 

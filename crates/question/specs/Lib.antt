@@ -1,8 +1,6 @@
 pub mod Tree
 pub mod Header
-pub mod Read
-pub mod Stands
 pub mod Parse
-pub mod Skip
-pub mod Refused
-pub mod Legal
+pub mod Inside
+pub mod NodeRead
+pub mod QuestionRefused

@@ -3,7 +3,7 @@ use Prim.Native.Nat.{ℕ, zero, suc, _+_}
 use lib.ListN.{take, drop}
 use mathlib.Core.List.{List, []}
 use Rattle.question.specs.Header.{headerBytes}
-use Rattle.question.specs.Read.{nodeAt, ownBytes, children}
+use Rattle.question.specs.NodeRead.{nodeAt, ownBytes, children}
 use Rattle.question.specs.Tree.{Node, Row, leaf, binary, unary, named, member, call, method, nil, cons}
 use Rattle.question.specs.declared.node.NodeRead.the-variants.{Bad, Leaf, Endless, Binary, Unary, Named, Member, Call, Method}
 use Rattle.question.specs.declared.node.NodeRead.{NodeRead}

@@ -23,18 +23,18 @@ mutual
 
 -- the number behind a tree whose root has number n
 unfoldable mutual
-  pub after : Node → ℕ → ℕ
-  after (leaf t) n = suc n
-  after (binary op l r) n = after r (after l (suc n))
-  after (unary op x) n = after x (suc n)
-  after (named id x) n = after x (suc n)
-  after (member id x) n = after x (suc n)
-  after (call id r) n = afters r (suc n)
-  after (method id x r) n = afters r (after x (suc n))
+  pub numberAfter : Node → ℕ → ℕ
+  numberAfter (leaf t) n = suc n
+  numberAfter (binary op l r) n = numberAfter r (numberAfter l (suc n))
+  numberAfter (unary op x) n = numberAfter x (suc n)
+  numberAfter (named id x) n = numberAfter x (suc n)
+  numberAfter (member id x) n = numberAfter x (suc n)
+  numberAfter (call id r) n = numberAfterRow r (suc n)
+  numberAfter (method id x r) n = numberAfterRow r (numberAfter x (suc n))
 
-  pub afters : Row → ℕ → ℕ
-  afters nil n = n
-  afters (cons x r) n = afters r (after x n)
+  pub numberAfterRow : Row → ℕ → ℕ
+  numberAfterRow nil n = n
+  numberAfterRow (cons x r) n = numberAfterRow r (numberAfter x n)
 
 -- how many nodes a tree has
 unfoldable mutual
@@ -57,14 +57,14 @@ count nil = 0
 count (cons x r) = suc (count r)
 
 -- the name that a node gives to the argument that it is
-unfoldable pub nameOf : Node → Option ℕ
-nameOf (leaf t) = none
-nameOf (binary op l r) = none
-nameOf (unary op x) = none
-nameOf (named id x) = some id
-nameOf (member id x) = none
-nameOf (call id r) = none
-nameOf (method id x r) = none
+unfoldable pub argumentName : Node → Option ℕ
+argumentName (leaf t) = none
+argumentName (binary op l r) = none
+argumentName (unary op x) = none
+argumentName (named id x) = some id
+argumentName (member id x) = none
+argumentName (call id r) = none
+argumentName (method id x r) = none
 
 -- how many bytes a tree takes: a node's kind, its operator, id or type, its count, and its children
 unfoldable mutual

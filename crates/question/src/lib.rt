@@ -3,15 +3,16 @@ pub mod node;
 
 use node::MOST_NODES;
 use node::children;
-use node::id_at;
 use node::node_at;
 use node::own_bytes;
 use ty::NameId;
 use ty::byte_at;
+use ty::id_at;
 use ty::name::id_defined;
 ghost use mathlib.Core.Path.{_≡_};
 ghost use Rattle.question.specs.Header.{headerOf};
-ghost use Rattle.question.specs.Refused.{noneOrDefined, headerFault, idFault, endlessFault, nodeFault, moreFault, endFault, treeFault, questionFault};
+ghost use Rattle.question.specs.QuestionRefused.{noneOrDefined, headerFault, moreFault, endFault, treeFault, questionFault};
+ghost use Rattle.question.specs.Inside.Top.{idFault, endlessFault, readFault};
 pub use node::NodeRead;
 pub use node::Skipped;
 
@@ -75,9 +76,9 @@ fn endless_fault(top: u16, names: Names) -> u8
     if id_defined(top, names.count) { 11 } else { 10 }
 }
 
-// The number of one of the first 64 nodes, 0 for none.
+// The number of one of the first 64 nodes, 0 for none, by its highest id.
 fn node_fault(node: NodeRead, names: Names) -> u8
-    ensures { λ r. ⌜ r ≡ nodeFault names node ⌝ }
+    ensures { λ r. ⌜ r ≡ readFault names node ⌝ }
 {
     match node {
         NodeRead::Bad => 8,

@@ -2,14 +2,14 @@
 use ty::Kind;
 use ty::TypeRead;
 use ty::byte_at;
+use ty::id_at;
 use ty::kind_of;
 use ty::read::read_type;
 use ty::tail;
 ghost use mathlib.Core.Path.{_≡_};
-ghost use Rattle.ty.specs.Bytes.{idAt};
 ghost use Rattle.ty.specs.Read.{readType, longestType};
-ghost use Rattle.question.specs.Read.{leafOf, nodeOf, nodeIn, nodeAt, ownBytes, children as childrenOf};
-ghost use Rattle.question.specs.Skip.{skipAt};
+ghost use Rattle.question.specs.NodeRead.{leafOf, nodeOf, nodeIn, nodeAt, ownBytes, children as childrenOf};
+ghost use Rattle.question.specs.Inside.Skip.{skipAt};
 
 // What stands at a position of the question: a node's own bytes, without its children.
 pub enum NodeRead {
@@ -43,14 +43,6 @@ const MOST_ARGUMENTS: u8 = 16;
 const LONGEST_TYPE: u16 = 192;
 
 pub const MOST_NODES: usize = 64;
-
-// The id at a position.
-pub fn id_at(s: &[u8], at: u8) -> u16
-    ensures { λ r. ⌜ r ≡ idAt (now (s .entry)) at ⌝ }
-{
-    let i = at as usize;
-    byte_at(s, i) as u16 + 256 * (byte_at(s, i + 1) as u16)
-}
 
 // A leaf, whose type stands at the front of some bytes.
 fn leaf(s: &[u8]) -> NodeRead

@@ -7,8 +7,8 @@ fn next() -> bool {
     if io::read_full(0, &mut head) < 4 {
         return false;
     }
-    let count = question::node::id_at(&head, 0);
-    let len = question::node::id_at(&head, 2) as usize;
+    let count = ty::id_at(&head, 0);
+    let len = ty::id_at(&head, 2) as usize;
     let mut space = io::large_buffer();
     let n = io::read_full(0, &mut space[..len]);
     let number = question::check_question(&space[..n], question::Names { count });

@@ -1,13 +1,10 @@
-// Runs the stored answers through the judge. Standard input has, for each case, table, question and the text that the program prints, each behind its length in 2
-// bytes, low byte first. Prints how many cases agree; at the first that does not it stops and says which that is, counted from 0.
-ghost use mathlib.Core.Path.{_≡_};
-ghost use Prim.Native.Nat.{_+_, _*_, _≤_};
-ghost use lib.ListN.{length};
+// Runs the stored answers through the judge. Standard input has, for each case, table, question and the text that the program prints, each behind its length in
+// 2 bytes, low byte first. Prints how many cases agree; at the first that does not it stops and says which that is, counted from 0.
+ghost use Prim.Native.Nat.{_≤_};
 ghost use Rattle.console.specs.Buffer.{Counts};
-ghost use Rattle.judge_text.specs.Text.{answerText, programBuffer, longestText};
-ghost use Rattle.ty.specs.Bytes.{sameBytes};
+ghost use Rattle.replay.specs.Agreement.{Agreement};
 use judge_text::answer_text;
-use ty::byte_at;
+use ty::id_at;
 use ty::same_bytes;
 
 const END: u8 = 0;
@@ -28,17 +25,10 @@ fn agrees(
     diagnostics: &mut [u8],
     out: &mut [u8],
 ) -> bool
-    ensures { λ r. ⌜ (length (now (diagnostics .entry)) ≤ programBuffer → longestText ≤ length (now (out .entry)) → r ≡ sameBytes (answerText (now (table .entry)) (now (question .entry)) (length (now (diagnostics .entry)))) (now (expected .entry))) ⌝ }
+    ensures { λ r. ⌜ Agreement (now (table .entry)) (now (question .entry)) (now (expected .entry)) (now (diagnostics .entry)) (now (out .entry)) r ⌝ }
 {
     let n = answer_text(table, question, diagnostics, out);
     same_bytes(&out[..n], expected)
-}
-
-// A 2-byte number.
-fn number(low: u8, high: u8) -> usize
-    ensures { λ r. ⌜ (r ≡ low + 256 * high) × (r ≤ 65535) ⌝ }
-{
-    low as usize + 256 * (high as usize)
 }
 
 // Reads a length; 65,536 where the input ends.
@@ -49,7 +39,7 @@ fn read_length() -> usize
     if io::read_full(0, &mut head) < 2 {
         return NO_LENGTH;
     }
-    number(byte_at(&head, 0), byte_at(&head, 1))
+    id_at(&head, 0) as usize
 }
 
 // Reads a length and as many bytes to the front of `space`; 65,536 where they are not all there or do not fit.

@@ -1,5 +1,2 @@
-pub mod Assigns
-pub mod Arm
-pub mod Climbs
-pub mod Lookups
+pub mod MemberLookups
 pub mod Bases

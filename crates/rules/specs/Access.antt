@@ -8,9 +8,9 @@ use Rattle.ty.specs.Name.{noId}
 use Rattle.symbol.specs.Symbols.{Symbols}
 use Rattle.symbol.specs.Subclass.{isSubclass}
 use Rattle.question.specs.declared.Header.{Header}
-use Rattle.rules.specs.Diagnostic.{accessDiag}
+use Rattle.operators.specs.DiagnosticKind.{accessDiag}
 use Rattle.rules.specs.Visibility.{publicVis, protectedVis, privateVis}
-use Rattle.rules.specs.Out.{Report, report}
+use Rattle.operators.specs.Out.{Report, report}
 
 -- both packages are known, and they differ
 abbrev pub otherPackage : ℕ → ℕ → Bool

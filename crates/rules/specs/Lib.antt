@@ -1,16 +1,5 @@
-pub mod Diagnostic
-pub mod Operator
 pub mod Visibility
-pub mod Out
-pub mod Diag
-pub mod Made
-pub mod Ruled
-pub mod Answer
-pub mod Operand
-pub mod Assign
 pub mod Accept
 pub mod Access
-pub mod OperatorMethod
-pub mod Binary
-pub mod Unary
 pub mod Member
+pub mod Inside

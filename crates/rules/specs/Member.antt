@@ -8,13 +8,15 @@ use mathlib.Core.Option.{Option, none, some}
 use lib.Dec.{leb, eqb}
 use Rattle.ty.specs.Choose.{choose}
 use Rattle.ty.specs.Kind.{intKind, booleanKind, stringKind, anyKind, unitKind, listKind, mapKind, namedKind, moduleKind, errorKind}
-use Rattle.ty.specs.Name.{pairId, listId, setClassId, toStringId, hashCodeId, equalsId, firstId, secondId, sizeId, countId, isEmptyId, lastId, getId, getAtId, setId, addId, pushId, appendId, containsId, indexOfId, lengthId, isNotEmptyId, trimId, lowercaseId, uppercaseId, keysId}
-use Rattle.ty.specs.Bytes.{Ty, kindOf, nameOf, isNullable, isArray, innerOf, nonNull}
+use Rattle.ty.specs.Name.{pairId, listId, setClassId, toStringId, hashCodeId, equalsId, firstId, secondId, sizeId, countId, isEmptyId, lastId, getId, getAtId}
+use Rattle.ty.specs.Name.{setId, addId, pushId, appendId, containsId, indexOfId, lengthId, isNotEmptyId, trimId, lowercaseId, uppercaseId, keysId}
+use Rattle.ty.specs.Bytes.{Ty, nameOf, isNullable, isArray, innerOf, nonNull}
 use Rattle.symbol.specs.Symbols.{Overload, Symbols}
 use Rattle.question.specs.declared.Header.{Header}
-use Rattle.rules.specs.Diagnostic.{nullableMemberDiag, unresolvedDiag, noMembersDiag}
-use Rattle.rules.specs.Out.{Report, Out, anyTy, clean, plain, fails, behind, found}
-use Rattle.rules.specs.Made.{namedTy, listTy, functionTy}
+use Rattle.operators.specs.DiagnosticKind.{nullableMemberDiag, unresolvedDiag, noMembersDiag}
+use Rattle.operators.specs.Out.{Report, Out, anyTy, clean, plain, fails, reportsBefore, found}
+use Rattle.operators.specs.Made.{namedTy, listTy, functionTy}
+use Rattle.operators.specs.Operand.{isKind}
 use Rattle.rules.specs.Accept.{isVariableName}
 use Rattle.rules.specs.Access.{accessReport}
 
@@ -93,31 +95,37 @@ namedMember S owner id =
     (choose (eqb owner pairId) (pairMember id)
     (choose (leb listId owner && leb owner setClassId) (collectionMember id) (classMember S owner id)))
 
--- a base's, by its kind k; array: it is an Array
-unfoldable pub kindMember : Symbols → ℕ → Bool → Ty → ℕ → Out
-kindMember S k array base id =
-    choose (eqb k namedKind) (namedMember S (nameOf base) id)
-    (choose (eqb k stringKind) (stringMember id)
-    (choose (eqb k listKind || array) (elementMember (innerOf base) id)
-    (choose (eqb k mapKind) (mapMember id)
-    (choose (eqb k anyKind) (plain anyKind) (fails noMembersDiag)))))
+-- it holds elements: a List or an Array
+abbrev pub hasElements : Ty → Bool
+hasElements t = isKind listKind t || isArray t
+
+-- a base's, by its kind
+unfoldable pub kindMember : Symbols → Ty → ℕ → Out
+kindMember S base id =
+    choose (isKind namedKind base) (namedMember S (nameOf base) id)
+    (choose (isKind stringKind base) (stringMember id)
+    (choose (hasElements base) (elementMember (innerOf base) id)
+    (choose (isKind mapKind base) (mapMember id)
+    (choose (isKind anyKind base) (plain anyKind) (fails noMembersDiag)))))
 
 -- the access check of a member that has a visibility
 unfoldable pub visibilityReport : Symbols → Header → ℕ → Option ℕ → List Report
 visibilityReport S H owner none = []
 visibilityReport S H owner (some vis) = accessReport S H vis owner
 
+abbrev pub ownerReport : Symbols → Header → ℕ → ℕ → List Report
+ownerReport S H owner id = visibilityReport S H owner (S .visibilityOf owner id)
+
 unfoldable pub memberReport : Symbols → Header → Ty → ℕ → List Report
-memberReport S H base id = choose (eqb (kindOf base) namedKind) (visibilityReport S H (nameOf base) (S .visibilityOf (nameOf base) id)) []
+memberReport S H base id = choose (isKind namedKind base) (ownerReport S H (nameOf base) id) []
 
 -- nullable, and not because it is unknown
 abbrev pub isNullableObject : Ty → Bool
-isNullableObject t = isNullable t && not (eqb (kindOf (nonNull t)) anyKind || eqb (kindOf (nonNull t)) errorKind)
+isNullableObject t = isNullable t && not (isKind anyKind (nonNull t) || isKind errorKind (nonNull t))
 
 unfoldable pub baseMember : Symbols → Header → Ty → ℕ → Out
 baseMember S H base id =
-    choose (eqb (kindOf base) moduleKind) (plain anyKind)
-    (behind (memberReport S H base id) (kindMember S (kindOf base) (isArray base) base id))
+    choose (isKind moduleKind base) (plain anyKind) (reportsBefore (memberReport S H base id) (kindMember S base id))
 
 -- `check_member`: the member `id` of an object of the type t
 unfoldable pub memberOut : Symbols → Header → ℕ → Ty → Out

@@ -1,16 +1,16 @@
 // Whether a parameter takes an argument.
-use crate::assign::can_assign_to;
+use operators::assign::can_assign_to;
 use symbol::lookups::in_types;
 use symbol::lookups::is_capital;
 use ty::Kind;
 ghost use mathlib.Core.Path.{_≡_};
-ghost use Rattle.symbol.specs.Accepted.{Accepted};
+ghost use Rattle.index.specs.Inside.IndexedTable.{IndexedTable};
 ghost use Rattle.symbol.specs.Lookup.{symbolsOf};
 ghost use Rattle.rules.specs.Accept.{isVariableName, isTypeVariable, paramAccepts};
 
 // A name of one capital letter that is not in `types`.
 pub fn is_variable_name(table: &[u8], index: &[u16], id: u16) -> bool
-    requires { ⌜ Accepted (now table) (now index) ⌝ }
+    requires { ⌜ IndexedTable (now table) (now index) ⌝ }
     ensures { λ r. ⌜ r ≡ isVariableName (symbolsOf (now (table .entry))) id ⌝ }
 {
     if is_capital(table, index, id) {
@@ -20,7 +20,7 @@ pub fn is_variable_name(table: &[u8], index: &[u16], id: u16) -> bool
 }
 
 pub fn is_type_variable(table: &[u8], index: &[u16], t: &[u8]) -> bool
-    requires { ⌜ Accepted (now table) (now index) ⌝ }
+    requires { ⌜ IndexedTable (now table) (now index) ⌝ }
     ensures { λ r. ⌜ r ≡ isTypeVariable (symbolsOf (now (table .entry))) (now (t .entry)) ⌝ }
 {
     if ty::kind_of(t) == Kind::NAMED {
@@ -31,7 +31,7 @@ pub fn is_type_variable(table: &[u8], index: &[u16], t: &[u8]) -> bool
 
 // Whether a parameter of the type p, vararg or not, takes an argument of the type x.
 pub fn param_accepts(table: &[u8], index: &[u16], p: &[u8], x: &[u8], vararg: bool) -> bool
-    requires { ⌜ Accepted (now table) (now index) ⌝ }
+    requires { ⌜ IndexedTable (now table) (now index) ⌝ }
     ensures { λ r. ⌜ r ≡ paramAccepts (symbolsOf (now (table .entry))) (now (p .entry)) (now (x .entry)) vararg ⌝ }
 {
     if ty::same_bytes(x, p) {

@@ -1,15 +1,15 @@
 // Access to members.
-use crate::ruled::Diagnostic;
-use crate::ruled::no_report;
+use operators::ruled::Diagnostic;
+use operators::ruled::no_report;
 use question::Header;
 use symbol::lookups::package_of;
 use symbol::subclass::is_subclass;
 use ty::NameId;
 ghost use mathlib.Core.Path.{_≡_};
-ghost use Rattle.symbol.specs.Accepted.{Accepted};
+ghost use Rattle.index.specs.Inside.IndexedTable.{IndexedTable};
 ghost use Rattle.symbol.specs.Lookup.{symbolsOf};
 ghost use Rattle.rules.specs.Access.{otherPackage, blocked, accessReport};
-ghost use Rattle.rules.specs.Ruled.{reportOf};
+ghost use Rattle.operators.specs.Inside.Ruled.{reportsOf};
 
 // The numbers of the visibilities.
 pub struct Vis(pub u8);
@@ -33,7 +33,7 @@ fn other_package(a: u16, b: u16) -> bool
 
 // Whether a member of an owner, of a visibility, is blocked where the script stands.
 pub fn check_access(table: &[u8], index: &[u16], header: Header, vis: u8, owner: u16) -> bool
-    requires { ⌜ Accepted (now table) (now index) ⌝ }
+    requires { ⌜ IndexedTable (now table) (now index) ⌝ }
     ensures { λ r. ⌜ r ≡ blocked (symbolsOf (now (table .entry))) header vis owner ⌝ }
 {
     let current = header.current;
@@ -55,8 +55,8 @@ pub fn check_access(table: &[u8], index: &[u16], header: Header, vis: u8, owner:
 
 // What is reported of such a member.
 pub fn access_report(table: &[u8], index: &[u16], header: Header, vis: u8, owner: u16) -> Diagnostic
-    requires { ⌜ Accepted (now table) (now index) ⌝ }
-    ensures { λ r. ⌜ reportOf (r .kind) (r .number) ≡ accessReport (symbolsOf (now (table .entry))) header vis owner ⌝ }
+    requires { ⌜ IndexedTable (now table) (now index) ⌝ }
+    ensures { λ r. ⌜ reportsOf r ≡ accessReport (symbolsOf (now (table .entry))) header vis owner ⌝ }
 {
     if check_access(table, index, header, vis, owner) {
         return Diagnostic {

@@ -1,9 +1,4 @@
 // The typing rules that a node's type comes by: assignability (sema/ty.rs), access, operators and members (sema/checker.rs).
 pub mod accept;
 pub mod access;
-pub mod assign;
-pub mod binary;
 pub mod member;
-pub mod method;
-pub mod ruled;
-pub mod unary;

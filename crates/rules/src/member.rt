@@ -1,19 +1,19 @@
 // Member nodes.
 use crate::accept::is_variable_name;
 use crate::access::access_report;
-use crate::ruled::Diagnostic;
-use crate::ruled::Ruled;
-use crate::ruled::Single;
-use crate::ruled::alone;
-use crate::ruled::behind;
-use crate::ruled::clean;
-use crate::ruled::fails;
-use crate::ruled::no_report;
-use crate::ruled::plain;
 use area::Source;
+use index::index::Found;
+use operators::ruled::Diagnostic;
+use operators::ruled::OneReport;
+use operators::ruled::Ruled;
+use operators::ruled::alone;
+use operators::ruled::clean;
+use operators::ruled::fails;
+use operators::ruled::no_report;
+use operators::ruled::plain;
+use operators::ruled::report_before;
 use question::Header;
 use symbol::functions::read_function;
-use symbol::index::Found;
 use symbol::lookups::Part;
 use symbol::lookups::Visibility;
 use symbol::lookups::field_of;
@@ -27,11 +27,13 @@ ghost use Prim.Native.Nat.{ℕ};
 ghost use mathlib.Core.Path.{_≡_};
 ghost use mathlib.Core.List.{List};
 ghost use Rattle.ty.specs.Bytes.{innerOf};
-ghost use Rattle.symbol.specs.Accepted.{Accepted};
+ghost use Rattle.index.specs.Inside.IndexedTable.{IndexedTable};
 ghost use Rattle.symbol.specs.Lookup.{symbolsOf};
-ghost use Rattle.rules.specs.Ruled.{reportOf, outOf, singleOut};
-ghost use Rattle.rules.specs.Answer.{variableOf};
-ghost use Rattle.rules.specs.Member.{variableMember, pairMember, collectionMember, stringMember, elementMember, mapMember, firstFunction, lookupVar, classMember, namedMember, kindMember, visibilityReport, memberReport, isNullableObject, memberOut};
+ghost use Rattle.rules.specs.Member.{variableMember, pairMember, collectionMember, stringMember, elementMember, mapMember, firstFunction, lookupVar};
+ghost use Rattle.rules.specs.Member.{classMember, namedMember, ownerReport, memberReport, isNullableObject};
+ghost use Rattle.operators.specs.Inside.Ruled.{reportsOf, oneOut, Gives, TableGives};
+ghost use Rattle.rules.specs.Inside.MemberRuled.{KindMemberGives, MemberRuled};
+ghost use Rattle.rules.specs.Inside.Variable.{variableTy};
 
 // What a name of a class stands for: nothing, a field or a function, by the part of the table where its type or its result type lies.
 pub enum Variable {
@@ -41,8 +43,8 @@ pub enum Variable {
 }
 
 // A type variable's members.
-fn variable_member(id: u16) -> Single
-    ensures { λ r. ⌜ ((table x y : List ℕ) → singleOut table x y r ≡ variableMember id) ⌝ }
+fn variable_member(id: u16) -> OneReport
+    ensures { λ r. ⌜ Gives r (variableMember id) ⌝ }
 {
     if id == NameId::TO_STRING {
         return plain(Kind::STRING);
@@ -57,8 +59,8 @@ fn variable_member(id: u16) -> Single
 }
 
 // Pair's.
-fn pair_member(id: u16) -> Single
-    ensures { λ r. ⌜ ((table x y : List ℕ) → singleOut table x y r ≡ pairMember id) ⌝ }
+fn pair_member(id: u16) -> OneReport
+    ensures { λ r. ⌜ Gives r (pairMember id) ⌝ }
 {
     if (id == NameId::FIRST) | (id == NameId::SECOND) {
         return plain(Kind::ANY);
@@ -70,8 +72,8 @@ fn pair_member(id: u16) -> Single
 }
 
 // Those of the classes List, ArrayList, MutableList, Array and Set, as names.
-fn collection_member(id: u16) -> Single
-    ensures { λ r. ⌜ ((table x y : List ℕ) → singleOut table x y r ≡ collectionMember id) ⌝ }
+fn collection_member(id: u16) -> OneReport
+    ensures { λ r. ⌜ Gives r (collectionMember id) ⌝ }
 {
     if (id == NameId::SIZE) | (id == NameId::COUNT) {
         return plain(Kind::INT);
@@ -99,8 +101,8 @@ fn collection_member(id: u16) -> Single
 }
 
 // String's.
-fn string_member(id: u16) -> Single
-    ensures { λ r. ⌜ ((table x y : List ℕ) → singleOut table x y r ≡ stringMember id) ⌝ }
+fn string_member(id: u16) -> OneReport
+    ensures { λ r. ⌜ Gives r (stringMember id) ⌝ }
 {
     if (id == NameId::LENGTH) | (id == NameId::SIZE) {
         return plain(Kind::INT);
@@ -115,8 +117,8 @@ fn string_member(id: u16) -> Single
 }
 
 // A List's or an Array's.
-fn element_member(id: u16) -> Single
-    ensures { λ r. ⌜ ((table x y : List ℕ) → singleOut table x y r ≡ elementMember (innerOf x) id) ⌝ }
+fn element_member(id: u16) -> OneReport
+    ensures { λ r. ⌜ ((table x y : List ℕ) → oneOut table x y r ≡ elementMember (innerOf x) id) ⌝ }
 {
     if (id == NameId::SIZE) | (id == NameId::COUNT) {
         return plain(Kind::INT);
@@ -136,8 +138,8 @@ fn element_member(id: u16) -> Single
 }
 
 // A Map's.
-fn map_member(id: u16) -> Single
-    ensures { λ r. ⌜ ((table x y : List ℕ) → singleOut table x y r ≡ mapMember id) ⌝ }
+fn map_member(id: u16) -> OneReport
+    ensures { λ r. ⌜ Gives r (mapMember id) ⌝ }
 {
     if id == NameId::SIZE {
         return plain(Kind::INT);
@@ -150,8 +152,8 @@ fn map_member(id: u16) -> Single
 
 // A class's function of a name.
 fn lookup_function(table: &[u8], index: &[u16], owner: u16, id: u16) -> Variable
-    requires { ⌜ Accepted (now table) (now index) ⌝ }
-    ensures { λ r. ⌜ variableOf (now (table .entry)) r ≡ firstFunction (symbolsOf (now (table .entry)) .functionsOf owner id) ⌝ }
+    requires { ⌜ IndexedTable (now table) (now index) ⌝ }
+    ensures { λ r. ⌜ variableTy (now (table .entry)) r ≡ firstFunction (symbolsOf (now (table .entry)) .functionsOf owner id) ⌝ }
 {
     let found = first_function(table, index, owner, id);
     match found {
@@ -168,8 +170,8 @@ fn lookup_function(table: &[u8], index: &[u16], owner: u16, id: u16) -> Variable
 
 // A class's field of a name, or else its function.
 fn lookup_var_ty(table: &[u8], index: &[u16], owner: u16, id: u16) -> Variable
-    requires { ⌜ Accepted (now table) (now index) ⌝ }
-    ensures { λ r. ⌜ variableOf (now (table .entry)) r ≡ lookupVar (symbolsOf (now (table .entry))) owner id ⌝ }
+    requires { ⌜ IndexedTable (now table) (now index) ⌝ }
+    ensures { λ r. ⌜ variableTy (now (table .entry)) r ≡ lookupVar (symbolsOf (now (table .entry))) owner id ⌝ }
 {
     let field = field_of(table, index, owner, id);
     match field {
@@ -180,9 +182,9 @@ fn lookup_var_ty(table: &[u8], index: &[u16], owner: u16, id: u16) -> Variable
 
 // The members that the table gives a class: a field, else a function, else a variant (which has the enum's type). Any other name is unresolved where the class
 // is in `types`, and Error without a report where it is not.
-fn class_member(table: &[u8], index: &[u16], owner: u16, id: u16) -> Single
-    requires { ⌜ Accepted (now table) (now index) ⌝ }
-    ensures { λ r. ⌜ ((x y : List ℕ) → singleOut (now (table .entry)) x y r ≡ classMember (symbolsOf (now (table .entry))) owner id) ⌝ }
+fn class_member(table: &[u8], index: &[u16], owner: u16, id: u16) -> OneReport
+    requires { ⌜ IndexedTable (now table) (now index) ⌝ }
+    ensures { λ r. ⌜ TableGives (now (table .entry)) r (classMember (symbolsOf (now (table .entry))) owner id) ⌝ }
 {
     let variable = lookup_var_ty(table, index, owner, id);
     match variable {
@@ -201,9 +203,9 @@ fn class_member(table: &[u8], index: &[u16], owner: u16, id: u16) -> Single
 }
 
 // A Named base's, by its name.
-fn named_member(table: &[u8], index: &[u16], owner: u16, id: u16) -> Single
-    requires { ⌜ Accepted (now table) (now index) ⌝ }
-    ensures { λ r. ⌜ ((x y : List ℕ) → singleOut (now (table .entry)) x y r ≡ namedMember (symbolsOf (now (table .entry))) owner id) ⌝ }
+fn named_member(table: &[u8], index: &[u16], owner: u16, id: u16) -> OneReport
+    requires { ⌜ IndexedTable (now table) (now index) ⌝ }
+    ensures { λ r. ⌜ TableGives (now (table .entry)) r (namedMember (symbolsOf (now (table .entry))) owner id) ⌝ }
 {
     if is_variable_name(table, index, owner) {
         return variable_member(id);
@@ -217,18 +219,19 @@ fn named_member(table: &[u8], index: &[u16], owner: u16, id: u16) -> Single
     class_member(table, index, owner, id)
 }
 
-// Those of a base of a kind; array: it is an Array. Its name and what it holds are read off the object.
-fn kind_member(table: &[u8], index: &[u16], kind: u8, array: bool, object: &[u8], id: u16) -> Single
-    requires { ⌜ Accepted (now table) (now index) ⌝ }
-    ensures { λ r. ⌜ ((y : List ℕ) → singleOut (now (table .entry)) (now (object .entry)) y r ≡ kindMember (symbolsOf (now (table .entry))) kind array (now (object .entry)) id) ⌝ }
+// A base's, by its kind. What the elements of a List or an Array are is read off the object.
+fn kind_member(table: &[u8], index: &[u16], base: &[u8], id: u16) -> OneReport
+    requires { ⌜ IndexedTable (now table) (now index) ⌝ }
+    ensures { λ r. ⌜ KindMemberGives (now (table .entry)) (now (base .entry)) id r ⌝ }
 {
+    let kind = ty::kind_of(base);
     if kind == Kind::NAMED {
-        return named_member(table, index, ty::name_of(object), id);
+        return named_member(table, index, ty::name_of(base), id);
     }
     if kind == Kind::STRING {
         return string_member(id);
     }
-    if (kind == Kind::LIST) | array {
+    if (kind == Kind::LIST) | (kind == Kind::ARRAY) {
         return element_member(id);
     }
     if kind == Kind::MAP {
@@ -242,8 +245,8 @@ fn kind_member(table: &[u8], index: &[u16], kind: u8, array: bool, object: &[u8]
 
 // The access check of a member that has a visibility.
 fn visibility_report(table: &[u8], index: &[u16], header: Header, owner: u16, id: u16) -> Diagnostic
-    requires { ⌜ Accepted (now table) (now index) ⌝ }
-    ensures { λ r. ⌜ reportOf (r .kind) (r .number) ≡ visibilityReport (symbolsOf (now (table .entry))) header owner (symbolsOf (now (table .entry)) .visibilityOf owner id) ⌝ }
+    requires { ⌜ IndexedTable (now table) (now index) ⌝ }
+    ensures { λ r. ⌜ reportsOf r ≡ ownerReport (symbolsOf (now (table .entry))) header owner id ⌝ }
 {
     let visibility = visibility_of(table, index, owner, id);
     match visibility {
@@ -253,8 +256,8 @@ fn visibility_report(table: &[u8], index: &[u16], header: Header, owner: u16, id
 }
 
 fn member_report(table: &[u8], index: &[u16], header: Header, base: &[u8], id: u16) -> Diagnostic
-    requires { ⌜ Accepted (now table) (now index) ⌝ }
-    ensures { λ r. ⌜ reportOf (r .kind) (r .number) ≡ memberReport (symbolsOf (now (table .entry))) header (now (base .entry)) id ⌝ }
+    requires { ⌜ IndexedTable (now table) (now index) ⌝ }
+    ensures { λ r. ⌜ reportsOf r ≡ memberReport (symbolsOf (now (table .entry))) header (now (base .entry)) id ⌝ }
 {
     if ty::kind_of(base) == Kind::NAMED {
         return visibility_report(table, index, header, ty::name_of(base), id);
@@ -272,20 +275,16 @@ fn is_nullable_object(t: &[u8]) -> bool
 
 // The type of a member of an object, and what is reported.
 pub fn check_member(table: &[u8], index: &[u16], header: Header, id: u16, object: &[u8]) -> Ruled
-    requires { ⌜ Accepted (now table) (now index) ⌝ }
-    ensures { λ r. ⌜ ((y : List ℕ) → outOf (now (table .entry)) (now (object .entry)) y r ≡ memberOut (symbolsOf (now (table .entry))) header id (now (object .entry))) ⌝ }
+    requires { ⌜ IndexedTable (now table) (now index) ⌝ }
+    ensures { λ r. ⌜ MemberRuled (now (table .entry)) header id (now (object .entry)) r ⌝ }
 {
     if is_nullable_object(object) {
         return alone(fails(Diagnostic::NULLABLE_MEMBER));
     }
     let base = ty::non_null(object);
-    let kind = ty::kind_of(base);
-    if kind == Kind::MODULE {
+    if ty::kind_of(base) == Kind::MODULE {
         return alone(plain(Kind::ANY));
     }
     let first = member_report(table, index, header, base, id);
-    behind(
-        first,
-        kind_member(table, index, kind, ty::is_array(base), object, id),
-    )
+    report_before(first, kind_member(table, index, base, id))
 }

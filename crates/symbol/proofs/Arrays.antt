@@ -1,4 +1,4 @@
--- Parameters read into arrays, one after the other. Assumes nothing.
+-- Parameters read into arrays, one after the other.
 use Prim.Native.Nat.{ℕ, zero, suc, _+_, _-_, _*_, _≤_, _<_, _%_}
 use lib.Dec.{eqb, leb}
 use lib.ListN.{length, getD, drop, take, length-set, length-drop, length-take, length-replicate}
@@ -11,10 +11,11 @@ use native.Mathlib.Nat.{zero-add, sub-zero}
 use native.Mathlib.Numerals.{add-one}
 use native.Mathlib.Omega.{arith, not-le}
 use Rattle.ty.specs.Bytes.{idAt}
-use Rattle.symbol.proofs.Own.{drop-take}
-use Rattle.symbol.specs.Answer.{paramAt, paramsRow}
-use Rattle.symbol.specs.Lookup.{typeLength, paramOf, paramsFrom}
-use Rattle.symbol.specs.Row.{part, RowAt, paramAdded, noParams, ParamsAre}
+use Rattle.record.proofs.Own.{drop-take}
+use Rattle.symbol.specs.Inside.LookupAnswer.{paramAt, paramsRow}
+use Rattle.record.specs.Inside.Keyed.{typeLength}
+use Rattle.symbol.specs.Inside.FoundSymbols.{paramOf, paramsFrom}
+use Rattle.symbol.specs.Inside.ParamsRow.{part, ParamsAt, paramAdded, noParams, ParamsAre}
 use Rattle.symbol.specs.Symbols.{Param}
 use Rattle.symbol.specs.declared.functions.Params.{Params}
 
@@ -136,12 +137,12 @@ pub record RowGoing (t : List ℕ) (from end count at : ℕ) (p : Params) : Type
   pub sized : Sized p
   pub few : p .count ≤ count
   pub inside : at ≤ end
-  pub row : RowAt (count - p .count) (part t at end)
+  pub row : ParamsAt (count - p .count) (part t at end)
   pub same : paramsRow t p 0 (p .count) ++ paramsFrom (count - p .count) (part t at end) ≡ paramsFrom count (part t from end)
   pub types : (i : ℕ) → i < p .count → getD (p .starts) i 0 + getD (p .lens) i 0 ≤ length t
 
 module _ (t : List ℕ) (from end count : ℕ) (high : end ≤ length t) (most : count ≤ 16) where
-  pub row-starts : (p : Params) → p ≡ noParams → from ≤ end → RowAt count (part t from end) → RowGoing t from end count from p
+  pub row-starts : (p : Params) → p ≡ noParams → from ≤ end → ParamsAt count (part t from end) → RowGoing t from end count from p
   unfolding paramsRow
   row-starts p e h r = subst (λ (x : Params). RowGoing t from end count from x) (sym e) first
     where
@@ -183,8 +184,8 @@ module _ (t : List ℕ) (from end count : ℕ) (high : end ≤ length t) (most :
       left : count - p .count ≡ suc (count - (p .count + 1))
       left = omega arith
 
-      next : RowAt (suc (count - (p .count + 1))) (part t at end)
-      next = subst (λ (n : ℕ). RowAt n (part t at end)) left (g .row)
+      next : ParamsAt (suc (count - (p .count + 1))) (part t at end)
+      next = subst (λ (n : ℕ). ParamsAt n (part t at end)) left (g .row)
 
       module _ (len : ℕ) (is : len ≡ typeLength (part t (at + 3) end)) where
         -- the type's length, as the row has it
@@ -235,7 +236,7 @@ module _ (t : List ℕ) (from end count : ℕ) (high : end ≤ length t) (most :
                     sized = sized-added p name (eqb (flag % 2) 1) (leb 2 flag) (at + 3) len (g .sized) (omega arith);
                     few = omega arith;
                     inside = row-room;
-                    row = subst (λ (x : List ℕ). RowAt (count - (p .count + 1)) x) behind (next .1);
+                    row = subst (λ (x : List ℕ). ParamsAt (count - (p .count + 1)) x) behind (next .1);
                     same =
                         ap (λ (n : ℕ). paramsRow t (paramAdded p name (eqb (flag % 2) 1) (leb 2 flag) (at + 3) len) 0 n ++ paramsFrom (count - (p .count + 1)) (part t (at + 3 + len) end)) (add-one (p .count))
                         ∙ ap (λ (x : List Param). x ++ paramsFrom (count - (p .count + 1)) (part t (at + 3 + len) end)) (row-added p name (eqb (flag % 2) 1) (leb 2 flag) (at + 3) len (g .sized) (omega arith) t)

@@ -1,4 +1,4 @@
--- A record that draws no number comes into the index. Assumes nothing.
+-- A record that draws no number comes into the index.
 use Prim.Native.Nat.{ℕ, zero, suc, _*_, _≤_, _<_}
 use lib.ListN.{length, getD, drop}
 use mathlib.Core.Bool.{true, false, true≢false}
@@ -6,30 +6,30 @@ use mathlib.Core.List.{List}
 use mathlib.Core.Logic.{_⊎_, ⊎-elim}
 use mathlib.Core.Path.{_≡_, refl, sym, ap, _∙_, subst}
 use native.Mathlib.Omega.{arith}
-use Rattle.symbol.proofs.Buckets.{tree-low}
-use Rattle.symbol.proofs.Chains.{Lasts, apart-of, entered-next, lasts-next, entered-past, lasts-past, entered-kept}
-use Rattle.symbol.proofs.Paths.{own-path}
-use Rattle.symbol.proofs.Trees.{Below, tree-function, tree-joined, spot, front, inside}
-use Rattle.symbol.specs.Bucket.{digitOf}
-use Rattle.symbol.specs.Entered.{Entered, entered}
-use Rattle.symbol.specs.Front.{headOf}
-use Rattle.symbol.specs.Index.{bucketCount, listCount, treeIn, listIn, rootAt, firstAt, lastAt, childAt, nextAt, waysIn}
-use Rattle.symbol.specs.Join.{takenOf, TreeIs, ListIs, PlaceIs, JoinAsked, joined}
-use Rattle.symbol.specs.Key.{treeFor, digitFor, keyOf}
-use Rattle.symbol.specs.Table.{frontRecord}
-use Rattle.symbol.specs.Tree.{placeOf, Led, Node, waysAt, Tree}
-use Rattle.symbol.specs.Walk.{Sits, Stands, recordAt, behind}
+use Rattle.index.proofs.Buckets.{tree-low}
+use Rattle.index.proofs.Chains.{Lasts, apart-of, entered-next, lasts-next, entered-past, lasts-past, entered-kept}
+use Rattle.index.proofs.Paths.{own-path}
+use Rattle.index.proofs.SearchTrees.{Below, tree-function, tree-joined, spot, front, inside}
+use Rattle.index.specs.Inside.Bucket.{digitOf}
+use Rattle.index.specs.Inside.Entered.{Entered, entered}
+use Rattle.record.specs.Inside.Front.{headOf}
+use Rattle.record.specs.Inside.FrontRecord.{frontRecord}
+use Rattle.index.specs.Inside.Index.{bucketCount, listCount, treeIn, listIn, rootAt, firstAt, lastAt, childAt, nextAt, waysIn}
+use Rattle.symbol.specs.Inside.Join.{takenOf, EntryTreeIs, EntryListIs, PlaceIs, JoinAsked, indexJoined}
+use Rattle.index.specs.Inside.SearchKey.{treeFor, digitFor, keyAt}
+use Rattle.index.specs.Inside.SearchTree.{placeOf, Led, TreeMember, waysAt, Tree}
+use Rattle.record.specs.Inside.Walk.{Sits, Stands, recordAt, behind}
 use Rattle.symbol.specs.declared.checks.Entry.{Entry}
 use Rattle.symbol.specs.declared.checks.Entry.the-variants as entry
-use Rattle.symbol.specs.declared.front.Head.{Head}
-use Rattle.symbol.specs.declared.walk.Cursor.{Cursor}
+use Rattle.record.specs.declared.front.Head.{Head}
+use Rattle.record.specs.declared.walk.Cursor.{Cursor}
 
 -- what is asked, and what comes of it
 pub record Joining (t x : List ℕ) (p : ℕ) (e : Entry) : Type 0 where
   pub asked : length t ≤ 60000 → JoinAsked x (length t) p e
-  pub entered : Entered t (joined (length t) p e x) (behind t p)
-  pub lasts : Lasts t (joined (length t) p e x) (behind t p)
-  pub tree : Tree t (joined (length t) p e x) (behind t p)
+  pub entered : Entered t (indexJoined (length t) p e x) (behind t p)
+  pub lasts : Lasts t (indexJoined (length t) p e x) (behind t p)
+  pub tree : Tree t (indexJoined (length t) p e x) (behind t p)
 
 module _ (t x : List ℕ) (c : Cursor) (h : Head) (st : Stands t c h) (g : Entered t x (c .at)) (l : Lasts t x (c .at)) (r : Tree t x (c .at))
     (whole : headOf (drop (c .at) t) .malformed ≡ false) where
@@ -40,7 +40,7 @@ module _ (t x : List ℕ) (c : Cursor) (h : Head) (st : Stands t c h) (g : Enter
   some = st .some
 
   -- ---- a function
-  module _ (b : ℕ) (i : ListIs t c b) where
+  module _ (b : ℕ) (i : EntryListIs t c b) where
     last-low : getD x (lastAt (length t) b) 0 ≤ length t
     last-low = go (getD x (lastAt (length t) b) 0) refl
       where
@@ -48,13 +48,13 @@ module _ (t x : List ℕ) (c : Cursor) (h : Head) (st : Stands t c h) (g : Enter
         go zero z = omega arith
         go (suc q) z = omega (arith, l .here b q (i .low) z .0, some)
 
-    same : joined (length t) p (entry.List b) x ≡ entered (length t) (listIn (length t) (frontRecord (drop p t))) p x
+    same : indexJoined (length t) p (entry.List b) x ≡ entered (length t) (listIn (length t) (frontRecord (drop p t))) p x
     same = ap (λ (z : ℕ). entered (length t) z p x) (i .bucket)
 
     roots : (k : ℕ) → k < 2 * bucketCount (length t) → getD (entered (length t) (listIn (length t) (frontRecord (drop p t))) p x) (rootAt k) 0 ≡ getD x (rootAt k) 0
     roots k low = entered-kept t x p g l some whole (i .function) (rootAt k) (λ d. omega (arith, low)) (λ d. omega (arith, low)) (λ q v f k₂ d. omega (arith, low))
 
-    entries : (q : ℕ) → Node t p q → (k : ℕ) → k < waysAt t q
+    entries : (q : ℕ) → TreeMember t p q → (k : ℕ) → k < waysAt t q
         → getD (entered (length t) (listIn (length t) (frontRecord (drop p t))) p x) (childAt (length t) q k) 0 ≡ getD x (childAt (length t) q k) 0
     entries q n k low =
         entered-kept t x p g l some whole (i .function) (childAt (length t) q k) (λ d. omega (arith, list-low)) (λ d. omega (arith, list-low)) far
@@ -75,8 +75,8 @@ module _ (t x : List ℕ) (c : Cursor) (h : Head) (st : Stands t c h) (g : Enter
         }
 
   -- ---- another record
-  module _ (a : ℕ) (i : TreeIs t x c a) where
-    path : (treeFor t (keyOf c (headOf (drop p t))) ≡ treeIn (length t) (recordAt t c)) × (digitFor t (keyOf c (headOf (drop p t))) ≡ digitOf (recordAt t c))
+  module _ (a : ℕ) (i : EntryTreeIs t x c a) where
+    path : (treeFor t (keyAt c (headOf (drop p t))) ≡ treeIn (length t) (recordAt t c)) × (digitFor t (keyAt c (headOf (drop p t))) ≡ digitOf (recordAt t c))
     path = own-path t c (headOf (drop p t)) (record { at = st .at; some = some; head = refl })
 
     -- the search's path is that of the record
@@ -87,7 +87,7 @@ module _ (t x : List ℕ) (c : Cursor) (h : Head) (st : Stands t c h) (g : Enter
 
     own-free : OwnFree
     own-free =
-        moved (treeFor t (keyOf c (headOf (drop p t)))) (digitFor t (keyOf c (headOf (drop p t)))) (i .free .depth) (i .free .led) (i .free .place)
+        moved (treeFor t (keyAt c (headOf (drop p t)))) (digitFor t (keyAt c (headOf (drop p t)))) (i .free .depth) (i .free .led) (i .free .place)
         (path .0) (path .1)
       where
         moved : (b : ℕ) (f : ℕ → ℕ) (d : ℕ) → Led x (length t) b f d → a ≡ placeOf x (length t) b f d → b ≡ treeIn (length t) (frontRecord (drop p t))

@@ -1,4 +1,4 @@
--- The parameters' names of a function that repeats none are distinct. Assumes nothing.
+-- The parameters' names of a function that repeats none are distinct.
 use Prim.Native.Nat.{ℕ, zero, suc, _+_, _≤_, _<_, max}
 use borrow.Author.Tests.{eq-eqb}
 use lib.Dec.{eqb}
@@ -13,13 +13,14 @@ use Rattle.ty.specs.Bytes.{idAt}
 use Rattle.ty.specs.Read.{readType, longestType}
 use Rattle.ty.specs.declared.read.TypeRead.the-variants.{Whole, Cut, Malformed, Endless}
 use Rattle.ty.specs.declared.read.TypeRead.{TypeRead}
-use Rattle.symbol.proofs.Cleans.{or-false}
-use Rattle.symbol.proofs.Turns.{param-onward, first-inside}
+use Rattle.record.proofs.NoFault.{or-false}
+use Rattle.record.proofs.ParamSteps.{param-onward, first-inside}
 use Rattle.symbol.proofs.Wholes.{FunctionWhole, ParamTo, step-to, step-behind}
-use Rattle.symbol.specs.Front.{among, paramStep, runParams, resultWith, firstReading, paramsRead, orNone, headOf}
-use Rattle.symbol.specs.Lookup.{typeLength, paramsFrom}
+use Rattle.record.specs.Inside.Front.{among, paramStep, runParams, resultWith, firstReading, paramsRead, orNone, headOf}
+use Rattle.record.specs.Inside.Keyed.{typeLength}
+use Rattle.symbol.specs.Inside.FoundSymbols.{paramsFrom}
 use Rattle.symbol.specs.Symbols.{Param}
-use Rattle.symbol.specs.declared.params.Reading.{Reading}
+use Rattle.record.specs.declared.params.Reading.{Reading}
 
 -- no parameter has the name id
 abbrev pub Absent : ℕ → List Param → Type 0

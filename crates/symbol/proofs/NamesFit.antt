@@ -1,4 +1,4 @@
--- Names have 26 bytes each, so there are few before a cursor, and ids that are defined there are low. Assumes nothing.
+-- Names have 26 bytes each, so there are few before a cursor, and ids that are defined there are low.
 use Prim.Native.Nat.{ℕ, zero, suc, _+_, _*_, _≤_, _<_, max}
 use borrow.Author.Tests.{eqb-true, ne-eqb, ltb-true, lt-ltb}
 use lib.Dec.{eqb, ltb}
@@ -12,16 +12,17 @@ use Rattle.ty.specs.Choose.{choose}
 use Rattle.ty.proofs.Choice.{by-choice, choose-no}
 use Rattle.ty.specs.Bytes.{idAt}
 use Rattle.ty.specs.Name.{firstTableId, noId, idDefined}
-use Rattle.symbol.proofs.Bounds.{head-bounded}
-use Rattle.symbol.proofs.Own.{head-own}
-use Rattle.symbol.proofs.Records.{records-here, records-joined, records-end}
-use Rattle.symbol.proofs.Sizes.{head-fits, head-by}
-use Rattle.symbol.specs.Ahead.{lateSize}
-use Rattle.symbol.specs.Front.{brokenHead, plainHead, orNone, classHead, headBy, headOf}
-use Rattle.symbol.specs.Table.{Record, frontRecord, recordsOf, joined, countOf, nameCount}
-use Rattle.symbol.specs.Walk.{At, Stands, before}
-use Rattle.symbol.specs.declared.front.Head.{Head}
-use Rattle.symbol.specs.declared.walk.Cursor.{Cursor}
+use Rattle.record.proofs.Bounds.{head-bounded}
+use Rattle.record.proofs.Own.{head-own}
+use Rattle.record.proofs.Records.{records-here, records-joined, records-end}
+use Rattle.record.proofs.RecordSizes.{head-fits, head-by}
+use Rattle.index.specs.Inside.Ahead.{lateSize}
+use Rattle.record.specs.Inside.Front.{brokenHead, plainHead, orNone, classHead, headBy, headOf}
+use Rattle.record.specs.Inside.FrontRecord.{frontRecord, countOf}
+use Rattle.record.specs.Table.{Record, recordsOf, joined}
+use Rattle.record.specs.Inside.Walk.{CursorAt, Stands, before}
+use Rattle.record.specs.declared.front.Head.{Head}
+use Rattle.record.specs.declared.walk.Cursor.{Cursor}
 
 -- each name among some records has 26 bytes
 abbrev Sized : List Record → Type 0
@@ -47,7 +48,7 @@ records-sized (suc n) (b ∷ bs) h =
     (records-sized n (drop (headOf s .len) s) (omega (arith, length-drop (headOf s .len) s, head-bounded s some .low))))
 
 -- the first n of some records, and the bytes of the others
-names-before : (rs : List Record) → Sized rs → (n : ℕ) → n ≤ length rs → 26 * nameCount (before n rs) + length (joined (drop n rs)) ≤ length (joined rs)
+names-before : (rs : List Record) → Sized rs → (n : ℕ) → n ≤ length rs → 26 * countOf 1 (before n rs) + length (joined (drop n rs)) ≤ length (joined rs)
 unfolding before countOf
 names-before rs z zero h = omega arith
 names-before rs z (suc n) h =
@@ -64,18 +65,18 @@ names-before rs z (suc n) h =
     name-most true e = unfold choose in omega (arith, z n h (eqb-true _ _ e))
     name-most false e = unfold choose in omega arith
 
-module _ (t : List ℕ) (c : Cursor) (a : At t c) where
+module _ (t : List ℕ) (c : Cursor) (a : CursorAt t c) where
   -- THE NAMES BEFORE A CURSOR HAVE 26 BYTES EACH
-  pub names-fit : 26 * nameCount (before (c .index) (recordsOf t)) ≤ c .at
+  pub names-fit : 26 * countOf 1 (before (c .index) (recordsOf t)) ≤ c .at
   names-fit =
       let b = names-before (recordsOf t) (records-sized (length t) t (omega arith)) (c .index) (a .count) in
       let e : joined (drop (c .index) (recordsOf t)) ≡ drop (c .at) t = ap joined (sym (a .sits)) ∙ records-joined (drop (c .at) t) in
       omega (arith, ap (λ (x : List ℕ). length x) e, ap (λ (x : List ℕ). length x) (records-joined t), length-drop (c .at) t, a .inside)
 
   -- so an id that is defined there is low
-  module _ (id : ℕ) (d : idDefined id (nameCount (before (c .index) (recordsOf t))) ≡ true) where
-    below : id < firstTableId + nameCount (before (c .index) (recordsOf t))
-    below = ltb-true id (firstTableId + nameCount (before (c .index) (recordsOf t))) d
+  module _ (id : ℕ) (d : idDefined id (countOf 1 (before (c .index) (recordsOf t))) ≡ true) where
+    below : id < firstTableId + countOf 1 (before (c .index) (recordsOf t))
+    below = ltb-true id (firstTableId + countOf 1 (before (c .index) (recordsOf t))) d
 
     pub id-low : id < lateSize (length t)
     id-low = omega (arith, below, names-fit, a .inside)

@@ -1,4 +1,4 @@
--- The pass over a table: what holds at each record of it, and what follows at its end. Assumes nothing.
+-- The pass over a table: what holds at each record of it, and what follows at its end.
 use Prim.Native.Nat.{ℕ, zero, suc, _+_, _≤_, _<_}
 use borrow.Author.Tests.{eq-eqb, ne-eqb}
 use lib.Dec.{eqb}
@@ -11,31 +11,35 @@ use native.Mathlib.Omega.{arith}
 use Rattle.ty.proofs.Choice.{chosen, passed}
 use Rattle.ty.specs.Choose.{choose}
 use Rattle.ty.specs.Name.{idDefined}
-use Rattle.symbol.proofs.Aheads.{looked-on}
-use Rattle.symbol.proofs.Chains.{Lasts, entered-start, lasts-start, first-done, next-done}
-use Rattle.symbol.proofs.Faults.{fault-stop, fault-on, own-number, key-number, own-clean, key-clean, missing-class, short-fault}
+use Rattle.index.proofs.Aheads.{looked-on}
+use Rattle.index.proofs.Chains.{Lasts, entered-start, lasts-start, first-done, next-done}
+use Rattle.record.proofs.Faults.{fault-stop, fault-on, own-number, key-number, own-clean, key-clean, missing-class, short-fault}
+use Rattle.record.proofs.Laid.{same-count}
 use Rattle.symbol.proofs.Joins.{Joining, joining}
-use Rattle.symbol.proofs.Mades.{placed-joined}
+use Rattle.symbol.proofs.IndexMakes.{placed-joined}
 use Rattle.symbol.proofs.NamesFit.{id-low, super-defined}
-use Rattle.symbol.proofs.Records.{here-cons, at-next, before-next, records-end, at-new}
-use Rattle.symbol.proofs.Trees.{tree-same, tree-start}
-use Rattle.symbol.specs.Accepted.{start, refusal, checkedOf, IndexRoom, Accepted}
-use Rattle.symbol.specs.Ahead.{lateSize, LateRoom, Looked}
-use Rattle.symbol.specs.Asked.{Asked, Prepared, superMissing, ownFault, keyFault}
-use Rattle.symbol.specs.Entered.{Entered}
-use Rattle.symbol.specs.Front.{headOf}
-use Rattle.symbol.specs.Index.{rootAt, firstAt, childAt, nextAt}
-use Rattle.symbol.specs.Join.{EntryIs, KeyAsked, JoinAsked, joined}
-use Rattle.symbol.specs.Made.{placed}
-use Rattle.symbol.specs.Refused.{hasKey, lastKind, recordFault, faultFrom, tableFault}
-use Rattle.symbol.specs.Table.{Record, recordsOf, countOf, nameCount}
-use Rattle.symbol.specs.Tree.{Tree}
-use Rattle.symbol.specs.Walk.{At, StepIs, Stands, recordAt, before, behind}
+use Rattle.record.proofs.Records.{here-cons, at-next, before-next, records-end, at-new}
+use Rattle.index.proofs.SearchTrees.{tree-same, tree-start}
+use Rattle.record.specs.Inside.Walk.{start, CursorAt, StepIs, Stands, recordAt, before, behind}
+use Rattle.symbol.specs.Inside.Checked.{refusal, checkedOf}
+use Rattle.index.specs.Inside.IndexedTable.{IndexRoom, IndexedTable}
+use Rattle.index.specs.Inside.Ahead.{lateSize, LateRoom, Looked}
+use Rattle.symbol.specs.Inside.Asked.{Asked, Prepared}
+use Rattle.record.specs.Inside.HeadFault.{superMissing, ownFault, keyFault, hasKey, lastKind, headFault, foundFrom}
+use Rattle.index.specs.Inside.Entered.{Entered}
+use Rattle.record.specs.Inside.Front.{headOf}
+use Rattle.record.specs.Inside.FrontRecord.{countOf}
+use Rattle.record.specs.TableRefused.{tableFault}
+use Rattle.record.specs.Table.{Record, recordsOf}
+use Rattle.index.specs.Inside.Index.{rootAt, firstAt, childAt, nextAt}
+use Rattle.symbol.specs.Inside.Join.{EntryIs, KeyAsked, JoinAsked, indexJoined}
+use Rattle.symbol.specs.Inside.IndexMade.{placed}
+use Rattle.index.specs.Inside.SearchTree.{Tree}
 use Rattle.symbol.specs.declared.checks.Checked.{Checked}
 use Rattle.symbol.specs.declared.checks.Entry.{Entry}
-use Rattle.symbol.specs.declared.front.Head.{Head}
-use Rattle.symbol.specs.declared.walk.Cursor.{Cursor}
-use Rattle.symbol.specs.declared.walk.Step.{Step}
+use Rattle.record.specs.declared.front.Head.{Head}
+use Rattle.record.specs.declared.walk.Cursor.{Cursor}
+use Rattle.record.specs.declared.walk.Step.{Step}
 
 -- ---- answers
 pub refused : (t : List ℕ) (n : ℕ) → tableFault t ≡ n → (n ≡ 0 → ⊥) → refusal n ≡ checkedOf t
@@ -54,10 +58,10 @@ count-split k (suc n) rs h =
 
 -- ---- the pass
 pub record Going (t x late : List ℕ) (c : Cursor) (k n : ℕ) (looked : Bool) : Type 0 where
-  pub at : At t c
-  pub fault : tableFault t ≡ faultFrom (before (c .index) (recordsOf t)) (recordsOf (drop (c .at) t))
+  pub at : CursorAt t c
+  pub fault : tableFault t ≡ foundFrom (before (c .index) (recordsOf t)) (recordsOf (drop (c .at) t))
   pub kind : k ≡ lastKind (before (c .index) (recordsOf t))
-  pub names : n ≡ nameCount (before (c .index) (recordsOf t))
+  pub names : n ≡ countOf 1 (before (c .index) (recordsOf t))
   pub few : n ≤ c .index
   pub entered : Entered t x (c .at)
   pub lasts : Lasts t x (c .at)
@@ -72,10 +76,10 @@ module _ (t x late : List ℕ) (c : Cursor) (k n : ℕ) (looked : Bool) (g : Goi
     rest = records-end t (c .at) end
 
     clean : tableFault t ≡ 0
-    unfolding faultFrom
-    clean = g .fault ∙ ap (faultFrom (before (c .index) (recordsOf t))) rest
+    unfolding foundFrom
+    clean = g .fault ∙ ap (foundFrom (before (c .index) (recordsOf t))) rest
 
-    all-names : n ≡ nameCount (recordsOf t)
+    all-names : n ≡ countOf 1 (recordsOf t)
     unfolding countOf
     all-names =
         let e : countOf 1 (drop (c .index) (recordsOf t)) ≡ 0 = ap (countOf 1) (sym (g .at .sits) ∙ rest) in
@@ -83,7 +87,7 @@ module _ (t x late : List ℕ) (c : Cursor) (k n : ℕ) (looked : Bool) (g : Goi
 
     pub going-done : _≡_ {A = Checked} (record { number = 0; names = n }) (checkedOf t)
     unfolding checkedOf
-    going-done = chosen (eqb (tableFault t) 0) _ _ _ (eq-eqb _ _ clean) (λ i. record { number = 0; names = all-names i })
+    going-done = chosen (eqb (tableFault t) 0) _ _ _ (eq-eqb _ _ clean) (λ i. record { number = 0; names = (all-names ∙ same-count 1 (recordsOf t)) i })
 
     pub going-room : 0 < length x
     going-room = omega (arith, g .lasts .long)
@@ -95,14 +99,14 @@ module _ (t x late : List ℕ) (c : Cursor) (k n : ℕ) (looked : Bool) (g : Goi
         (tree-same t x (set x 0 n) (c .at) (g .tree) (λ b l. getD-set-other x 0 (rootAt b) n 0 (λ z. omega arith))
         (λ p w i l. getD-set-other x 0 (childAt (length t) p i) n 0 (λ z. omega arith)))
 
-    pub going-accepted : (y : List ℕ) → y ≡ set x 0 n → Accepted t y
+    pub going-accepted : (y : List ℕ) → y ≡ set x 0 n → IndexedTable t y
     going-accepted y e =
-        subst (λ (z : List ℕ). Accepted t z) (sym e)
+        subst (λ (z : List ℕ). IndexedTable t z) (sym e)
         (record {
           clean = clean;
           indexed =
               record {
-                names = getD-set-same x 0 n 0 going-room ∙ all-names;
+                names = getD-set-same x 0 n 0 going-room ∙ all-names ∙ same-count 1 (recordsOf t);
                 first = λ b low. getD-set-other x 0 (firstAt (length t) b) n 0 (λ z. omega arith) ∙ first-done t x (c .at) (g .entered) end b low;
                 next = λ p w h f. getD-set-other x 0 (nextAt (length t) p) n 0 (λ z. omega arith) ∙ next-done t x (c .at) (g .entered) end p w h f;
                 tree = whole-tree;
@@ -119,22 +123,22 @@ module _ (t x late : List ℕ) (c : Cursor) (k n : ℕ) (looked : Bool) (g : Goi
     going-asked = record { stands = stands; kind = g .kind; names = g .names }
 
     -- a number
-    module _ (f : ℕ) (fault : f ≡ recordFault (before (c .index) (recordsOf t)) (recordAt t c) (recordsOf (drop (c .at) t))) where
-      here : recordFault (before (c .index) (recordsOf t)) (recordAt t c) (recordAt t c ∷ recordsOf (drop (p .next .at) t)) ≡ f
-      here = sym (fault ∙ ap (recordFault (before (c .index) (recordsOf t)) (recordAt t c)) (here-cons t c (g .at) p st))
+    module _ (f : ℕ) (fault : f ≡ headFault (before (c .index) (recordsOf t)) (recordAt t c) (recordsOf (drop (c .at) t))) where
+      here : headFault (before (c .index) (recordsOf t)) (recordAt t c) (recordAt t c ∷ recordsOf (drop (p .next .at) t)) ≡ f
+      here = sym (fault ∙ ap (headFault (before (c .index) (recordsOf t)) (recordAt t c)) (here-cons t c (g .at) p st))
 
-      onward : tableFault t ≡ faultFrom (before (c .index) (recordsOf t)) (recordAt t c ∷ recordsOf (drop (p .next .at) t))
-      onward = g .fault ∙ ap (faultFrom (before (c .index) (recordsOf t))) (here-cons t c (g .at) p st)
+      onward : tableFault t ≡ foundFrom (before (c .index) (recordsOf t)) (recordAt t c ∷ recordsOf (drop (p .next .at) t))
+      onward = g .fault ∙ ap (foundFrom (before (c .index) (recordsOf t))) (here-cons t c (g .at) p st)
 
       stopped : (f ≡ 0 → ⊥) → tableFault t ≡ f
       stopped h = onward ∙ fault-stop _ _ _ (λ z. h (sym here ∙ z)) ∙ here
 
-      next-fault : f ≡ 0 → tableFault t ≡ faultFrom (before (p .next .index) (recordsOf t)) (recordsOf (drop (p .next .at) t))
+      next-fault : f ≡ 0 → tableFault t ≡ foundFrom (before (p .next .index) (recordsOf t)) (recordsOf (drop (p .next .at) t))
       next-fault z = onward ∙ fault-on _ _ _ (here ∙ z) ∙ rw (before-next t c (g .at) p st)
 
     -- by the record itself
     module _ (f : ℕ) (own : f ≡ ownFault (before (c .index) (recordsOf t)) (recordAt t c)) where
-      pub own-is : (f ≡ 0 → ⊥) → f ≡ recordFault (before (c .index) (recordsOf t)) (recordAt t c) (recordsOf (drop (c .at) t))
+      pub own-is : (f ≡ 0 → ⊥) → f ≡ headFault (before (c .index) (recordsOf t)) (recordAt t c) (recordsOf (drop (c .at) t))
       own-is h = own ∙ sym (own-number (before (c .index) (recordsOf t)) (recordAt t c) (recordsOf (drop (c .at) t)) (λ z. h (own ∙ z)))
 
       own-fault : (f ≡ 0 → ⊥) → tableFault t ≡ f
@@ -147,7 +151,7 @@ module _ (t x late : List ℕ) (c : Cursor) (k n : ℕ) (looked : Bool) (g : Goi
       own-stopped h e = h (sym (own-fault h) ∙ e)
 
       module _ (zero : f ≡ 0) where
-        own-none : (headOf (recordAt t c) .malformed ≡ false) × (idDefined (headOf (recordAt t c) .top) (nameCount (before (c .index) (recordsOf t))) ≡ true)
+        own-none : (headOf (recordAt t c) .malformed ≡ false) × (idDefined (headOf (recordAt t c) .top) (countOf 1 (before (c .index) (recordsOf t))) ≡ true)
         own-none = own-clean (before (c .index) (recordsOf t)) (recordAt t c) (recordsOf (drop (c .at) t)) (sym own ∙ zero)
 
         whole : p .head .malformed ≡ false
@@ -174,11 +178,11 @@ module _ (t x late : List ℕ) (c : Cursor) (k n : ℕ) (looked : Bool) (g : Goi
               low z =
                   let m = missing-class (before (c .index) (recordsOf t)) (recordAt t c) (sym is ∙ z) in
                   let d = super-defined t c (p .head) stands (ap (λ (h : Head). h .kind) (st .own) ∙ m .0) (λ y. m .1 (sym (ap (λ (h : Head). h .two) (st .own)) ∙ y))
-                  (nameCount (before (c .index) (recordsOf t))) (ap (λ (h : Head). idDefined (h .top) (nameCount (before (c .index) (recordsOf t)))) (st .own) ∙ own-none .1) in
+                  (countOf 1 (before (c .index) (recordsOf t))) (ap (λ (h : Head). idDefined (h .top) (countOf 1 (before (c .index) (recordsOf t)))) (st .own) ∙ own-none .1) in
                   omega (arith, id-low t c (g .at) (p .head .two) d, g .long, more)
 
           module _ (f₂ : ℕ) (key : f₂ ≡ keyFault (before (c .index) (recordsOf t)) (recordAt t c) (recordsOf (drop (c .at) t))) where
-            pub both : f₂ ≡ recordFault (before (c .index) (recordsOf t)) (recordAt t c) (recordsOf (drop (c .at) t))
+            pub both : f₂ ≡ headFault (before (c .index) (recordsOf t)) (recordAt t c) (recordsOf (drop (c .at) t))
             both = key ∙ sym (key-number (before (c .index) (recordsOf t)) (recordAt t c) (recordsOf (drop (c .at) t)) (sym own ∙ zero))
 
             pub key-refused : (f₂ ≡ 0 → ⊥) → refusal f₂ ≡ checkedOf t
@@ -196,7 +200,7 @@ module _ (t x late : List ℕ) (c : Cursor) (k n : ℕ) (looked : Bool) (g : Goi
                   joining t x c (p .head) stands (g .entered) (g .lasts) (g .tree)
                   (sym (ap (λ (h : Head). h .malformed) (st .head)) ∙ whole) e (entry .key ∙ fresh) (entry .place)
 
-              pub going-placed : joined (length t) (c .at) e x ≡ placed (length t) (c .at) (recordAt t c) x
+              pub going-placed : indexJoined (length t) (c .at) e x ≡ placed (length t) (c .at) (recordAt t c) x
               going-placed = placed-joined t x c (p .head) stands e (entry .key ∙ fresh) (entry .place)
 
               pub going-join : length t ≤ 60000 → JoinAsked x (length t) (c .at) e
@@ -205,10 +209,10 @@ module _ (t x late : List ℕ) (c : Cursor) (k n : ℕ) (looked : Bool) (g : Goi
               next-kind : p .head .kind ≡ lastKind (before (p .next .index) (recordsOf t))
               next-kind = ap (λ (h : Head). h .kind) (st .own) ∙ rw (before-next t c (g .at) p st)
 
-              next-names : (m : ℕ) → m ≡ choose (eqb (p .head .kind) 1) 1 0 → n + m ≡ nameCount (before (p .next .index) (recordsOf t))
+              next-names : (m : ℕ) → m ≡ choose (eqb (p .head .kind) 1) 1 0 → n + m ≡ countOf 1 (before (p .next .index) (recordsOf t))
               unfolding countOf
               next-names m z =
-                  let q : nameCount (before (p .next .index) (recordsOf t)) ≡ choose (eqb (headOf (recordAt t c) .kind) 1) 1 0 + nameCount (before (c .index) (recordsOf t))
+                  let q : countOf 1 (before (p .next .index) (recordsOf t)) ≡ choose (eqb (headOf (recordAt t c) .kind) 1) 1 0 + countOf 1 (before (c .index) (recordsOf t))
                   = ap (countOf 1) (before-next t c (g .at) p st) in
                   let o : choose (eqb (headOf (recordAt t c) .kind) 1) 1 0 ≡ m = sym (z ∙ ap (λ (h : Head). choose (eqb (h .kind) 1) 1 0) (st .own)) in
                   omega (arith, g .names)
@@ -216,7 +220,7 @@ module _ (t x late : List ℕ) (c : Cursor) (k n : ℕ) (looked : Bool) (g : Goi
               is-behind : p .next .at ≡ behind t (c .at)
               is-behind = st .next ∙ ap (λ (h : Head). c .at + h .len) (st .head)
 
-              pub going-next : (y : List ℕ) → y ≡ joined (length t) (c .at) e x → (m : ℕ) → m ≡ choose (eqb (p .head .kind) 1) 1 0 → m ≤ 1
+              pub going-next : (y : List ℕ) → y ≡ indexJoined (length t) (c .at) e x → (m : ℕ) → m ≡ choose (eqb (p .head .kind) 1) 1 0 → m ≤ 1
                   → Going t y late′ (p .next) (p .head .kind) (n + m) looked′
               going-next y q m z l =
                   record {

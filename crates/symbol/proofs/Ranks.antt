@@ -1,5 +1,4 @@
 -- In an accepted table superclasses do not go round: each class has a rank of at most the number of classes, and its superclass, if there is one, a lower one.
--- Assumes nothing.
 use Prim.Native.Nat.{ℕ, suc, _+_, _-_, _≤_, _<_}
 use borrow.Author.Tests.{eqb-false, ne-eqb}
 use lib.Dec.{eqb}
@@ -8,11 +7,16 @@ use mathlib.Core.List.{List, [], _∷_}
 use mathlib.Core.Logic.{_⊎_, inl, inr, ⊎-elim}
 use mathlib.Core.Path.{_≡_, refl, sym, ap, _∙_}
 use native.Mathlib.Omega.{arith}
-use Rattle.symbol.proofs.Accepts.{CleanFrom, accepted-clean}
-use Rattle.symbol.specs.Front.{headOf}
-use Rattle.symbol.specs.Lookup.{isOf, recordsWith, superIn, symbolsIn, symbolsOf}
-use Rattle.symbol.specs.Refused.{isClass, hasClass, superLate, tableFault}
-use Rattle.symbol.specs.Table.{Record, recordsOf, countOf}
+use Rattle.symbol.proofs.LaidLookups.{classes-told, super-told}
+use Rattle.record.proofs.Accepts.{CleanFrom, accepted-clean}
+use Rattle.record.specs.Inside.Front.{headOf}
+use Rattle.record.specs.Inside.Keyed.{isOf, recordsWith}
+use Rattle.symbol.specs.Inside.FoundSymbols.{superIn}
+use Rattle.record.specs.Inside.HeadFault.{isClass, hasClass, superLate}
+use Rattle.record.specs.Inside.FrontRecord.{countOf}
+use Rattle.symbol.specs.Lookup.{symbolsOf}
+use Rattle.record.specs.TableRefused.{tableFault}
+use Rattle.record.specs.Table.{Record, recordsOf}
 use Rattle.ty.specs.Choose.{choose}
 use Rattle.ty.specs.Name.{noId}
 
@@ -178,12 +182,12 @@ rankOf t c = rankIn (recordsOf t) c
 
 module _ (t : List ℕ) (e : tableFault t ≡ 0) where
   pub super-lower : (c : ℕ) → (symbolsOf t .superOf c ≡ noId → ⊥) → rankOf t (symbolsOf t .superOf c) < rankOf t c
-  unfolding symbolsIn
-  super-lower c n = rank-falls (recordsOf t) (accepted-clean t e) c n
+  super-lower c n =
+      let s = super-told (recordsOf t) c in
+      rw (← s) (rank-falls (recordsOf t) (accepted-clean t e) c (λ z. n (sym s ∙ z)))
 
 pub class-rank : (t : List ℕ) (c : ℕ) → rankOf t c ≤ symbolsOf t .classes
-unfolding symbolsIn
-class-rank t c = rank-low (recordsOf t) c
+class-rank t c = omega (arith, rank-low (recordsOf t) c, classes-told (recordsOf t))
 
 -- how far one can still climb from class c
 unfoldable pub height : List ℕ → ℕ → ℕ

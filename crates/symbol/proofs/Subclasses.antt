@@ -1,4 +1,4 @@
--- The climb along superclasses: in an accepted table as many steps as there are classes are enough, and a loop climbs along. Assumes nothing.
+-- The climb along superclasses: in an accepted table as many steps as there are classes are enough, and a loop climbs along.
 use Prim.Native.Nat.{ℕ, zero, suc, _≤_}
 use mathlib.Core.Path.{_≡_, refl, _∙_}
 use mathlib.Core.Bool.{Bool, true, false}
@@ -9,7 +9,7 @@ use borrow.Author.Tests.{eqb-false, eq-eqb, ne-eqb}
 use Rattle.ty.specs.Choose.{choose}
 use Rattle.ty.specs.Name.{noId}
 use Rattle.symbol.specs.Lookup.{symbolsOf}
-use Rattle.symbol.specs.Refused.{tableFault}
+use Rattle.record.specs.TableRefused.{tableFault}
 use Rattle.symbol.specs.Subclass.{climbs, isSubclass}
 use Rattle.symbol.proofs.Ranks.{rankOf, class-rank, super-lower}
 

@@ -1,4 +1,4 @@
--- What the answer of `check_table` says. Assumes nothing.
+-- What the answer of `check_table` says.
 use Prim.Native.Nat.{ℕ}
 use borrow.Author.Tests.{eqb-true}
 use lib.Dec.{eqb}
@@ -6,9 +6,9 @@ use mathlib.Core.Bool.{Bool, true, false}
 use mathlib.Core.List.{List}
 use mathlib.Core.Path.{_≡_, refl, sym, ap, _∙_}
 use Rattle.ty.specs.Choose.{choose}
-use Rattle.symbol.specs.Refused.{tableFault}
-use Rattle.symbol.specs.Accepted.{acceptance, checkedOf}
-use Rattle.symbol.specs.Table.{recordsOf, nameCount}
+use Rattle.record.specs.TableRefused.{tableFault}
+use Rattle.record.specs.Table.{recordsOf, nameCount}
+use Rattle.symbol.specs.Inside.Checked.{acceptance, checkedOf}
 use Rattle.symbol.specs.declared.checks.Checked.{Checked}
 
 -- the number is the table's

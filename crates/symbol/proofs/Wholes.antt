@@ -1,4 +1,4 @@
--- A function record without Error that is not broken has whole types. Assumes nothing.
+-- A function record without Error that is not broken has whole types.
 use Prim.Native.Nat.{ℕ, zero, suc, _+_, _-_, _≤_, max}
 use borrow.Author.Tests.{eq-eqb, eqb-true, ltb-false}
 use lib.Dec.{eqb, ltb}
@@ -9,21 +9,21 @@ use mathlib.Core.List.{List}
 use mathlib.Core.Path.{_≡_, refl, sym, ap, _∙_, subst}
 use native.Mathlib.Omega.{arith}
 use Rattle.ty.proofs.Choice.{by-choice}
-use Rattle.ty.proofs.Sized.{whole}
+use Rattle.ty.proofs.TypeSizes.{whole}
 use Rattle.ty.specs.Bytes.{idAt}
 use Rattle.ty.specs.Choose.{choose}
 use Rattle.ty.specs.Read.{readType, longestType}
 use Rattle.ty.specs.declared.read.TypeRead.the-variants.{Whole, Cut, Malformed, Endless}
 use Rattle.ty.specs.declared.read.TypeRead.{TypeRead}
-use Rattle.symbol.proofs.Cleans.{or-false}
-use Rattle.symbol.proofs.Own.{whole-before}
-use Rattle.symbol.proofs.Sizes.{head-by}
-use Rattle.symbol.proofs.Turns.{param-onward, first-inside}
-use Rattle.symbol.specs.Front.{orNone, among, paramWith, paramStep, runParams, resultWith, firstReading, paramsRead, functionWith, functionHead, fieldWith, fieldHead, headBy, headOf}
-use Rattle.symbol.specs.Lookup.{wholeLength, typeLength}
-use Rattle.symbol.specs.Row.{TypeAt, RowAt}
-use Rattle.symbol.specs.declared.front.Head.{Head}
-use Rattle.symbol.specs.declared.params.Reading.{Reading}
+use Rattle.record.proofs.NoFault.{or-false}
+use Rattle.record.proofs.Own.{whole-before}
+use Rattle.record.proofs.RecordSizes.{head-by}
+use Rattle.record.proofs.ParamSteps.{param-onward, first-inside}
+use Rattle.record.specs.Inside.Front.{orNone, among, paramWith, paramStep, runParams, resultWith, firstReading, paramsRead, functionWith, functionHead, fieldWith, fieldHead, headBy, headOf}
+use Rattle.record.specs.Inside.Keyed.{wholeLength, typeLength}
+use Rattle.symbol.specs.Inside.ParamsRow.{TypeAt, ParamsAt}
+use Rattle.record.specs.declared.front.Head.{Head}
+use Rattle.record.specs.declared.params.Reading.{Reading}
 
 or-true : (v : Bool) → v || true ≡ true
 or-true true = refl
@@ -184,12 +184,12 @@ pub step-behind : (s : List ℕ) (c : Reading) → ParamTo s c (paramStep s c)
 step-behind s c w = ap (λ (k : ℕ). drop k s) (w .len) ∙ sym (drop-drop (3 + typeLength (drop 3 (drop (c .len) s))) (c .len) s)
 
 row-whole : (n : ℕ) (s : List ℕ) (c : Reading) → c .len ≤ length s → runParams n s c .state ≡ 0 → runParams n s c .error ≡ false
-    → RowAt n (drop (c .len) s)
+    → ParamsAt n (drop (c .len) s)
 unfolding runParams
 row-whole zero s c h v e = tt
 row-whole (suc n) s c h v e =
     let w = step-to n s c h v e in
-    (w .ty, subst (λ (x : List ℕ). RowAt n x) (step-behind s c w) (row-whole n s (paramStep s c) (param-onward s c h .high) v e))
+    (w .ty, subst (λ (x : List ℕ). ParamsAt n x) (step-behind s c w) (row-whole n s (paramStep s c) (param-onward s c h .high) v e))
 
 -- A FUNCTION RECORD of an accepted table
 pub record FunctionWhole (s : List ℕ) : Type 0 where
@@ -199,7 +199,7 @@ pub record FunctionWhole (s : List ℕ) : Type 0 where
   pub error : paramsRead s .error ≡ false
   pub result : TypeAt s 8
   pub start : firstReading s .len ≡ 8 + typeLength (drop 8 s)
-  pub row : RowAt (getD s 7 0) (drop (8 + typeLength (drop 8 s)) s)
+  pub row : ParamsAt (getD s 7 0) (drop (8 + typeLength (drop 8 s)) s)
 
 with-whole : (s : List ℕ) (c : Reading) → Endlessly c → functionWith s c .kind ≡ 4 → functionWith s c .error ≡ false
     → (c .state ≡ 0) × (c .error ≡ false) × (functionWith s c .repeated ≡ c .repeated)
@@ -233,7 +233,7 @@ function-whole s k e =
           result = w .0;
           start = w .1;
           row =
-              subst (λ (k : ℕ). RowAt (getD s 7 0) (drop k s)) (w .1)
+              subst (λ (k : ℕ). ParamsAt (getD s 7 0) (drop k s)) (w .1)
               (row-whole (getD s 7 0) s (firstReading s) (i .high) (read-run s v) (read-error s e));
         }
       where

@@ -1,38 +1,42 @@
 // The table's refusals.
-use crate::ahead::class_ahead;
-use crate::ahead::look_ahead;
-use crate::front::Head;
-use crate::index::Place;
-use crate::index::entry_at;
-use crate::index::key_bucket;
-use crate::index::list_reduced;
-use crate::index::number;
-use crate::index::put;
-use crate::list::enter;
-use crate::spelling::is_builtin;
-use crate::tree::Key;
-use crate::tree::Spot;
-use crate::tree::name_at;
-use crate::tree::search;
-use crate::tree::tree_of;
-use crate::walk::Cursor;
+use index::ahead::class_ahead;
+use index::ahead::look_ahead;
+use index::index::Place;
+use index::index::SHORT_TABLE;
+use index::index::entry_at;
+use index::index::key_bucket;
+use index::index::list_reduced;
+use index::index::number;
+use index::index::put;
+use index::list::enter;
+use index::tree::Key;
+use index::tree::Spot;
+use index::tree::name_at;
+use index::tree::search;
+use index::tree::tree_of;
+use record::front::Head;
+use record::spelling::is_builtin;
+use record::walk::Cursor;
 use ty::NameId;
 use ty::name::id_defined;
 ghost use mathlib.Core.Path.{_≡_};
 ghost use mathlib.Core.Bool.{true};
 ghost use Prim.Native.Nat.{_≤_};
 ghost use lib.Dec.{eqb};
-ghost use lib.ListN.{length, drop};
+ghost use lib.ListN.{length};
 ghost use Rattle.ty.specs.Choose.{choose};
-ghost use Rattle.symbol.specs.Ahead.{Looked, LateRoom};
-ghost use Rattle.symbol.specs.Asked.{Asked, Prepared, Planted, superMissing, ownFault, keyFault};
-ghost use Rattle.symbol.specs.Join.{takenOf, EntryIs, KeyAsked, JoinAsked, joined};
-ghost use Rattle.symbol.specs.Key.{keyOf};
-ghost use Rattle.symbol.specs.Made.{indexMade};
-ghost use Rattle.symbol.specs.Refused.{tableFault, isBuiltinName, hasClass};
-ghost use Rattle.symbol.specs.Accepted.{refusal, checkedOf, IndexRoom, Accepted};
-ghost use Rattle.symbol.specs.Table.{recordsOf};
-ghost use Rattle.symbol.specs.Walk.{At, Stands, recordAt, before};
+ghost use Rattle.index.specs.Inside.Index.{shortTable};
+ghost use Rattle.index.specs.Inside.Ahead.{Looked, LateRoom};
+ghost use Rattle.symbol.specs.Inside.Asked.{Asked, Prepared, Planted, superMissingAt, ownFaultAt, keyFaultAt};
+ghost use Rattle.symbol.specs.Inside.Join.{takenOf, EntryIs, KeyAsked, JoinAsked, indexJoined};
+ghost use Rattle.index.specs.Inside.SearchKey.{keyAt};
+ghost use Rattle.symbol.specs.Inside.IndexMade.{indexMade};
+ghost use Rattle.record.specs.Inside.HeadFault.{isBuiltinName, hasClass};
+ghost use Rattle.record.specs.TableRefused.{tableFault};
+ghost use Rattle.record.specs.Table.{recordsOf};
+ghost use Rattle.symbol.specs.Inside.Checked.{refusal, checkedOf};
+ghost use Rattle.index.specs.Inside.IndexedTable.{IndexRoom, IndexedTable};
+ghost use Rattle.record.specs.Inside.Walk.{CursorAt, Stands, recordAt, before};
 
 // What the check of a table answers: a number, and how many names the table has. A refusal has no names.
 pub struct Checked {
@@ -40,7 +44,8 @@ pub struct Checked {
     pub names: u16,
 }
 
-// What a record that draws no number does in the index: it fills an empty entry of its tree, or joins a list of functions. Taken: an earlier record has its key.
+// What a record that draws no number does in the index: it fills an empty entry of its tree, or joins a list of functions.
+// Taken: an earlier record has its key.
 pub enum Entry {
     Taken,
     Tree(usize),
@@ -60,7 +65,7 @@ fn builtin_name(t: &[u8], me: Cursor, h: Head) -> bool
 
 // An earlier record is the class id.
 fn class_before(t: &[u8], x: &[u16], me: Cursor, id: u16) -> bool
-    requires { ⌜ At (now t) me × Planted (now t) (now x) (me .at) ⌝ }
+    requires { ⌜ CursorAt (now t) me × Planted (now t) (now x) (me .at) ⌝ }
     ensures { λ r. ⌜ r ≡ hasClass id (before (me .index) (recordsOf (now (t .entry)))) ⌝ }
 {
     let key = Key::Ids {
@@ -78,7 +83,7 @@ fn class_before(t: &[u8], x: &[u16], me: Cursor, id: u16) -> bool
 // The record h at me is a class whose superclass has no earlier record.
 fn super_missing(t: &[u8], x: &[u16], me: Cursor, h: Head) -> bool
     requires { ⌜ Prepared (now t) (now x) me h ⌝ }
-    ensures { λ r. ⌜ r ≡ superMissing (before (me .index) (recordsOf (now (t .entry)))) (recordAt (now (t .entry)) me) ⌝ }
+    ensures { λ r. ⌜ r ≡ superMissingAt (now (t .entry)) me ⌝ }
 {
     if h.kind != 2 {
         return false;
@@ -91,7 +96,7 @@ fn super_missing(t: &[u8], x: &[u16], me: Cursor, h: Head) -> bool
 
 // Looks ahead for the classes, once, where a superclass has no earlier record; answers whether that was done.
 fn look(t: &[u8], me: Cursor, late: &mut [u16], missing: bool, looked: bool) -> bool
-    requires { ⌜ At (now t) me × (length (now t) ≤ 60000) × Looked (now t) (now late) (me .at) looked ⌝ }
+    requires { ⌜ CursorAt (now t) me × (length (now t) ≤ 60000) × Looked (now t) (now late) (me .at) looked ⌝ }
     ensures { λ r. ⌜ Looked (now (t .entry)) (now (late .exit)) (me .at) r × (missing ≡ true → r ≡ true) ⌝ }
 {
     if looked {
@@ -107,7 +112,7 @@ fn look(t: &[u8], me: Cursor, late: &mut [u16], missing: bool, looked: bool) -> 
 // The number of the record h at me by itself, 0 for none; `kind` is the kind before it, `names` how many names are before it.
 fn own_fault(t: &[u8], me: Cursor, h: Head, kind: u8, names: u16) -> u8
     requires { ⌜ Asked (now t) me h kind names ⌝ }
-    ensures { λ r. ⌜ r ≡ ownFault (before (me .index) (recordsOf (now (t .entry)))) (recordAt (now (t .entry)) me) ⌝ }
+    ensures { λ r. ⌜ r ≡ ownFaultAt (now (t .entry)) me ⌝ }
 {
     if h.malformed {
         return 2;
@@ -128,7 +133,7 @@ fn own_fault(t: &[u8], me: Cursor, h: Head, kind: u8, names: u16) -> u8
 }
 
 fn key_of(me: Cursor, h: Head) -> Key
-    ensures { λ r. ⌜ r ≡ keyOf me h ⌝ }
+    ensures { λ r. ⌜ r ≡ keyAt me h ⌝ }
 {
     if h.kind == 1 {
         return Key::Name(Place { at: me.at });
@@ -173,7 +178,7 @@ fn is_taken(entry: Entry) -> bool
 // The number of the record h at me beside the others, 0 for none. Its superclass, if `missing`, has no earlier record.
 fn key_fault(t: &[u8], late: &[u16], me: Cursor, h: Head, entry: Entry, missing: bool) -> u8
     requires { ⌜ KeyAsked (now t) (now late) me h entry missing ⌝ }
-    ensures { λ r. ⌜ r ≡ keyFault (before (me .index) (recordsOf (now (t .entry)))) (recordAt (now (t .entry)) me) (recordsOf (drop (me .at) (now (t .entry)))) ⌝ }
+    ensures { λ r. ⌜ r ≡ keyFaultAt (now (t .entry)) me ⌝ }
 {
     if is_taken(entry) {
         return 5;
@@ -190,7 +195,7 @@ fn key_fault(t: &[u8], late: &[u16], me: Cursor, h: Head, entry: Entry, missing:
 // The record at p comes into the index of a table of n bytes.
 fn join(x: &mut [u16], n: usize, p: usize, entry: Entry)
     requires { ⌜ JoinAsked (now x) n p entry ⌝ }
-    ensures { λ _. ⌜ now (x .exit) ≡ joined n p entry (now (x .entry)) ⌝ }
+    ensures { λ _. ⌜ now (x .exit) ≡ indexJoined n p entry (now (x .entry)) ⌝ }
 {
     match entry {
         Entry::Taken => {}
@@ -218,7 +223,7 @@ fn refuse(number: u8) -> Checked
 fn check_records(t: &[u8], x: &mut [u16], late: &mut [u16]) -> Checked
     requires { ⌜ (length (now t) ≤ 60000) × IndexRoom (now t) (now x) × LateRoom (now t) (now late) ⌝ }
     ensures { λ r. ⌜ r ≡ checkedOf (now (t .entry)) ⌝ }
-    ensures { λ r. ⌜ (tableFault (now (t .entry)) ≡ 0 → Accepted (now (t .entry)) (now (x .exit))) ⌝ }
+    ensures { λ r. ⌜ (tableFault (now (t .entry)) ≡ 0 → IndexedTable (now (t .entry)) (now (x .exit))) ⌝ }
     ensures { λ _. ⌜ now (x .exit) ≡ indexMade (now (t .entry)) (now (x .entry)) ⌝ }
 {
     let mut c = Cursor::new();
@@ -248,11 +253,11 @@ fn check_records(t: &[u8], x: &mut [u16], late: &mut [u16]) -> Checked
     Checked { number: 0, names }
 }
 
-// Checks the records of a table of at most 2,048 bytes.
+// Checks the records of a short table.
 fn check_short(t: &[u8], x: &mut [u16]) -> Checked
-    requires { ⌜ (length (now t) ≤ 2048) × IndexRoom (now t) (now x) ⌝ }
+    requires { ⌜ (length (now t) ≤ shortTable) × IndexRoom (now t) (now x) ⌝ }
     ensures { λ r. ⌜ r ≡ checkedOf (now (t .entry)) ⌝ }
-    ensures { λ r. ⌜ (tableFault (now (t .entry)) ≡ 0 → Accepted (now (t .entry)) (now (x .exit))) ⌝ }
+    ensures { λ r. ⌜ (tableFault (now (t .entry)) ≡ 0 → IndexedTable (now (t .entry)) (now (x .exit))) ⌝ }
     ensures { λ _. ⌜ now (x .exit) ≡ indexMade (now (t .entry)) (now (x .entry)) ⌝ }
 {
     let mut late = [0u16; 118];
@@ -263,7 +268,7 @@ fn check_short(t: &[u8], x: &mut [u16]) -> Checked
 fn check_long(t: &[u8], x: &mut [u16]) -> Checked
     requires { ⌜ (length (now t) ≤ 60000) × IndexRoom (now t) (now x) ⌝ }
     ensures { λ r. ⌜ r ≡ checkedOf (now (t .entry)) ⌝ }
-    ensures { λ r. ⌜ (tableFault (now (t .entry)) ≡ 0 → Accepted (now (t .entry)) (now (x .exit))) ⌝ }
+    ensures { λ r. ⌜ (tableFault (now (t .entry)) ≡ 0 → IndexedTable (now (t .entry)) (now (x .exit))) ⌝ }
     ensures { λ _. ⌜ now (x .exit) ≡ indexMade (now (t .entry)) (now (x .entry)) ⌝ }
 {
     let mut late = [0u16; 2347];
@@ -274,10 +279,10 @@ fn check_long(t: &[u8], x: &mut [u16]) -> Checked
 pub fn check_table(table: &[u8], index: &mut [u16]) -> Checked
     requires { ⌜ IndexRoom (now table) (now index) ⌝ }
     ensures { λ r. ⌜ r ≡ checkedOf (now (table .entry)) ⌝ }
-    ensures { λ r. ⌜ (tableFault (now (table .entry)) ≡ 0 → Accepted (now (table .entry)) (now (index .exit))) ⌝ }
+    ensures { λ r. ⌜ (tableFault (now (table .entry)) ≡ 0 → IndexedTable (now (table .entry)) (now (index .exit))) ⌝ }
     ensures { λ _. ⌜ now (index .exit) ≡ indexMade (now (table .entry)) (now (index .entry)) ⌝ }
 {
-    if table.len() <= 2048 {
+    if table.len() <= SHORT_TABLE {
         return check_short(table, index);
     }
     if 60000 < table.len() {

@@ -1,20 +1,22 @@
 // Reading one function of an accepted table.
-use crate::front::LONGEST;
-use crate::front::id_at;
-use crate::front::read_record;
-use crate::index::Place;
+use index::index::Place;
+use record::front::LONGEST;
+use record::front::read_record;
 use ty::TypeRead;
 use ty::byte_at;
+use ty::id_at;
 use ty::read::read_type;
 use ty::tail;
 ghost use mathlib.Core.Path.{_≡_};
 ghost use mathlib.Core.Bool.{false};
 ghost use Prim.Native.Nat.{_+_, _≤_, _<_};
 ghost use lib.ListN.{length};
-ghost use Rattle.symbol.specs.Answer.{overloadAt, FunctionAt, FunctionRead};
-ghost use Rattle.symbol.specs.Lookup.{wholeLength, typeLength, paramsFrom};
-ghost use Rattle.symbol.specs.Row.{part, RowAt, paramAdded, noParams, ParamsAre};
-ghost use Rattle.symbol.specs.Walk.{behind};
+ghost use Rattle.symbol.specs.Inside.LookupAnswer.{overloadAt, FunctionRead};
+ghost use Rattle.index.specs.Inside.Found.{FunctionAt};
+ghost use Rattle.record.specs.Inside.Keyed.{wholeLength, typeLength};
+ghost use Rattle.symbol.specs.Inside.FoundSymbols.{paramsFrom};
+ghost use Rattle.symbol.specs.Inside.ParamsRow.{part, ParamsAt, paramAdded, noParams, ParamsAre};
+ghost use Rattle.record.specs.Inside.Walk.{behind};
 
 // The parameters of a function: how many, and of each its name, whether it has a default and is vararg, and where its type lies in the table.
 pub struct Params {
@@ -107,7 +109,7 @@ fn type_length(t: &[u8], from: usize, end: usize) -> usize
 
 // The parameters that begin at from, in the bytes before end.
 fn read_params(t: &[u8], from: usize, end: usize, count: usize) -> Params
-    requires { ⌜ (from ≤ end) × (end ≤ length (now t)) × (count ≤ 16) × RowAt count (part (now t) from end) ⌝ }
+    requires { ⌜ (from ≤ end) × (end ≤ length (now t)) × (count ≤ 16) × ParamsAt count (part (now t) from end) ⌝ }
     ensures { λ r. ⌜ ParamsAre (now (t .entry)) (paramsFrom count (part (now (t .entry)) from end)) count r ⌝ }
 {
     let mut at = from;

@@ -1,21 +1,22 @@
 // Lookups in an accepted table.
-use crate::front::id_at;
-use crate::front::read_record;
-use crate::index::Found;
-use crate::index::Place;
-use crate::index::bucket_count;
-use crate::index::child_at;
-use crate::index::entry_at;
-use crate::index::key_bucket;
-use crate::index::list_reduced;
-use crate::list::follow;
-use crate::tree::seek;
+use index::index::Found;
+use index::index::Place;
+use index::index::bucket_count;
+use index::index::child_at;
+use index::index::entry_at;
+use index::index::key_bucket;
+use index::index::list_reduced;
+use index::list::follow;
+use index::tree::seek;
+use record::front::read_record;
 use ty::NameId;
 use ty::byte_at;
+use ty::id_at;
 use ty::tail;
 ghost use mathlib.Core.Path.{_≡_};
-ghost use Rattle.symbol.specs.Accepted.{Accepted};
-ghost use Rattle.symbol.specs.Answer.{partOf, PartIn, maskOf, visibilityOf, FunctionAt, functionsBehind, FunctionFound};
+ghost use Rattle.index.specs.Inside.IndexedTable.{IndexedTable};
+ghost use Rattle.symbol.specs.Inside.LookupAnswer.{partOf, PartIn, maskOf, visibilityOf, functionsBehind, FunctionFound};
+ghost use Rattle.index.specs.Inside.Found.{FunctionAt};
 ghost use Rattle.symbol.specs.Lookup.{symbolsOf};
 
 // A part of the table.
@@ -38,7 +39,7 @@ pub enum Visibility {
 
 // The superclass of a class, NameId::NONE where it has none or there is no such class.
 pub fn superclass_of(t: &[u8], x: &[u16], class: u16) -> u16
-    requires { ⌜ Accepted (now t) (now x) ⌝ }
+    requires { ⌜ IndexedTable (now t) (now x) ⌝ }
     ensures { λ r. ⌜ r ≡ symbolsOf (now (t .entry)) .superOf class ⌝ }
 {
     let f = seek(t, x, 2, class, 0);
@@ -50,7 +51,7 @@ pub fn superclass_of(t: &[u8], x: &[u16], class: u16) -> u16
 
 // The package of a class.
 pub fn package_of(t: &[u8], x: &[u16], class: u16) -> u16
-    requires { ⌜ Accepted (now t) (now x) ⌝ }
+    requires { ⌜ IndexedTable (now t) (now x) ⌝ }
     ensures { λ r. ⌜ r ≡ symbolsOf (now (t .entry)) .packageOf class ⌝ }
 {
     let f = seek(t, x, 2, class, 0);
@@ -62,7 +63,7 @@ pub fn package_of(t: &[u8], x: &[u16], class: u16) -> u16
 
 // Whether a name is in `types`.
 pub fn in_types(t: &[u8], x: &[u16], class: u16) -> bool
-    requires { ⌜ Accepted (now t) (now x) ⌝ }
+    requires { ⌜ IndexedTable (now t) (now x) ⌝ }
     ensures { λ r. ⌜ r ≡ symbolsOf (now (t .entry)) .inTypes class ⌝ }
 {
     let f = seek(t, x, 2, class, 0);
@@ -74,7 +75,7 @@ pub fn in_types(t: &[u8], x: &[u16], class: u16) -> bool
 
 // The mask of a class's operator set.
 pub fn operators_of(t: &[u8], x: &[u16], class: u16) -> Mask
-    requires { ⌜ Accepted (now t) (now x) ⌝ }
+    requires { ⌜ IndexedTable (now t) (now x) ⌝ }
     ensures { λ r. ⌜ maskOf r ≡ symbolsOf (now (t .entry)) .operatorsOf class ⌝ }
 {
     let f = seek(t, x, 3, class, 0);
@@ -86,7 +87,7 @@ pub fn operators_of(t: &[u8], x: &[u16], class: u16) -> Mask
 
 // The type of a field.
 pub fn field_of(t: &[u8], x: &[u16], owner: u16, name: u16) -> Part
-    requires { ⌜ Accepted (now t) (now x) ⌝ }
+    requires { ⌜ IndexedTable (now t) (now x) ⌝ }
     ensures { λ r. ⌜ (partOf (now (t .entry)) r ≡ symbolsOf (now (t .entry)) .fieldOf owner name) × PartIn (now (t .entry)) r ⌝ }
 {
     let f = seek(t, x, 5, owner, name);
@@ -104,7 +105,7 @@ pub fn field_of(t: &[u8], x: &[u16], owner: u16, name: u16) -> Part
 
 // A member's visibility.
 pub fn visibility_of(t: &[u8], x: &[u16], owner: u16, name: u16) -> Visibility
-    requires { ⌜ Accepted (now t) (now x) ⌝ }
+    requires { ⌜ IndexedTable (now t) (now x) ⌝ }
     ensures { λ r. ⌜ visibilityOf r ≡ symbolsOf (now (t .entry)) .visibilityOf owner name ⌝ }
 {
     let f = seek(t, x, 6, owner, name);
@@ -116,7 +117,7 @@ pub fn visibility_of(t: &[u8], x: &[u16], owner: u16, name: u16) -> Visibility
 
 // Whether there is such a suspend function; its owner may be NameId::NONE.
 pub fn is_suspend(t: &[u8], x: &[u16], owner: u16, name: u16) -> bool
-    requires { ⌜ Accepted (now t) (now x) ⌝ }
+    requires { ⌜ IndexedTable (now t) (now x) ⌝ }
     ensures { λ r. ⌜ r ≡ symbolsOf (now (t .entry)) .isSuspend owner name ⌝ }
 {
     let f = seek(t, x, 7, owner, name);
@@ -128,7 +129,7 @@ pub fn is_suspend(t: &[u8], x: &[u16], owner: u16, name: u16) -> bool
 
 // Whether there is such an enum variant.
 pub fn is_variant(t: &[u8], x: &[u16], owner: u16, name: u16) -> bool
-    requires { ⌜ Accepted (now t) (now x) ⌝ }
+    requires { ⌜ IndexedTable (now t) (now x) ⌝ }
     ensures { λ r. ⌜ r ≡ symbolsOf (now (t .entry)) .isVariant owner name ⌝ }
 {
     let f = seek(t, x, 8, owner, name);
@@ -140,7 +141,7 @@ pub fn is_variant(t: &[u8], x: &[u16], owner: u16, name: u16) -> bool
 
 // The first function of an owner, which may be NameId::NONE, and a name.
 pub fn first_function(t: &[u8], x: &[u16], owner: u16, name: u16) -> Found
-    requires { ⌜ Accepted (now t) (now x) ⌝ }
+    requires { ⌜ IndexedTable (now t) (now x) ⌝ }
     ensures { λ r. ⌜ FunctionFound (now (t .entry)) (symbolsOf (now (t .entry)) .functionsOf owner name) r ⌝ }
 {
     let b = list_reduced(key_bucket(4, owner, name), t.len());
@@ -150,7 +151,7 @@ pub fn first_function(t: &[u8], x: &[u16], owner: u16, name: u16) -> Found
 
 // The next function behind that at p with its owner and name.
 pub fn next_function(t: &[u8], x: &[u16], p: Place) -> Found
-    requires { ⌜ Accepted (now t) (now x) × FunctionAt (now t) p ⌝ }
+    requires { ⌜ IndexedTable (now t) (now x) × FunctionAt (now t) p ⌝ }
     ensures { λ r. ⌜ FunctionFound (now (t .entry)) (functionsBehind (now (t .entry)) p) r ⌝ }
 {
     let v = entry_at(x, child_at(t.len(), p.at, 0));
@@ -159,7 +160,7 @@ pub fn next_function(t: &[u8], x: &[u16], p: Place) -> Found
 
 // Whether a name is one capital letter. The names are the table's first records, of 26 bytes each.
 pub fn is_capital(t: &[u8], x: &[u16], id: u16) -> bool
-    requires { ⌜ Accepted (now t) (now x) ⌝ }
+    requires { ⌜ IndexedTable (now t) (now x) ⌝ }
     ensures { λ r. ⌜ r ≡ symbolsOf (now (t .entry)) .isCapital id ⌝ }
 {
     let names = entry_at(x, 0);

@@ -7,7 +7,7 @@ fn next() -> bool {
     if io::read_full(0, &mut head) < 2 {
         return false;
     }
-    let len = symbol::front::id_at(&head, 0) as usize;
+    let len = ty::id_at(&head, 0) as usize;
     let mut space = io::large_buffer();
     let n = io::read_full(0, &mut space[..len]);
     let mut index = [0u16; 42435];

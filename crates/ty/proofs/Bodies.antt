@@ -1,4 +1,4 @@
--- Laws of bodies: how long they are, and that the bytes behind a kind matter only to the kinds that have a body. Assumes nothing.
+-- Laws of bodies: how long they are, and that the bytes behind a kind matter only to the kinds that have a body.
 use Prim.Native.Nat.{ℕ, _+_, _≤_}
 use borrow.Author.Tests.{eqb-true, ne-eqb}
 use lib.Dec.{eqb, leb}
@@ -8,7 +8,7 @@ use native.Mathlib.Omega.{arith}
 use Rattle.ty.proofs.Choice.{or-cases}
 use Rattle.ty.specs.Choose.{choose}
 use Rattle.ty.specs.Kind.{nullableKind, arrayKind, listKind, namedKind, functionKind, typeVarKind, moduleKind}
-use Rattle.ty.specs.Read.{bodyLength, children, idIn, itemOf}
+use Rattle.ty.specs.Read.{bodyLength, childCount, idIn, itemOf}
 
 pub array-body : (k : ℕ) → eqb k arrayKind ≡ true → bodyLength k ≡ 5
 unfolding bodyLength choose
@@ -47,7 +47,7 @@ same-choose false x x′ y h = refl
 
 pub same-item : (k c c′ : ℕ) (z z′ : Bool) (i i′ next : ℕ) → (eqb k arrayKind ≡ true → c ≡ c′) → (eqb k functionKind ≡ true → c ≡ c′)
     → (eqb k arrayKind ≡ true → z ≡ z′) → (eqb k namedKind || eqb k moduleKind ≡ true → i ≡ i′) → itemOf k c z i next ≡ itemOf k c′ z′ i′ next
-unfolding itemOf children idIn
+unfolding itemOf childCount idIn
 same-item k c c′ z z′ i i′ next p q r t =
     rw (
       same-good (eqb k arrayKind) (eqb k functionKind) c c′ z z′ p q r,

@@ -1,4 +1,4 @@
--- Laws of tests: `choose`, and, or. Assumes nothing.
+-- Laws of tests: `choose`, and, or.
 use borrow.Author.Tests.{eq-eqb, ne-eqb, lt-ltb, le-ltb, le-leb, lt-leb}
 use mathlib.Core.Bool.{Bool, true, false, not, true≢false, false≢true, _&&_, _||_}
 use mathlib.Core.Path.{_≡_, refl, sym, _∙_}

@@ -1,4 +1,4 @@
--- What a type holds is its last bytes, so its length says where it stands. Assumes nothing.
+-- What a type holds is its last bytes, so its length says where it stands.
 use Prim.Native.Nat.{ℕ, zero, suc, _-_}
 use lib.ListN.{length, drop, length-drop}
 use mathlib.Core.List.{List, [], _∷_}

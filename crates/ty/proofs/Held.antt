@@ -1,4 +1,4 @@
--- Laws of what a Nullable, a Pointer, a List or an Array holds: it is shorter, and of a whole type it is a whole type. Assumes nothing.
+-- Laws of what a Nullable, a Pointer, a List or an Array holds: it is shorter, and of a whole type it is a whole type.
 use Prim.Native.Nat.{ℕ, _+_, _-_, _≤_, _<_, min, max}
 use borrow.Author.Tests.{eqb-true, ne-eqb, le-leb}
 use lib.Dec.{eqb}
@@ -12,11 +12,11 @@ use Rattle.ty.proofs.Choice.{by-choice}
 use Rattle.ty.proofs.Laws.{head-any}
 use Rattle.ty.proofs.Moved.{reads-dropped}
 use Rattle.ty.proofs.Reading.{Within, within}
-use Rattle.ty.proofs.Sized.{never-whole}
+use Rattle.ty.proofs.TypeSizes.{never-whole}
 use Rattle.ty.specs.Bytes.{kindOf, isArray, innerOf, nonNull}
 use Rattle.ty.specs.Choose.{choose}
 use Rattle.ty.specs.Kind.{nullableKind, listKind, namedKind, functionKind, mapKind, moduleKind, errorKind, noKind}
-use Rattle.ty.specs.Read.{bodyLength, children, idIn, itemOf, itemAt, stopped, after, readFrom, readType}
+use Rattle.ty.specs.Read.{bodyLength, childCount, idIn, itemOf, itemAt, noEnd, after, readFrom, readType}
 use Rattle.ty.specs.declared.read.Item.the-variants.{Part, Broken, Out}
 use Rattle.ty.specs.declared.read.Item.{Item}
 use Rattle.ty.specs.declared.read.TypeRead.the-variants.{Whole}
@@ -71,8 +71,8 @@ holds-out : (k : ℕ) → Holds k Out
 unfolding Holds
 holds-out k = tt
 
-one-child : (k c : ℕ) → nullableKind ≤ k → k ≤ listKind → children k c ≡ 1
-unfolding children choose
+one-child : (k c : ℕ) → nullableKind ≤ k → k ≤ listKind → childCount k c ≡ 1
+unfolding childCount choose
 one-child k c lo hi = rw (ne-eqb k functionKind (omega arith), ne-eqb k mapKind (omega arith), le-leb nullableKind k lo, le-leb k listKind hi)
 
 no-id : (k i : ℕ) → nullableKind ≤ k → k ≤ listKind → idIn k i ≡ 0
@@ -91,7 +91,7 @@ holds s end k q lo hi =
     (λ _. holds-broken k))
 
 held-from : (f : ℕ) (s : List ℕ) (limit n top k : ℕ) (e : Bool) (r : Item) → Holds k r → Within 0 (min (length s) limit) r
-    → after r (stopped (length s) limit 0 false) (λ next c i e₁. readFrom f s limit next (1 - 1 + c) (max 0 i) (false || e₁)) ≡ Whole n top e
+    → after r (noEnd (length s) limit 0 false) (λ next c i e₁. readFrom f s limit next (1 - 1 + c) (max 0 i) (false || e₁)) ≡ Whole n top e
     → (1 + bodyLength k ≤ min (length s) limit) × (readFrom f s limit (1 + bodyLength k) 1 0 false ≡ Whole n top e)
 unfolding Holds Within
 held-from f s limit n top k e (Part next c i e₁) h w r = (omega arith, rw (h .0, h .1, h .2, h .3) at r)

@@ -1,4 +1,4 @@
--- Laws on parts of lists. Assumes nothing.
+-- Laws on parts of lists.
 use Prim.Native.Nat.{ℕ, zero, suc, _-_, _<_}
 use lib.ListN.{length, getD, take, drop, length-drop, drop-of-length-le}
 use lib.Seq.{take-all, drop-length}

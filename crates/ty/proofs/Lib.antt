@@ -2,9 +2,10 @@ pub mod Choice
 pub mod Laws
 pub mod Same
 pub mod Reading
-pub mod Sized
 pub mod Bodies
 pub mod Moved
 pub mod Held
 pub mod Ends
-pub mod Examples
+pub mod Ids
+pub mod TypeExamples
+pub mod TypeSizes

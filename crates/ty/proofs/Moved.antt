@@ -1,4 +1,4 @@
--- Reading looks at nothing behind the type's end, nor before its start: a whole type is read alike wherever its bytes stand. Assumes nothing.
+-- Reading looks at nothing behind the type's end, nor before its start: a whole type is read alike wherever its bytes stand.
 use Prim.Native.Nat.{ℕ, zero, suc, _+_, _-_, _≤_, _<_, min, max}
 use borrow.Author.Tests.{lt-leb, le-ltb}
 use lib.Dec.{eqb, leb, ltb}
@@ -11,10 +11,10 @@ use native.Mathlib.Omega.{arith}
 use Rattle.ty.proofs.Bodies.{same-item, array-body, function-body, id-body}
 use Rattle.ty.proofs.Choice.{by-choice, chosen, passed}
 use Rattle.ty.proofs.Reading.{Within, within}
-use Rattle.ty.proofs.Sized.{ends-behind, never-whole, whole}
+use Rattle.ty.proofs.TypeSizes.{ends-behind, never-whole, whole}
 use Rattle.ty.specs.Bytes.{idAt}
 use Rattle.ty.specs.Kind.{errorKind}
-use Rattle.ty.specs.Read.{bodyLength, children, goodBody, idIn, itemOf, zeros, itemAt, stopped, after, readFrom, readType}
+use Rattle.ty.specs.Read.{bodyLength, childCount, goodBody, idIn, itemOf, fourZeros, itemAt, noEnd, after, readFrom, readType}
 use Rattle.ty.specs.declared.read.Item.the-variants.{Part, Broken, Out}
 use Rattle.ty.specs.declared.read.Item.{Item}
 use Rattle.ty.specs.declared.read.TypeRead.the-variants.{Whole}
@@ -24,7 +24,7 @@ module _ (s s′ : List ℕ) (n n′ d d′ : ℕ) (q : n + d ≡ n′ + d′) (
   same-id : (i j : ℕ) → i + d ≡ j + d′ → i + 2 ≤ n → idAt s i ≡ idAt s′ j
   same-id i j p h = rw (same i j p (omega arith), same (i + 1) (j + 1) (omega arith) (omega arith))
 
-  same-zeros : (i j : ℕ) → i + d ≡ j + d′ → i + 4 ≤ n → zeros s i ≡ zeros s′ j
+  same-zeros : (i j : ℕ) → i + d ≡ j + d′ → i + 4 ≤ n → fourZeros s i ≡ fourZeros s′ j
   same-zeros i j p h =
       rw (
         same i j p (omega arith),
@@ -35,14 +35,14 @@ module _ (s s′ : List ℕ) (n n′ d d′ : ℕ) (q : n + d ≡ n′ + d′) (
 
   -- the item at the same place
   same-part : (end′ at at′ : ℕ) → n′ ≤ end′ → at + d ≡ at′ + d′ → at + 1 + bodyLength (getD s at 0) ≤ n → ltb errorKind (getD s at 0) ≡ false
-      → itemOf (getD s at 0) (getD s (at + 1) 0) (zeros s (at + 2)) (idAt s (at + 1)) (at′ + 1 + bodyLength (getD s at 0)) ≡ itemAt s′ end′ at′
+      → itemOf (getD s at 0) (getD s (at + 1) 0) (fourZeros s (at + 2)) (idAt s (at + 1)) (at′ + 1 + bodyLength (getD s at 0)) ≡ itemAt s′ end′ at′
   unfolding itemAt
   same-part end′ at at′ w p h k =
       rw (← same at at′ p (omega arith))
       (passed (leb end′ at′) _ Out _ (lt-leb end′ at′ (omega arith))
       (passed (ltb errorKind (getD s at 0)) _ Broken _ k
       (passed (ltb (end′ - (at′ + 1)) (bodyLength (getD s at 0))) _ Out _ (le-ltb (end′ - (at′ + 1)) (bodyLength (getD s at 0)) (omega arith))
-      (same-item (getD s at 0) (getD s (at + 1) 0) (getD s′ (at′ + 1) 0) (zeros s (at + 2)) (zeros s′ (at′ + 2)) (idAt s (at + 1)) (idAt s′ (at′ + 1))
+      (same-item (getD s at 0) (getD s (at + 1) 0) (getD s′ (at′ + 1) 0) (fourZeros s (at + 2)) (fourZeros s′ (at′ + 2)) (idAt s (at + 1)) (idAt s′ (at′ + 1))
       (at′ + 1 + bodyLength (getD s at 0))
       (λ e. let l = array-body (getD s at 0) e in same (at + 1) (at′ + 1) (omega arith) (omega arith))
       (λ e. let l = function-body (getD s at 0) e in same (at + 1) (at′ + 1) (omega arith) (omega arith))
@@ -75,11 +75,11 @@ module _ (s s′ : List ℕ) (n n′ d d′ : ℕ) (q : n + d ≡ n′ + d′) (
       by-choice (Moved end′ at′) _ (λ _. moved-out end′ at′) λ _.
       by-choice (Moved end′ at′) _
       (λ g.
-      moved-part end′ at′ (at + 1 + bodyLength (getD s at 0)) (children (getD s at 0) (getD s (at + 1) 0)) (idIn (getD s at 0) (idAt s (at + 1)))
+      moved-part end′ at′ (at + 1 + bodyLength (getD s at 0)) (childCount (getD s at 0) (getD s (at + 1) 0)) (idIn (getD s at 0) (idAt s (at + 1)))
       (eqb (getD s at 0) errorKind)
       (λ h.
       let l : at + 1 + bodyLength (getD s at 0) + d - d′ ≡ at′ + 1 + bodyLength (getD s at 0) = omega arith in
-      rw (l, ← same-part end′ at at′ w p h k) (chosen (goodBody (getD s at 0) (getD s (at + 1) 0) (zeros s (at + 2))) _ _ Broken g refl)))
+      rw (l, ← same-part end′ at at′ w p h k) (chosen (goodBody (getD s at 0) (getD s (at + 1) 0) (fourZeros s (at + 2))) _ _ Broken g refl)))
       (λ _. moved-broken end′ at′)
 
   module _ (limit limit′ t : ℕ) (e′ : Bool) (w : n′ ≤ min (length s′) limit′) where
@@ -92,8 +92,8 @@ module _ (s s′ : List ℕ) (n n′ d d′ : ℕ) (q : n + d ≡ n′ + d′) (
     onward : (f f′ at at′ p top : ℕ) (e : Bool) (r : Item) → at + d ≡ at′ + d′ → n′ < at′ + suc f′ → Within at (min (length s) limit) r
         → Moved (min (length s′) limit′) at′ r
         → Goes f f′
-        → after r (stopped (length s) limit top e) (λ next c i e₁. readFrom f s limit next (p - 1 + c) (max top i) (e || e₁)) ≡ Whole n t e′
-        → after (itemAt s′ (min (length s′) limit′) at′) (stopped (length s′) limit′ top e)
+        → after r (noEnd (length s) limit top e) (λ next c i e₁. readFrom f s limit next (p - 1 + c) (max top i) (e || e₁)) ≡ Whole n t e′
+        → after (itemAt s′ (min (length s′) limit′) at′) (noEnd (length s′) limit′ top e)
         (λ next c i e₁. readFrom f′ s′ limit′ next (p - 1 + c) (max top i) (e || e₁))
         ≡ Whole n′ t e′
     unfolding Within Moved

@@ -1,4 +1,4 @@
--- Laws of reading a type: an item lies within the end and has few children, and what one turn of the reading does. Assumes nothing.
+-- Laws of reading a type: an item lies within the end and has few children, and what one turn of the reading does.
 use Prim.Native.Nat.{ℕ, zero, suc, _+_, _-_, _≤_, _<_, min, max}
 use borrow.Author.Tests.{leb-true, leb-false, ltb-false, ne-eqb, eq-eqb}
 use lib.Dec.{eqb, leb}
@@ -10,7 +10,7 @@ use native.Mathlib.Omega.{arith}
 use Rattle.ty.proofs.Choice.{by-choice, and-right, or-else}
 use Rattle.ty.specs.Choose.{choose}
 use Rattle.ty.specs.Kind.{arrayKind, functionKind}
-use Rattle.ty.specs.Read.{bodyLength, children, goodBody, itemOf, zeros, itemAt, stopped, after, readFrom, readType}
+use Rattle.ty.specs.Read.{bodyLength, childCount, goodBody, itemOf, fourZeros, itemAt, noEnd, after, readFrom, readType}
 use Rattle.ty.specs.declared.read.Item.the-variants.{Part, Broken, Out}
 use Rattle.ty.specs.declared.read.Item.{Item}
 use Rattle.ty.specs.declared.read.TypeRead.the-variants.{Whole, Malformed}
@@ -21,8 +21,8 @@ Within at end (Part next c i e) = (at < next) × (next ≤ end) × (c ≤ 17)
 Within at end Broken = Unit
 Within at end Out = Unit
 
-few : (k c : ℕ) (z : Bool) → goodBody k c z ≡ true → children k c ≤ 17
-unfolding children
+few : (k c : ℕ) (z : Bool) → goodBody k c z ≡ true → childCount k c ≤ 17
+unfolding childCount
 few k c z g =
     by-choice (λ n. n ≤ 17) (eqb k functionKind)
     (λ e.
@@ -54,7 +54,7 @@ within s end at =
     (λ g.
     let h : at < end = leb-false end at e₁ in
     let k : bodyLength (getD s at 0) ≤ end - (at + 1) = ltb-false (end - (at + 1)) (bodyLength (getD s at 0)) e₂ in
-    part at end _ _ _ _ (omega arith) (omega arith) (few (getD s at 0) (getD s (at + 1) 0) (zeros s (at + 2)) g))
+    part at end _ _ _ _ (omega arith) (omega arith) (few (getD s at 0) (getD s (at + 1) 0) (fourZeros s (at + 2)) g))
     (λ _. broken at end)
 
 -- where the reading stands: what is to be found is what is found from here, and there is fuel for what is left
@@ -70,14 +70,14 @@ starts s limit end q = record { fuel = suc (min (length s) limit); left = omega 
 -- what a turn finds, by the item that stands there
 abbrev pub Turned : List ℕ → ℕ → ℕ → ℕ → ℕ → ℕ → Bool → Item → Type 0
 Turned s limit end at pending top e Broken = readType s limit ≡ Malformed
-Turned s limit end at pending top e Out = readType s limit ≡ stopped (length s) limit top e
+Turned s limit end at pending top e Out = readType s limit ≡ noEnd (length s) limit top e
 Turned s limit end at pending top e (Part next c i e₁) =
     (at < next) × (next ≤ end) × (c ≤ 17) × Going s limit end next (pending - 1 + c) (max top i) (e || e₁)
 
 module _ (s : List ℕ) (limit end at pending top : ℕ) (e : Bool) (q : end ≡ min (length s) limit) (low : at ≤ end) where
   turned : (f : ℕ) → end < at + suc f
       → (r : Item) → Within at end r
-      → readType s limit ≡ after r (stopped (length s) limit top e) (λ next c i e₁. readFrom f s limit next (pending - 1 + c) (max top i) (e || e₁))
+      → readType s limit ≡ after r (noEnd (length s) limit top e) (λ next c i e₁. readFrom f s limit next (pending - 1 + c) (max top i) (e || e₁))
       → Turned s limit end at pending top e r
   unfolding Within
   turned f h (Part next c i e₁) w t = (w .0, w .1, w .2, record { fuel = f; left = omega arith; same = t })

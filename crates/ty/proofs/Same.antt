@@ -1,4 +1,4 @@
--- Laws of `sameBytes`: it is equality of lists, and what a walk over both lists finds. Assumes nothing.
+-- Laws of `sameBytes`: it is equality of lists, and what a walk over both lists finds.
 use Prim.Native.Nat.{ℕ, zero, suc, _≤_, _<_}
 use borrow.Author.Tests.{eq-eqb, ne-eqb, eqb-true}
 use lib.Dec.{eqb}

@@ -1,5 +1,5 @@
 -- What is read off a type's first bytes. A type is its bytes (document 01, "Types as bytes"); each definition holds of any list of bytes.
-use Prim.Native.Nat.{ℕ, _+_, _*_}
+use Prim.Native.Nat.{ℕ, _+_, _*_, _/_, _%_}
 use mathlib.Core.Bool.{Bool, true, false, _&&_, _||_}
 use mathlib.Core.List.{List, [], _∷_}
 use lib.ListN.{getD, drop}
@@ -21,6 +21,10 @@ kindOf s = getD s 0 noKind
 -- the two-byte number at `at`, low byte first
 abbrev pub idAt : List ℕ → ℕ → ℕ
 idAt s at = getD s at 0 + 256 * getD s (at + 1) 0
+
+-- and a number in two bytes
+abbrev pub twoBytes : ℕ → List ℕ
+twoBytes n = n % 256 ∷ n / 256 % 256 ∷ []
 
 -- the name id of a Named or a Module
 abbrev pub nameOf : Ty → ℕ

@@ -3,3 +3,5 @@ pub mod Kind
 pub mod Name
 pub mod Bytes
 pub mod Read
+pub mod Slice
+pub mod Ids

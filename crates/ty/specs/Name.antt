@@ -1,6 +1,7 @@
 -- Ids of names. Document 01, "Types as bytes": the built-in names have fixed numbers, 0 Pair to 39 keys, and table names go on from 40.
 use Prim.Native.Nat.{ℕ, _+_}
-use mathlib.Core.Bool.{Bool}
+use mathlib.Core.Bool.{Bool, true, _&&_}
+use mathlib.Core.List.{List, [], _∷_}
 use lib.Dec.{ltb}
 
 abbrev pub pairId : ℕ
@@ -134,3 +135,8 @@ noId = 65535
 -- an id is defined if it is a built-in name's or that of one of so many table names
 abbrev pub idDefined : ℕ → ℕ → Bool
 idDefined id names = ltb id (firstTableId + names)
+
+-- every id of a list is defined
+unfoldable pub allDefined : List ℕ → ℕ → Bool
+allDefined [] names = true
+allDefined (id ∷ ids) names = idDefined id names && allDefined ids names

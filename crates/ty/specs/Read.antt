@@ -1,7 +1,7 @@
 -- Reading one type from the front of some bytes. Document 01, "Types as bytes" and, of what has no end, "Refused, and by whose doing".
 use Prim.Native.Nat.{ℕ, zero, suc, _+_, _-_, min, max}
 use mathlib.Core.Bool.{Bool, false, not, _&&_, _||_}
-use mathlib.Core.List.{List}
+use mathlib.Core.List.{List, [], _∷_, _++_}
 use lib.ListN.{length, getD}
 use lib.Dec.{ltb, leb, eqb}
 use Rattle.ty.specs.Choose.{choose}
@@ -19,8 +19,8 @@ bodyLength k =
     (choose (eqb k namedKind || eqb k moduleKind) 2 (choose (eqb k typeVarKind) 4 (choose (eqb k functionKind) 1 0)))
 
 -- how many child types, c being the body's first byte: a Function's are its parameters and its result
-unfoldable pub children : ℕ → ℕ → ℕ
-children k c =
+unfoldable pub childCount : ℕ → ℕ → ℕ
+childCount k c =
     choose (eqb k functionKind) (c + 1)
     (choose (eqb k mapKind) 2 (choose (leb nullableKind k && leb k listKind) 1 0))
 
@@ -34,11 +34,11 @@ idIn k i = choose (eqb k namedKind || eqb k moduleKind) i 0
 
 -- a kind k with its body, which ends before next: the body's first byte is c, an Array's size is zero (z), an id is i
 unfoldable pub itemOf : ℕ → ℕ → Bool → ℕ → ℕ → Item
-itemOf k c z i next = choose (goodBody k c z) (Part next (children k c) (idIn k i) (eqb k errorKind)) Broken
+itemOf k c z i next = choose (goodBody k c z) (Part next (childCount k c) (idIn k i) (eqb k errorKind)) Broken
 
 -- the four bytes from `at` on are 0
-abbrev pub zeros : List ℕ → ℕ → Bool
-zeros s at = eqb (getD s at 0) 0 && (eqb (getD s (at + 1) 0) 0 && (eqb (getD s (at + 2) 0) 0 && eqb (getD s (at + 3) 0) 0))
+abbrev pub fourZeros : List ℕ → ℕ → Bool
+fourZeros s at = eqb (getD s at 0) 0 && (eqb (getD s (at + 1) 0) 0 && (eqb (getD s (at + 2) 0) 0 && eqb (getD s (at + 3) 0) 0))
 
 -- the kind with its body that stands at `at`, where only the first `end` bytes are examined
 unfoldable pub itemAt : List ℕ → ℕ → ℕ → Item
@@ -46,11 +46,11 @@ itemAt s end at =
     choose (leb end at) Out
     (choose (ltb errorKind (getD s at 0)) Broken
     (choose (ltb (end - (at + 1)) (bodyLength (getD s at 0))) Out
-    (itemOf (getD s at 0) (getD s (at + 1) 0) (zeros s (at + 2)) (idAt s (at + 1)) (at + 1 + bodyLength (getD s at 0)))))
+    (itemOf (getD s at 0) (getD s (at + 1) 0) (fourZeros s (at + 2)) (idAt s (at + 1)) (at + 1 + bodyLength (getD s at 0)))))
 
 -- no end in the first limit bytes: cut where the bytes themselves end before the limit, else without end
-unfoldable pub stopped : ℕ → ℕ → ℕ → Bool → TypeRead
-stopped len limit top e = choose (ltb len limit) Cut (Endless top e)
+unfoldable pub noEnd : ℕ → ℕ → ℕ → Bool → TypeRead
+noEnd len limit top e = choose (ltb len limit) Cut (Endless top e)
 
 -- goes on behind an item
 abbrev pub after : Item → TypeRead → (ℕ → ℕ → ℕ → Bool → TypeRead) → TypeRead
@@ -63,7 +63,7 @@ unfoldable pub readFrom : ℕ → List ℕ → ℕ → ℕ → ℕ → ℕ → B
 readFrom zero s limit at pending top e = Malformed
 readFrom (suc f) s limit at pending top e =
     choose (eqb pending 0) (Whole at top e)
-    (after (itemAt s (min (length s) limit) at) (stopped (length s) limit top e)
+    (after (itemAt s (min (length s) limit) at) (noEnd (length s) limit top e)
     (λ next c i e₁. readFrom f s limit next (pending - 1 + c) (max top i) (e || e₁)))
 
 -- One type from the front of s, of at most limit bytes. Each step takes at least a byte, so this many steps are enough.

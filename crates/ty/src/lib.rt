@@ -3,6 +3,7 @@ pub mod name;
 pub mod read;
 
 ghost use mathlib.Core.Path.{_≡_};
+ghost use Prim.Native.Nat.{max};
 ghost use lib.ListN.{drop, getD};
 ghost use Rattle.ty.specs.Bytes.{kindOf, idAt, nameOf, isNumeric, isInteger, isBoolean, isNullable, isString, isArray, nonNull, innerOf, sameBytes};
 pub use name::NameId;
@@ -65,11 +66,25 @@ pub fn byte_at(s: &[u8], i: usize) -> u8
     if i < s.len() { s[i] } else { 0 }
 }
 
+// The higher of two ids.
+pub fn highest(a: u16, b: u16) -> u16
+    ensures { λ r. ⌜ r ≡ max a b ⌝ }
+{
+    if a < b { b } else { a }
+}
+
 // The bytes from n on, and none where there are fewer.
 pub fn tail(s: &[u8], n: usize) -> &[u8]
     ensures { λ r. ⌜ now r ≡ drop n (now (s .entry)) ⌝ }
 {
     if n <= s.len() { &s[n..] } else { &s[s.len()..] }
+}
+
+// The two-byte number at i, low byte first, with 0 for each byte past the end.
+pub fn id_at(s: &[u8], i: usize) -> u16
+    ensures { λ r. ⌜ r ≡ idAt (now (s .entry)) i ⌝ }
+{
+    byte_at(s, i) as u16 + 256 * (byte_at(tail(s, 1), i) as u16)
 }
 
 // The kind of a type, and 255 where there is no byte.
@@ -83,7 +98,7 @@ pub fn kind_of(s: &[u8]) -> u8
 pub fn name_of(s: &[u8]) -> u16
     ensures { λ r. ⌜ r ≡ nameOf (now (s .entry)) ⌝ }
 {
-    byte_at(s, 1) as u16 + 256 * (byte_at(s, 2) as u16)
+    id_at(s, 1)
 }
 
 pub fn is_nullable(s: &[u8]) -> bool

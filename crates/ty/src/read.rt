@@ -1,10 +1,11 @@
 // Reading one type from the front of some bytes.
 use crate::Kind;
 use crate::byte_at;
+use crate::highest;
+use crate::id_at;
 ghost use mathlib.Core.Path.{_≡_};
-ghost use Prim.Native.Nat.{_≤_, min, max};
-ghost use Rattle.ty.specs.Bytes.{idAt};
-ghost use Rattle.ty.specs.Read.{bodyLength, children as childrenOf, goodBody, idIn, itemOf, zeros as zerosAt, itemAt, readType, stopped as stoppedAt};
+ghost use Prim.Native.Nat.{_≤_, min};
+ghost use Rattle.ty.specs.Read.{bodyLength, childCount, goodBody, idIn, itemOf, fourZeros, itemAt, readType, noEnd};
 
 // What reading a type finds. `top` is the highest id that was examined, 0 for none; `error` says whether Error was.
 pub enum TypeRead {
@@ -37,12 +38,6 @@ fn least(a: usize, b: usize) -> usize
     if a < b { a } else { b }
 }
 
-fn highest(a: u16, b: u16) -> u16
-    ensures { λ r. ⌜ r ≡ max a b ⌝ }
-{
-    if a < b { b } else { a }
-}
-
 fn body_length(k: u8) -> usize
     ensures { λ r. ⌜ r ≡ bodyLength k ⌝ }
 {
@@ -61,8 +56,8 @@ fn body_length(k: u8) -> usize
     0
 }
 
-fn children(k: u8, c: u8) -> usize
-    ensures { λ r. ⌜ r ≡ childrenOf k c ⌝ }
+fn child_count(k: u8, c: u8) -> usize
+    ensures { λ r. ⌜ r ≡ childCount k c ⌝ }
 {
     if k == Kind::FUNCTION {
         return c as usize + 1;
@@ -98,7 +93,7 @@ fn judged(k: u8, c: u8, z: bool, i: u16, next: usize) -> Item
     if good_body(k, c, z) {
         Item::Part {
             next,
-            children: children(k, c),
+            children: child_count(k, c),
             id: id_in(k, i),
             error: k == Kind::ERROR,
         }
@@ -107,19 +102,12 @@ fn judged(k: u8, c: u8, z: bool, i: u16, next: usize) -> Item
     }
 }
 
-fn zeros(s: &[u8], at: usize) -> bool
+fn four_zeros(s: &[u8], at: usize) -> bool
     requires { ⌜ at ≤ 65537 ⌝ }
-    ensures { λ r. ⌜ r ≡ zerosAt (now (s .entry)) at ⌝ }
+    ensures { λ r. ⌜ r ≡ fourZeros (now (s .entry)) at ⌝ }
 {
     (byte_at(s, at) == 0)
         & ((byte_at(s, at + 1) == 0) & ((byte_at(s, at + 2) == 0) & (byte_at(s, at + 3) == 0)))
-}
-
-fn id_at(s: &[u8], at: usize) -> u16
-    requires { ⌜ at ≤ 65537 ⌝ }
-    ensures { λ r. ⌜ r ≡ idAt (now (s .entry)) at ⌝ }
-{
-    byte_at(s, at) as u16 + 256 * (byte_at(s, at + 1) as u16)
 }
 
 // The kind with its body at `at`, within the first `end` bytes.
@@ -141,15 +129,15 @@ fn item_at(s: &[u8], end: usize, at: usize) -> Item
     judged(
         k,
         byte_at(s, at + 1),
-        zeros(s, at + 2),
+        four_zeros(s, at + 2),
         id_at(s, at + 1),
         at + 1 + n,
     )
 }
 
 // What is found where the type does not end within the limit.
-fn stopped(len: usize, limit: usize, top: u16, error: bool) -> TypeRead
-    ensures { λ r. ⌜ r ≡ stoppedAt len limit top error ⌝ }
+fn no_end(len: usize, limit: usize, top: u16, error: bool) -> TypeRead
+    ensures { λ r. ⌜ r ≡ noEnd len limit top error ⌝ }
 {
     if len < limit {
         TypeRead::Cut
@@ -176,7 +164,7 @@ pub fn read_type(s: &[u8], limit: u16) -> TypeRead
                 return TypeRead::Malformed;
             }
             Item::Out => {
-                return stopped(len, cap, top, error);
+                return no_end(len, cap, top, error);
             }
             Item::Part {
                 next,

@@ -1,4 +1,4 @@
--- A judgement with no diagnostic and no Error is a typing. Assumes nothing.
+-- A judgement with no diagnostic and no Error is a typing.
 use Prim.Native.Nat.{ℕ, suc}
 use mathlib.Core.Bool.{true}
 use mathlib.Core.List.{List, [], _∷_, _++_, nil≢cons}
@@ -7,20 +7,20 @@ use mathlib.Core.Option.{Option, none, some}
 use mathlib.Core.Path.{_≡_, refl, sym, _∙_}
 use native.Mathlib.Omega.{arith}
 use Rattle.area.specs.Diagnostic.{Diag}
-use Rattle.overload.proofs.Lists.{append-nil-left, append-nil-right, some≢none}
-use Rattle.overload.specs.Arg.{Arg}
+use Rattle.scoring.proofs.NoneAndNil.{append-nil-left, append-nil-right, some≢none}
+use Rattle.scoring.specs.Arg.{Arg}
 use Rattle.overload.specs.Resolve.{resolve}
-use Rattle.question.specs.Tree.{Node, Row, after, afters, binary, call, cons, leaf, member, method, named, nil, unary}
+use Rattle.question.specs.Tree.{Node, Row, numberAfter, numberAfterRow, binary, call, cons, leaf, member, method, named, nil, unary}
 use Rattle.question.specs.declared.Header.{Header}
-use Rattle.rules.specs.Binary.{binaryOut}
-use Rattle.rules.specs.Diag.{at}
+use Rattle.operators.specs.Binary.{binaryOut}
+use Rattle.operators.specs.Diag.{reportedAt as at}
 use Rattle.rules.specs.Member.{memberOut}
-use Rattle.rules.specs.Out.{Out, Report, anyTy, clean, errorTy, found}
-use Rattle.rules.specs.Unary.{unaryOut}
+use Rattle.operators.specs.Out.{Out, Report, anyTy, clean, errorTy, found}
+use Rattle.operators.specs.Unary.{unaryOut}
 use Rattle.symbol.specs.Symbols.{Symbols}
 use Rattle.ty.specs.Bytes.{Ty}
 use Rattle.typing.proofs.Base.{noError-left, noError-right, noError-one-real, Within, within-join, within-wide, Same, same-left, same-right, same-here, same-under}
-use Rattle.typing.proofs.Calls.{Silent, call-law, list-law, method-law}
+use Rattle.typing.proofs.CleanCalls.{Silent, call-law, list-law, method-law}
 use Rattle.typing.proofs.Range.{within-empty, node-within, row-within}
 use Rattle.typing.proofs.Structural.{Has, NoCall, RowTyped, Typed, Unvisited, WithArgs}
 use Rattle.typing.specs.Callee.{Callee, callOf, methodOf}
@@ -120,15 +120,15 @@ module _ (S : Symbols) (τ : Choice) where
 
 module _ (S : Symbols) (H : Header) (τ : Choice) where
   mutual
-    unfolding judge Typed after
+    unfolding judge Typed numberAfter
 
-    pub back : (x : Node) (n : ℕ) → Passed τ (judge S H x n .diags) (judge S H x n .typed) n (after x n) → Typed S H τ x n (judge S H x n .ty)
+    pub back : (x : Node) (n : ℕ) → Passed τ (judge S H x n .diags) (judge S H x n .typed) n (numberAfter x n) → Typed S H τ x n (judge S H x n .ty)
     back (leaf t) n p = (done-has τ t [] [] (within-empty (omega arith)) p, refl)
     back (binary op l r) n p =
         let a = judge S H l (suc n) in
-        let b = judge S H r (after l (suc n)) in
+        let b = judge S H r (numberAfter l (suc n)) in
         let w = node-within S H l (suc n) in
-        let v = node-within S H r (after l (suc n)) in
+        let v = node-within S H r (numberAfter l (suc n)) in
         let wv = within-join (a .typed) (b .typed) w v in
         let o = binaryOut S op (a .ty) (b .ty) in
         let u = closed-under τ o (a .typed ++ b .typed) (a .diags ++ b .diags) wv p in (
@@ -137,7 +137,7 @@ module _ (S : Symbols) (H : Header) (τ : Choice) where
             lt = a .ty;
             rt = b .ty;
             left = back l (suc n) (both-left τ (a .diags) (b .diags) (a .typed) (b .typed) v u);
-            right = back r (after l (suc n)) (both-right τ (a .diags) (b .diags) (a .typed) (b .typed) w u);
+            right = back r (numberAfter l (suc n)) (both-right τ (a .diags) (b .diags) (a .typed) (b .typed) w u);
             rule = closed-rule τ o (a .typed ++ b .typed) (a .diags ++ b .diags) p;
           },
         )
@@ -159,20 +159,20 @@ module _ (S : Symbols) (H : Header) (τ : Choice) where
         call-back S τ (callOf S H id) (judges S H r (suc n)) _ (CleanCall S H id) (row-within S H r (suc n)) (λ q. row-back r (suc n) q) (λ xs T h. call-law S H id n xs T h .1) p
     back (method id x r) n p =
         let t = judge S H x (suc n) .ty in
-        let (h, o, c) = method-back S τ (methodOf S H id t) (judge S H x (suc n)) (judges S H r (after x (suc n))) (Typed S H τ x (suc n) t) (HasList S id t) (RowTyped S H τ r (after x (suc n))) (CleanMethod S H id t)
-        (node-within S H x (suc n)) (row-within S H r (after x (suc n))) (λ q. back x (suc n) q) (λ q. row-back r (after x (suc n)) q)
+        let (h, o, c) = method-back S τ (methodOf S H id t) (judge S H x (suc n)) (judges S H r (numberAfter x (suc n))) (Typed S H τ x (suc n) t) (HasList S id t) (RowTyped S H τ r (numberAfter x (suc n))) (CleanMethod S H id t)
+        (node-within S H x (suc n)) (row-within S H r (numberAfter x (suc n))) (λ q. back x (suc n) q) (λ q. row-back r (numberAfter x (suc n)) q)
         (λ xs T g. method-law S H id n t xs T g .1) (λ e l. some≢none (sym (list-law S H id t .0 l .1) ∙ e)) p in
         (h, record { ot = t; object = o; rule = c })
 
-    pub row-back : (r : Row) (n : ℕ) → Passed τ (judges S H r n .diags) (judges S H r n .typed) n (afters r n) → RowTyped S H τ r n (judges S H r n .args)
+    pub row-back : (r : Row) (n : ℕ) → Passed τ (judges S H r n .diags) (judges S H r n .typed) n (numberAfterRow r n) → RowTyped S H τ r n (judges S H r n .args)
     row-back nil n p = refl
     row-back (cons x r) n p =
         let a = judge S H x n in
-        let b = judges S H r (after x n) in
+        let b = judges S H r (numberAfter x n) in
         record {
           ty = a .ty;
           rest = b .args;
           are = refl;
-          first = back x n (both-left τ (a .diags) (b .diags) (a .typed) (b .typed) (row-within S H r (after x n)) p);
-          others = row-back r (after x n) (both-right τ (a .diags) (b .diags) (a .typed) (b .typed) (node-within S H x n) p);
+          first = back x n (both-left τ (a .diags) (b .diags) (a .typed) (b .typed) (row-within S H r (numberAfter x n)) p);
+          others = row-back r (numberAfter x n) (both-right τ (a .diags) (b .diags) (a .typed) (b .typed) (node-within S H x n) p);
         }

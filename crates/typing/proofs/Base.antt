@@ -1,4 +1,4 @@
--- Small facts: tests, types, lists of given types over ranges of numbers. Assumes nothing.
+-- Small facts: tests, types, lists of given types over ranges of numbers.
 use Prim.Native.Nat.{ℕ, suc, _≤_, _<_}
 use borrow.Author.Tests.{eq-eqb, ne-eqb, ltb-true, ltb-false}
 use lib.Dec.{eqb, ltb}
@@ -9,9 +9,9 @@ use mathlib.Core.Option.{Option, none, some}
 use mathlib.Core.Path.{_≡_, refl, ap, sym, _∙_, subst}
 use native.Mathlib.Omega.{arith}
 use Rattle.area.specs.Diagnostic.{Diag}
-use Rattle.overload.proofs.Lists.{some≢none}
-use Rattle.rules.specs.Diag.{at}
-use Rattle.rules.specs.Out.{errorTy}
+use Rattle.operators.specs.Diag.{reportedAt as at}
+use Rattle.scoring.proofs.NoneAndNil.{some≢none}
+use Rattle.operators.specs.Out.{errorTy}
 use Rattle.ty.proofs.Choice.{and-left, and-right}
 use Rattle.ty.proofs.Same.{ne-differ, same-refl}
 use Rattle.ty.specs.Bytes.{Ty, sameBytes}

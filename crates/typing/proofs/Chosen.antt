@@ -1,4 +1,4 @@
--- The fold over the fitting overloads finds the winner, if there is just one. Assumes nothing.
+-- The fold over the fitting overloads finds the winner, if there is just one.
 use Prim.Native.Nat.{ℕ, suc, _≤_, _<_}
 use borrow.Author.Tests.{eqb-true, eqb-false, ne-eqb, ltb-true, ltb-false, lt-ltb, le-ltb}
 use lib.Dec.{eqb, ltb}
@@ -8,11 +8,11 @@ use mathlib.Core.Logic.{_≢_, _⊎_, inl, inr}
 use mathlib.Core.Option.{Option, none, some}
 use mathlib.Core.Path.{_≡_, refl, ap, sym, _∙_, subst}
 use native.Mathlib.Omega.{arith}
-use Rattle.overload.proofs.Lists.{some≢none}
-use Rattle.overload.specs.Arg.{Arg}
+use Rattle.scoring.proofs.NoneAndNil.{some≢none}
+use Rattle.scoring.specs.Arg.{Arg}
 use Rattle.overload.specs.Best.{Best, best, better, chosen, nobody}
-use Rattle.overload.specs.Score.{score}
-use Rattle.rules.specs.Diag.{at}
+use Rattle.scoring.specs.Score.{score}
+use Rattle.operators.specs.Diag.{reportedAt as at}
 use Rattle.symbol.specs.Symbols.{Overload, Symbols}
 use Rattle.ty.specs.Choose.{choose}
 use Rattle.typing.proofs.Base.{some-inj}

@@ -1,4 +1,4 @@
--- Demand 1. Assumes nothing.
+-- Demand 1.
 use Prim.Native.Nat.{ℕ, _*_, _≤_, _<_}
 use borrow.Author.Tests.{eq-eqb, ne-eqb, eqb-true, eqb-false, ltb-true, ltb-false, lt-ltb}
 use lib.Dec.{eqb, ltb}
@@ -9,8 +9,8 @@ use mathlib.Core.Logic.{_≢_, _↔_}
 use mathlib.Core.Path.{_≡_, refl, ap, sym, _∙_}
 use native.Mathlib.Omega.{arith}
 use Rattle.area.specs.Diagnostic.{recordLength}
-use Rattle.question.specs.Refused.{questionFault}
-use Rattle.symbol.specs.Refused.{tableFault}
+use Rattle.question.specs.QuestionRefused.{questionFault}
+use Rattle.record.specs.TableRefused.{tableFault}
 use Rattle.ty.specs.Choose.{choose}
 use Rattle.typing.proofs.Answers.{no-fault, answer-judged}
 use Rattle.typing.proofs.Numbers.{table-upto, question-upto}

@@ -1,4 +1,4 @@
--- Demand 3, for every table and question in bytes that are accepted, whatever buffer is lent. Assumes nothing.
+-- Demand 3, for every table and question in bytes that are accepted, whatever buffer is lent.
 use Rattle.question.proofs.Accepted.{accepted, accepted-fits}
 use Rattle.typing.proofs.Answers.{no-fault}
 use Rattle.typing.proofs.Promise.{promise}

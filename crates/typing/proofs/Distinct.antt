@@ -1,24 +1,25 @@
 -- In an accepted table no two parameters of a function have one name, so that an unnamed argument is compared with the first parameter that no argument names.
--- Assumes nothing.
+--
 use Prim.Native.Nat.{ℕ}
 use borrow.Author.Tests.{ne-eqb}
 use mathlib.Core.List.{List, [], _∷_, List·Memᴰ, List·Memᴰ·cases-cons, List·Memᴰ·not-nil}
 use mathlib.Core.Logic.{_⊎_, inl, inr}
 use mathlib.Core.Option.{none}
 use mathlib.Core.Path.{_≡_, refl}
-use Rattle.overload.proofs.Free.{free-unnamed}
-use Rattle.overload.specs.Arg.{Arg}
-use Rattle.overload.specs.Score.{paramOf, free}
-use Rattle.overload.specs.Unnamed.{firstUnnamed, NamesDiffer}
-use Rattle.symbol.proofs.Goods.{Every, FunctionGood, functions-good}
+use Rattle.scoring.proofs.FirstUnnamed.{free-unnamed}
+use Rattle.scoring.specs.Arg.{Arg}
+use Rattle.scoring.specs.Score.{paramNamed, free}
+use Rattle.scoring.specs.Unnamed.{firstUnnamed, NamesDiffer}
+use Rattle.record.proofs.EveryRecord.{Every}
+use Rattle.symbol.proofs.AcceptedTable.{FunctionGood, functions-good}
 use Rattle.symbol.proofs.Names.{Absent, Distinct}
 use Rattle.symbol.specs.Lookup.{symbolsOf}
-use Rattle.symbol.specs.Refused.{tableFault}
+use Rattle.record.specs.TableRefused.{tableFault}
 use Rattle.symbol.specs.Symbols.{Param, Overload}
 use Rattle.ty.specs.Choose.{choose}
 
-absent-none : (id : ℕ) (ps : List Param) → Absent id ps → paramOf id ps ≡ none
-unfolding paramOf choose
+absent-none : (id : ℕ) (ps : List Param) → Absent id ps → paramNamed id ps ≡ none
+unfolding paramNamed choose
 absent-none id [] a = refl
 absent-none id (p ∷ ps) a = rw (ne-eqb (p .name) id (a .0)) (absent-none id ps (a .1))
 

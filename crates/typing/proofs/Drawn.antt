@@ -1,47 +1,14 @@
--- Each number from 1 to 12 is drawn: a table and a question in bytes for each. Document 01, "Refused, and by whose doing". Assumes nothing.
+-- Each number from 1 to 12 is drawn: a table and a question in bytes for each. Document 01, "Refused, and by whose doing".
 use Prim.Native.Nat.{ℕ, zero, suc, _<_}
 use lib.ListN.{length, replicate, length-replicate}
 use mathlib.Core.List.{List, [], _∷_, _++_}
 use mathlib.Core.Path.{_≡_, refl, _∙_}
 use native.Mathlib.Omega.{arith}
-use Rattle.area.specs.Diagnostic.{recordOf, records}
-use Rattle.area.specs.Padding.{padded}
-use Rattle.overload.specs.Arity.{anyOwn, own, usable, required, endsVararg, fits, fitting}
-use Rattle.overload.specs.Before.{suspendReport}
-use Rattle.overload.specs.Best.{better, chosen}
-use Rattle.overload.specs.ByIndex.{absent, unknownOne, unknowns, allUnknown, mismatchOne, mismatches}
-use Rattle.overload.specs.Resolve.{noneFits, tieReport, settle, resolveIn, resolve}
-use Rattle.overload.specs.Score.{paramOf, placeOf, markAt, markOne, marksFrom, unmarkedFrom, plus as plus·, compared, comparedWith, namedOne, namedScore, unnamedOne, unnamedScore, score}
-use Rattle.question.specs.Header.{headerOf}
-use Rattle.question.specs.Parse.{first as first·, rest as rest·, takeRow, dropRow, onto, rowAt, treeOf}
-use Rattle.question.specs.Read.{leafOf, nodeOf, nodeIn, nodeAt, ownBytes, children as children·question}
-use Rattle.question.specs.Refused.{headerFault, idFault, endlessFault, nodeFault, moreFault, endFault, nodesFault, treeFault, questionFault}
-use Rattle.question.specs.Tree.{after, nameOf}
-use Rattle.rules.specs.Accept.{paramAccepts}
-use Rattle.rules.specs.Access.{blocked, accessReport}
-use Rattle.rules.specs.Assign.{assignRule, assignIn, canAssign}
-use Rattle.rules.specs.Binary.{addOut, arithmeticOut, operatorOut, builtinBinary, binaryOut}
-use Rattle.rules.specs.Diag.{at as at·}
-use Rattle.rules.specs.Member.{variableMember, pairMember, collectionMember, stringMember, elementMember, mapMember, firstFunction, fieldOr, classMember, namedMember, kindMember, visibilityReport, memberReport, baseMember, memberOut}
-use Rattle.rules.specs.OperatorMethod.{firstResult, atClass, climb, operatorReturn}
-use Rattle.rules.specs.Out.{unless, found as found·}
-use Rattle.rules.specs.Unary.{unaryOf, unaryOut}
-use Rattle.symbol.specs.Front.{plainHead, orNone, goodByte, goodBytes, nameHead, classHead, operatorsHead, among, paramStep, runParams, paramsRead, functionWith, functionHead, fieldHead, visibilityHead, suspendHead, variantHead, headBy, headOf}
-use Rattle.symbol.specs.Lookup.{recordsWith, typeLength, paramsFrom, overloadOf, namesIn, capitalIn, symbolsIn}
-use Rattle.symbol.specs.Refused.{sameKey, hasKey, hasClass, superLate, recordFault, faultFrom, tableFault}
-use Rattle.symbol.specs.Spelling.{builtinNames, spelled}
-use Rattle.symbol.specs.Subclass.{climbs, isSubclass}
-use Rattle.symbol.specs.Table.{recordsFrom, countOf}
-use Rattle.ty.specs.Bytes.{innerOf, nonNull, sameBytes}
-use Rattle.ty.specs.Choose.{choose}
-use Rattle.ty.specs.Read.{bodyLength, children, idIn, itemOf, itemAt, stopped, readFrom, readType}
+use Rattle.record.specs.TableRefused.{tableFault}
+use Rattle.typing.proofs.Computed.{computed}
 use Rattle.typing.proofs.Demand1.{demand1, longer}
 use Rattle.typing.proofs.Samples.{letter, class, noSuper, function, script, leaf, unary, int, error, namedClass}
-use Rattle.typing.specs.Answer.{faultOf, answered, answerOf, bufferOf}
-use Rattle.typing.specs.Answer.{zeros}
-use Rattle.typing.specs.Callee.{baseName, callIn, methodIn, methodBy}
-use Rattle.typing.specs.Judge.{callStep, methodStep, judge}
-use Rattle.typing.specs.Mark.{noError, noDiag, passes}
+use Rattle.typing.specs.Answer.{answerOf, zeros}
 
 -- n times address-of, before a tree
 pointers : ℕ → List ℕ → List ℕ
@@ -91,7 +58,7 @@ pub record Drawn : Type 0 where
   twelve : answerOf [] (script (unary 6 (leaf int))) 4 .number ≡ 12
 
 pub drawn : Drawn
-unfolding pointers innerOf nonNull sameBytes choose bodyLength children idIn itemOf itemAt stopped readFrom readType plainHead orNone goodByte goodBytes nameHead classHead operatorsHead among paramStep runParams paramsRead functionWith functionHead fieldHead visibilityHead suspendHead variantHead headBy headOf recordsWith typeLength paramsFrom overloadOf namesIn capitalIn symbolsIn sameKey hasKey hasClass superLate recordFault faultFrom tableFault builtinNames spelled climbs isSubclass recordsFrom countOf headerOf first· rest· takeRow dropRow onto rowAt treeOf leafOf nodeOf nodeIn nodeAt ownBytes children·question headerFault idFault endlessFault nodeFault moreFault endFault nodesFault treeFault questionFault after nameOf recordOf records padded paramAccepts blocked accessReport assignRule assignIn canAssign addOut arithmeticOut operatorOut builtinBinary binaryOut at· variableMember pairMember collectionMember stringMember elementMember mapMember firstFunction fieldOr classMember namedMember kindMember visibilityReport memberReport baseMember memberOut firstResult atClass climb operatorReturn unless found· unaryOf unaryOut anyOwn own usable required endsVararg fits fitting suspendReport better chosen absent unknownOne unknowns allUnknown mismatchOne mismatches noneFits tieReport settle resolveIn resolve paramOf placeOf markAt markOne marksFrom unmarkedFrom plus· compared comparedWith namedOne namedScore unnamedOne unnamedScore score faultOf answered answerOf bufferOf baseName callIn methodIn methodBy callStep methodStep judge noError noDiag passes
+unfolding pointers computed
 drawn = record {
   one = over 60001 [] (omega arith);
   two = refl;

@@ -1,4 +1,4 @@
--- A typing's tree is judged with no diagnostic and no Error, and to the typing's types. Assumes nothing.
+-- A typing's tree is judged with no diagnostic and no Error, and to the typing's types.
 use Prim.Native.Nat.{ℕ, suc, _≤_, _<_}
 use mathlib.Core.Bool.{true}
 use mathlib.Core.List.{List, [], _∷_, _++_}
@@ -7,18 +7,17 @@ use mathlib.Core.Option.{Option, none, some}
 use mathlib.Core.Path.{_≡_, refl, ap, sym, _∙_, subst}
 use native.Mathlib.Omega.{arith}
 use Rattle.area.specs.Diagnostic.{Diag}
-use Rattle.overload.proofs.Lists.{append-nils, some≢none}
-use Rattle.overload.specs.Arg.{Arg, Verdict, silent}
+use Rattle.scoring.proofs.NoneAndNil.{append-nils, some≢none}
+use Rattle.scoring.specs.Arg.{Arg, Verdict, silent}
 use Rattle.overload.specs.Resolve.{resolve}
-use Rattle.question.specs.Tree.{Node, Row, after, afters, binary, call, cons, leaf, member, method, nameOf, named, nil, unary}
+use Rattle.question.specs.Tree.{Node, Row, numberAfter, numberAfterRow, binary, call, cons, leaf, member, method, argumentName, named, nil, unary}
 use Rattle.question.specs.declared.Header.{Header}
-use Rattle.rules.specs.Diag.{at}
-use Rattle.rules.specs.Out.{Out, Report, anyTy, clean, found}
+use Rattle.operators.specs.Diag.{reportedAt as at}
+use Rattle.operators.specs.Out.{Out, Report, anyTy, clean, found}
 use Rattle.symbol.specs.Symbols.{Symbols}
 use Rattle.ty.specs.Bytes.{Ty}
-use Rattle.typing.proofs.Base.{noError-append, noError-one, Within, within-join, within-wide, Same, same-join, same-done, split}
-use Rattle.typing.proofs.Base.{some-inj}
-use Rattle.typing.proofs.Calls.{Silent, call-law, list-law, method-law}
+use Rattle.typing.proofs.Base.{noError-append, noError-one, Within, within-join, within-wide, Same, same-join, same-done, split, some-inj}
+use Rattle.typing.proofs.CleanCalls.{Silent, call-law, list-law, method-law}
 use Rattle.typing.proofs.Range.{within-empty, node-within, row-within}
 use Rattle.typing.proofs.Structural.{Has, NoCall, RowTyped, Typed, Unvisited, WithArgs}
 use Rattle.typing.specs.Callee.{Callee, callOf, methodOf}
@@ -113,15 +112,15 @@ module _ (S : Symbols) (τ : Choice) where
 
 module _ (S : Symbols) (H : Header) (τ : Choice) where
   mutual
-    unfolding judge Typed after
+    unfolding judge Typed numberAfter
 
-    pub forward : (x : Node) (n : ℕ) (T : Ty) → Typed S H τ x n T → Agrees τ (judge S H x n) n (after x n) T
+    pub forward : (x : Node) (n : ℕ) (T : Ty) → Typed S H τ x n T → Agrees τ (judge S H x n) n (numberAfter x n) T
     forward (leaf t) n T (h, p) = done-agrees τ t [] [] h (sym p) refl (within-empty (omega arith)) noError-nil (λ k a b. absurd (omega arith))
     forward (binary op l r) n T (h, c) =
         let a = forward l (suc n) (c .lt) (c .left) in
-        let b = forward r (after l (suc n)) (c .rt) (c .right) in
+        let b = forward r (numberAfter l (suc n)) (c .rt) (c .right) in
         let w = node-within S H l (suc n) in
-        let v = node-within S H r (after l (suc n)) in
+        let v = node-within S H r (numberAfter l (suc n)) in
         closed-agrees τ _ _ _ h (rw (a .isTy, b .isTy) (c .rule)) (append-nils (a .quiet) (b .quiet)) (within-join _ _ w v) (noError-append _ _ (a .good) (b .good)) (same-join τ _ _ w v (a .same) (b .same))
     forward (unary op x) n T (h, c) =
         let a = forward x (suc n) (c .ot) (c .operand) in
@@ -138,18 +137,18 @@ module _ (S : Symbols) (H : Header) (τ : Choice) where
         let a = forward x (suc n) (c .ot) (c .object) in
         let t = judge S H x (suc n) .ty in
         let p : t ≡ c .ot = a .isTy in
-        method-agrees S τ (methodOf S H id t) _ _ (c .ot) _ _ _ (node-within S H x (suc n)) (row-within S H r (after x (suc n))) a (λ xs z. row-forward r (after x (suc n)) xs z)
+        method-agrees S τ (methodOf S H id t) _ _ (c .ot) _ _ _ (node-within S H x (suc n)) (row-within S H r (numberAfter x (suc n))) a (λ xs z. row-forward r (numberAfter x (suc n)) xs z)
         (λ xs. method-law S H id n t xs T (h .real) .0) (λ k e. list-law S H id t .1 (k, e)) h
-        (subst (λ (u : Ty). WithArgs (λ xs. CleanMethod S H id u xs T) (RowTyped S H τ r (after x (suc n))) ⊎ NoCall (HasList S id u) (Unvisited τ (after x (suc n)) (afters r (after x (suc n)))) T) (sym p) (c .rule))
+        (subst (λ (u : Ty). WithArgs (λ xs. CleanMethod S H id u xs T) (RowTyped S H τ r (numberAfter x (suc n))) ⊎ NoCall (HasList S id u) (Unvisited τ (numberAfter x (suc n)) (numberAfterRow r (numberAfter x (suc n)))) T) (sym p) (c .rule))
 
-    pub row-forward : (r : Row) (n : ℕ) (xs : List Arg) → RowTyped S H τ r n xs → RowAgrees τ (judges S H r n) n (afters r n) xs
+    pub row-forward : (r : Row) (n : ℕ) (xs : List Arg) → RowTyped S H τ r n xs → RowAgrees τ (judges S H r n) n (numberAfterRow r n) xs
     row-forward nil n xs c = record { isArgs = sym c; quiet = refl; good = noError-nil; same = λ k a b. absurd (omega arith) }
     row-forward (cons x r) n xs c =
         let a = forward x n (c .ty) (c .first) in
-        let b = row-forward r (after x n) (c .rest) (c .others) in
+        let b = row-forward r (numberAfter x n) (c .rest) (c .others) in
         record {
-          isArgs = (λ i. record { name = nameOf x; ty = a .isTy i; node = n } ∷ b .isArgs i) ∙ sym (c .are);
+          isArgs = (λ i. record { name = argumentName x; ty = a .isTy i; node = n } ∷ b .isArgs i) ∙ sym (c .are);
           quiet = append-nils (a .quiet) (b .quiet);
           good = noError-append _ _ (a .good) (b .good);
-          same = same-join τ _ _ (node-within S H x n) (row-within S H r (after x n)) (a .same) (b .same);
+          same = same-join τ _ _ (node-within S H x n) (row-within S H r (numberAfter x n)) (a .same) (b .same);
         }

@@ -1,14 +1,14 @@
--- The bound on types: a node's type has at most 192 bytes and one for each node of its tree. Assumes nothing.
+-- The bound on types: a node's type has at most 192 bytes and one for each node of its tree.
 use Prim.Native.Nat.{ℕ, suc, _+_, _≤_}
 use lib.ListN.{length}
 use mathlib.Core.List.{List}
 use mathlib.Core.Option.{Option, none, some}
 use mathlib.Core.Path.{_≡_, refl}
 use native.Mathlib.Omega.{arith}
-use Rattle.overload.specs.Arg.{Arg}
+use Rattle.scoring.specs.Arg.{Arg}
 use Rattle.overload.specs.Resolve.{resolve}
 use Rattle.question.proofs.Trees.{some-size}
-use Rattle.question.specs.Tree.{Node, leaf, binary, unary, named, member, call, method, after, size, LeavesFit}
+use Rattle.question.specs.Tree.{Node, leaf, binary, unary, named, member, call, method, numberAfter, size, LeavesFit}
 use Rattle.question.specs.declared.Header.{Header}
 use Rattle.symbol.specs.Symbols.{Symbols}
 use Rattle.ty.specs.Read.{longestType}
@@ -35,8 +35,8 @@ module _ (S : Symbols) (fit : SymbolsFit S) (H : Header) where
   unfolding judge size LeavesFit
   type-short (leaf t) n f = omega arith
   type-short (binary op l r) n (f, g) =
-      binary-short S fit (longestType + suc (size l + size r)) (omega arith) op (judge S H l (suc n) .ty) (judge S H r (after l (suc n)) .ty)
-      (omega (arith, type-short l (suc n) f)) (omega (arith, type-short r (after l (suc n)) g)) .len
+      binary-short S fit (longestType + suc (size l + size r)) (omega arith) op (judge S H l (suc n) .ty) (judge S H r (numberAfter l (suc n)) .ty)
+      (omega (arith, type-short l (suc n) f)) (omega (arith, type-short r (numberAfter l (suc n)) g)) .len
   type-short (unary op x) n f =
       omega (arith, unary-short S fit (longestType + size x) (omega arith) op (judge S H x (suc n) .ty) (type-short x (suc n) f) .len)
   type-short (named id x) n f = omega (arith, type-short x (suc n) f)
@@ -46,4 +46,4 @@ module _ (S : Symbols) (fit : SymbolsFit S) (H : Header) where
   type-short (call id r) n f = omega (arith, call-step S n (callOf S H id) (judges S H r (suc n)) (λ c xs e. call-short S fit H id c n xs e))
   type-short (method id x r) n f =
       let a = judge S H x (suc n) in
-      omega (arith, method-step S n a (methodOf S H id (a .ty)) (judges S H r (after x (suc n))) (λ c xs e. method-short S fit H id (a .ty) c n xs e))
+      omega (arith, method-step S n a (methodOf S H id (a .ty)) (judges S H r (numberAfter x (suc n))) (λ c xs e. method-short S fit H id (a .ty) c n xs e))

@@ -1,7 +1,6 @@
 pub mod Base
 pub mod Chosen
 pub mod Resolve
-pub mod Calls
 pub mod Structural
 pub mod Range
 pub mod Forward
@@ -19,8 +18,9 @@ pub mod Promise
 pub mod Tables
 pub mod Demand3
 pub mod Samples
+pub mod Computed
 pub mod Marked
 pub mod Drawn
 pub mod Wrong
-pub mod Count
 pub mod Distinct
+pub mod CleanCalls

@@ -1,50 +1,19 @@
--- Document 01's marked cases (◆), with its words beside each, and the sample of its "Answer", computed from the definitions. Assumes nothing.
+-- Document 01's marked cases (◆), with its words beside each, and the sample of its "Answer", computed from the definitions.
 use Prim.Native.Nat.{ℕ}
 use lib.ListN.{replicate}
 use mathlib.Core.Bool.{true, false}
 use mathlib.Core.List.{List, [], _∷_, _++_, map}
 use mathlib.Core.Option.{Option, none, some}
 use mathlib.Core.Path.{_≡_, refl}
-use Rattle.area.specs.Diagnostic.{recordOf, records}
-use Rattle.area.specs.Padding.{padded}
-use Rattle.overload.specs.Arg.{Arg}
-use Rattle.overload.specs.Arity.{anyOwn, own, usable, required, endsVararg, fits, fitting}
-use Rattle.overload.specs.Before.{suspendReport}
-use Rattle.overload.specs.Best.{better, chosen}
-use Rattle.overload.specs.ByIndex.{absent, unknownOne, unknowns, allUnknown, mismatchOne, mismatches}
-use Rattle.overload.specs.Resolve.{noneFits, tieReport, settle, resolveIn, resolve}
-use Rattle.overload.specs.Score.{paramOf, placeOf, markAt, markOne, marksFrom, unmarkedFrom, plus as plus·, compared, comparedWith, namedOne, namedScore, unnamedOne, unnamedScore, score}
-use Rattle.question.specs.Header.{headerOf}
-use Rattle.question.specs.Parse.{first as first·, rest as rest·, takeRow, dropRow, onto, rowAt, treeOf}
-use Rattle.question.specs.Read.{leafOf, nodeOf, nodeIn, nodeAt, ownBytes, children as children·question}
-use Rattle.question.specs.Refused.{headerFault, idFault, endlessFault, nodeFault, moreFault, endFault, nodesFault, treeFault, questionFault}
-use Rattle.question.specs.Tree.{after, nameOf}
-use Rattle.rules.specs.Accept.{paramAccepts}
-use Rattle.rules.specs.Access.{blocked, accessReport}
-use Rattle.rules.specs.Assign.{assignRule, assignIn, canAssign}
-use Rattle.rules.specs.Binary.{addOut, arithmeticOut, operatorOut, builtinBinary, binaryOut}
-use Rattle.rules.specs.Diag.{at as at·}
-use Rattle.rules.specs.Member.{variableMember, pairMember, collectionMember, stringMember, elementMember, mapMember, firstFunction, fieldOr, classMember, namedMember, kindMember, visibilityReport, memberReport, baseMember, memberOut}
-use Rattle.rules.specs.OperatorMethod.{firstResult, atClass, climb, operatorReturn}
-use Rattle.rules.specs.Out.{unless, found as found·}
-use Rattle.rules.specs.Unary.{unaryOf, unaryOut}
-use Rattle.symbol.specs.Front.{plainHead, orNone, goodByte, goodBytes, nameHead, classHead, operatorsHead, among, paramStep, runParams, paramsRead, functionWith, functionHead, fieldHead, visibilityHead, suspendHead, variantHead, headBy, headOf}
-use Rattle.symbol.specs.Lookup.{recordsWith, typeLength, paramsFrom, overloadOf, namesIn, capitalIn, symbolsIn}
+use Rattle.area.specs.Padding.{paddedTo}
+use Rattle.scoring.specs.Arg.{Arg}
+use Rattle.scoring.specs.Score.{score}
+use Rattle.operators.specs.Assign.{canAssign}
 use Rattle.symbol.specs.Lookup.{symbolsOf}
-use Rattle.symbol.specs.Refused.{sameKey, hasKey, hasClass, superLate, recordFault, faultFrom, tableFault}
-use Rattle.symbol.specs.Spelling.{builtinNames, spelled}
-use Rattle.symbol.specs.Subclass.{climbs, isSubclass}
-use Rattle.symbol.specs.Table.{recordsFrom, countOf}
-use Rattle.ty.specs.Bytes.{innerOf, nonNull, sameBytes}
-use Rattle.ty.specs.Choose.{choose}
 use Rattle.ty.specs.Name.{listId, mutableListId, noId}
-use Rattle.ty.specs.Read.{bodyLength, children, idIn, itemOf, itemAt, stopped, readFrom, readType}
+use Rattle.typing.proofs.Computed.{computed}
 use Rattle.typing.proofs.Samples.{letter, class, noSuper, operators, function, param, script, leaf, binary, unary, named, call, int, long, float, double, string, any, error, nullable, namedClass, diagnostic, Passes, Fails}
-use Rattle.typing.specs.Answer.{Answer, refused}
-use Rattle.typing.specs.Answer.{faultOf, answered, answerOf, bufferOf}
-use Rattle.typing.specs.Callee.{baseName, callIn, methodIn, methodBy}
-use Rattle.typing.specs.Judge.{callStep, methodStep, judge}
-use Rattle.typing.specs.Mark.{noError, noDiag, passes}
+use Rattle.typing.specs.Answer.{Answer, refused, answerOf, bufferOf}
 
 -- an argument of a type, with a name or without
 abbrev arg : Option ℕ → List ℕ → Arg
@@ -57,7 +26,7 @@ scoresOf t id xs = map (λ o. score (symbolsOf t) o xs) (symbolsOf t .functionsO
 -- a number, and the lent bytes afterwards
 record Fits (lent : ℕ) (a : Answer) (b : List ℕ) (number : ℕ) (diags : List ℕ) : Type 0 where
   said : a .number ≡ number
-  left : b ≡ padded lent diags
+  left : b ≡ paddedTo lent diags
 
 -- f(p): Int, with one parameter of a type; f is name 40, p is 41
 abbrev taking : List ℕ → List ℕ
@@ -130,7 +99,7 @@ pub record Marked : Type 0 where
   twice-scores : scoresOf ints 40 (arg (some 41) int ∷ arg (some 41) int ∷ []) ≡ some 4 ∷ []
   -- "Bytes (hex) 00 00 FF FF FF FF 00 02 06 00 00 print `0 0 1 15 1`, then `13 0 0`."
   sample : answerOf [] sampleQuestion 65535 ≡ record { number = 0; pass = 0; ty = 21 ∷ replicate 255 0; len = 1; count = 1 }
-  sample-buffer : bufferOf [] sampleQuestion 65535 ≡ padded 65535 (diagnostic 13 0 0)
+  sample-buffer : bufferOf [] sampleQuestion 65535 ≡ paddedTo 65535 (diagnostic 13 0 0)
   -- "(one diagnostic: 5 bytes pass, 4 don't)"
   five : Fits 5 (answerOf [] (script (unary 6 (leaf int))) 5) (bufferOf [] (script (unary 6 (leaf int))) 5) 0 (diagnostic 13 0 0)
   four : Fits 4 (answerOf [] (script (unary 6 (leaf int))) 4) (bufferOf [] (script (unary 6 (leaf int))) 4) 12 []
@@ -138,7 +107,7 @@ pub record Marked : Type 0 where
   nothing : answerOf [] [] 65535 ≡ refused 8
 
 pub marked : Marked
-unfolding scoresOf innerOf nonNull sameBytes choose bodyLength children idIn itemOf itemAt stopped readFrom readType plainHead orNone goodByte goodBytes nameHead classHead operatorsHead among paramStep runParams paramsRead functionWith functionHead fieldHead visibilityHead suspendHead variantHead headBy headOf recordsWith typeLength paramsFrom overloadOf namesIn capitalIn symbolsIn sameKey hasKey hasClass superLate recordFault faultFrom tableFault builtinNames spelled climbs isSubclass recordsFrom countOf headerOf first· rest· takeRow dropRow onto rowAt treeOf leafOf nodeOf nodeIn nodeAt ownBytes children·question headerFault idFault endlessFault nodeFault moreFault endFault nodesFault treeFault questionFault after nameOf recordOf records padded paramAccepts blocked accessReport assignRule assignIn canAssign addOut arithmeticOut operatorOut builtinBinary binaryOut at· variableMember pairMember collectionMember stringMember elementMember mapMember firstFunction fieldOr classMember namedMember kindMember visibilityReport memberReport baseMember memberOut firstResult atClass climb operatorReturn unless found· unaryOf unaryOut anyOwn own usable required endsVararg fits fitting suspendReport better chosen absent unknownOne unknowns allUnknown mismatchOne mismatches noneFits tieReport settle resolveIn resolve paramOf placeOf markAt markOne marksFrom unmarkedFrom plus· compared comparedWith namedOne namedScore unnamedOne unnamedScore score faultOf answered answerOf bufferOf baseName callIn methodIn methodBy callStep methodStep judge noError noDiag passes
+unfolding scoresOf computed
 marked = record {
   null-to-int = refl;
   null-argument = record { answer = refl; buffer = refl };

@@ -1,16 +1,16 @@
--- Which numbers a table and a question may draw. Assumes nothing.
+-- Which numbers a table and a question may draw.
 use Prim.Native.Nat.{ℕ, zero, suc, _+_, _≤_}
 use mathlib.Core.List.{List, [], _∷_}
 use native.Mathlib.Omega.{arith}
 use Rattle.question.specs.Header.{headerBytes}
 use Rattle.question.specs.Parse.{mostNodes}
-use Rattle.question.specs.Read.{nodeAt, ownBytes, children}
-use Rattle.question.specs.Refused.{headerFault, idFault, endlessFault, nodeFault, moreFault, endFault, nodesFault, treeFault, questionFault}
+use Rattle.question.specs.NodeRead.{nodeAt, ownBytes, children}
+use Rattle.question.specs.QuestionRefused.{headerFault, shapeFault, nodeFault, moreFault, endFault, nodesFault, treeFault, questionFault}
 use Rattle.question.specs.declared.Names.{Names}
 use Rattle.question.specs.declared.node.NodeRead.the-variants.{Bad, Leaf, Endless, Binary, Unary, Named, Member, Call, Method}
 use Rattle.question.specs.declared.node.NodeRead.{NodeRead}
-use Rattle.symbol.specs.Refused.{recordFault, faultFrom, tableFault}
-use Rattle.symbol.specs.Table.{Record, recordsOf}
+use Rattle.record.specs.TableRefused.{recordFault, firstFault, tableFault}
+use Rattle.record.specs.Table.{Record, recordsOf}
 use Rattle.ty.proofs.Choice.{by-choice}
 
 abbrev Upto : ℕ → ℕ → Type 0
@@ -25,8 +25,8 @@ record-upto earlier r rest =
     by-choice (Upto 7) _ (λ _. omega arith) λ _.
     by-choice (Upto 7) _ (λ _. omega arith) λ _. by-choice (Upto 7) _ (λ _. omega arith) (λ _. omega arith)
 
-from-upto : (earlier rs : List Record) → faultFrom earlier rs ≤ 7
-unfolding faultFrom
+from-upto : (earlier rs : List Record) → firstFault earlier rs ≤ 7
+unfolding firstFault
 from-upto earlier [] = omega arith
 from-upto earlier (r ∷ rs) = by-choice (Upto 7) _ (λ _. from-upto (r ∷ earlier) rs) (λ _. record-upto earlier r (r ∷ rs))
 
@@ -35,21 +35,21 @@ unfolding tableFault
 table-upto t = by-choice (Upto 7) _ (λ _. omega arith) (λ _. from-upto [] (recordsOf t))
 
 module _ (N : Names) where
-  id-upto : (id : ℕ) → idFault N id ≤ 11
-  unfolding idFault
-  id-upto id = by-choice (Upto 11) _ (λ _. omega arith) (λ _. omega arith)
+  shape-upto : (r : NodeRead) → shapeFault r ≤ 11
+  unfolding shapeFault
+  shape-upto Bad = omega arith
+  shape-upto (Leaf len top) = omega arith
+  shape-upto (Endless top) = omega arith
+  shape-upto (Binary op) = omega arith
+  shape-upto (Unary op) = omega arith
+  shape-upto (Named id) = omega arith
+  shape-upto (Member id) = omega arith
+  shape-upto (Call id n) = omega arith
+  shape-upto (Method id n) = omega arith
 
-  node-upto : (r : NodeRead) → nodeFault N r ≤ 11
-  unfolding nodeFault endlessFault
-  node-upto Bad = omega arith
-  node-upto (Leaf len top) = id-upto top
-  node-upto (Endless top) = by-choice (Upto 11) _ (λ _. omega arith) (λ _. omega arith)
-  node-upto (Binary op) = omega arith
-  node-upto (Unary op) = omega arith
-  node-upto (Named id) = id-upto id
-  node-upto (Member id) = id-upto id
-  node-upto (Call id n) = id-upto id
-  node-upto (Method id n) = id-upto id
+  node-upto : (q : List ℕ) (at : ℕ) → nodeFault N q at ≤ 11
+  unfolding nodeFault
+  node-upto q at = by-choice (Upto 11) _ (λ _. shape-upto (nodeAt q at)) (λ _. omega arith)
 
   more-upto : (r : NodeRead) → moreFault r ≤ 11
   unfolding moreFault
@@ -73,7 +73,7 @@ module _ (N : Names) where
   nodes-upto zero q at (suc pending) = more-upto (nodeAt q at)
   nodes-upto (suc left) q at zero = end-upto q at
   nodes-upto (suc left) q at (suc pending) =
-      by-choice (Upto 11) _ (λ _. nodes-upto left q (at + ownBytes (nodeAt q at)) (pending + children (nodeAt q at))) (λ _. node-upto (nodeAt q at))
+      by-choice (Upto 11) _ (λ _. nodes-upto left q (at + ownBytes (nodeAt q at)) (pending + children (nodeAt q at))) (λ _. node-upto q at)
 
   header-upto : (q : List ℕ) → headerFault N q ≤ 11
   unfolding headerFault

@@ -1,4 +1,4 @@
--- A call resolves silently exactly as its clean rule says. Assumes nothing.
+-- A call resolves silently exactly as its clean rule says.
 use Prim.Native.Nat.{ℕ, suc, _≤_}
 use borrow.Author.Tests.{eqb-true, eqb-false, ltb-false}
 use lib.Dec.{eqb, ltb}
@@ -9,16 +9,16 @@ use mathlib.Core.Option.{Option, none, some}
 use mathlib.Core.Path.{_≡_, refl, ap, sym, _∙_, subst}
 use native.Mathlib.Omega.{arith}
 use Rattle.area.specs.Diagnostic.{Diag}
-use Rattle.overload.proofs.Lists.{append-nil-left, append-nil-right, append-nils, some≢none}
-use Rattle.overload.specs.Arg.{Arg, Verdict, silent}
-use Rattle.overload.specs.Arity.{anyOwn}
+use Rattle.scoring.proofs.NoneAndNil.{append-nil-left, append-nil-right, append-nils, some≢none}
+use Rattle.scoring.specs.Arg.{Arg, Verdict, silent}
+use Rattle.scoring.specs.Arity.{anyOwn}
 use Rattle.overload.specs.Best.{Best, best, better, chosen, nobody}
 use Rattle.overload.specs.ByIndex.{absent, allUnknown, mismatches, unknownOne, unknowns}
 use Rattle.overload.specs.Resolve.{noneFits, resolve, resolveIn, settle, tieReport}
-use Rattle.overload.specs.Score.{paramOf, score}
-use Rattle.rules.specs.Diag.{diag}
-use Rattle.rules.specs.Diagnostic.{tieDiag}
-use Rattle.rules.specs.Out.{errorTy}
+use Rattle.scoring.specs.Score.{paramNamed, score}
+use Rattle.operators.specs.Diag.{diag}
+use Rattle.operators.specs.DiagnosticKind.{tieDiag}
+use Rattle.operators.specs.Out.{errorTy}
 use Rattle.symbol.specs.Symbols.{Overload, Param, Symbols}
 use Rattle.ty.specs.Bytes.{Ty}
 use Rattle.ty.specs.Choose.{choose}
@@ -27,22 +27,22 @@ use Rattle.typing.specs.CleanCall.{AllKnown, ByIndex, ByScore, CleanArgs
 use Rattle.typing.specs.Judge.{called}
 
 -- known names
-known-found : (id : ℕ) (ps : List Param) → Known id ps → paramOf id ps ≡ none → ⊥
-unfolding paramOf choose
+known-found : (id : ℕ) (ps : List Param) → Known id ps → paramNamed id ps ≡ none → ⊥
+unfolding paramNamed choose
 known-found id [] k e = List·Memᴰ·not-nil (k .among)
 known-found id (p ∷ ps) k e = go (eqb (p .name) id) refl e (List·Memᴰ·cases-cons (k .among)) (known-found id ps)
   where
-    go : (b : Bool) → eqb (p .name) id ≡ b → choose b (some p) (paramOf id ps) ≡ none → (k .param ≡ p) ⊎ List·Memᴰ (k .param) ps → (Known id ps → paramOf id ps ≡ none → ⊥) → ⊥
+    go : (b : Bool) → eqb (p .name) id ≡ b → choose b (some p) (paramNamed id ps) ≡ none → (k .param ≡ p) ⊎ List·Memᴰ (k .param) ps → (Known id ps → paramNamed id ps ≡ none → ⊥) → ⊥
     go true q e′ m f = some≢none e′
     go false q e′ (inl r) f = eqb-false (p .name) id q (ap (λ (z : Param). z .name) (sym r) ∙ k .called)
     go false q e′ (inr m) f = f (record { param = k .param; among = m; called = k .called }) e′
 
-found-known : (id : ℕ) (ps : List Param) (p : Param) → paramOf id ps ≡ some p → Known id ps
-unfolding paramOf choose
+found-known : (id : ℕ) (ps : List Param) (p : Param) → paramNamed id ps ≡ some p → Known id ps
+unfolding paramNamed choose
 found-known id [] p e = absurd (some≢none (sym e))
 found-known id (q ∷ ps) p e = go (eqb (q .name) id) refl e (found-known id ps p)
   where
-    go : (b : Bool) → eqb (q .name) id ≡ b → choose b (some q) (paramOf id ps) ≡ some p → (paramOf id ps ≡ some p → Known id ps) → Known id (q ∷ ps)
+    go : (b : Bool) → eqb (q .name) id ≡ b → choose b (some q) (paramNamed id ps) ≡ some p → (paramNamed id ps ≡ some p → Known id ps) → Known id (q ∷ ps)
     go true i e′ f = record { param = q; among = List·Memᴰ·head refl; called = eqb-true (q .name) id i }
     go false i e′ f = let k = f e′ in record { param = k .param; among = List·Memᴰ·tail (k .among); called = k .called }
 
@@ -53,18 +53,18 @@ KnownAll ps xs = (a : Arg) → List·Memᴰ a xs → (id : ℕ) → a .name ≡ 
 one-silent : (m : Option ℕ) (ps : List Param) (i n : ℕ) → ((id : ℕ) → m ≡ some id → Known id ps) → unknownOne m ps i n ≡ []
 unfolding unknownOne absent
 one-silent none ps i n h = refl
-one-silent (some id) ps i n h = go (paramOf id ps) refl
+one-silent (some id) ps i n h = go (paramNamed id ps) refl
   where
-    go : (o : Option Param) → paramOf id ps ≡ o → absent o i n ≡ []
+    go : (o : Option Param) → paramNamed id ps ≡ o → absent o i n ≡ []
     go none e = absurd (known-found id ps (h id refl) e)
     go (some p) e = refl
 
 silent-one : (m : Option ℕ) (ps : List Param) (i n : ℕ) → unknownOne m ps i n ≡ [] → (id : ℕ) → m ≡ some id → Known id ps
 unfolding unknownOne absent
 silent-one none ps i n e id q = absurd (some≢none (sym q))
-silent-one (some j) ps i n e id q = go (paramOf j ps) refl e
+silent-one (some j) ps i n e id q = go (paramNamed j ps) refl e
   where
-    go : (o : Option Param) → paramOf j ps ≡ o → absent o i n ≡ [] → Known id ps
+    go : (o : Option Param) → paramNamed j ps ≡ o → absent o i n ≡ [] → Known id ps
     go none p e′ = absurd (nil≢cons (sym e′))
     go (some p) r e′ = let z : j ≡ id = cc in subst (λ (k : ℕ). Known k ps) z (found-known j ps p r)
 

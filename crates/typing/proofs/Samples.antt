@@ -3,7 +3,7 @@ use Prim.Native.Nat.{ℕ}
 use lib.ListN.{length, replicate}
 use mathlib.Core.List.{List, [], _∷_, _++_}
 use mathlib.Core.Path.{_≡_}
-use Rattle.area.specs.Padding.{padded}
+use Rattle.area.specs.Padding.{paddedTo}
 use Rattle.typing.specs.Answer.{answerBytes, answerOf, bufferOf}
 
 -- record kind 1: a name of one letter
@@ -85,8 +85,8 @@ diagnostic kind node number = kind ∷ node ∷ 0 ∷ number ∷ 0 ∷ []
 
 -- the answer without a refusal, with a buffer of 20 bytes: pass mark, type, diagnostic count, and what the buffer holds before its zeros
 pub record Says (t q : List ℕ) (pass : ℕ) (ty : List ℕ) (count : ℕ) (diags : List ℕ) : Type 0 where
-  pub answer : answerOf t q 20 ≡ record { number = 0; pass = pass; ty = padded answerBytes ty; len = length ty; count = count }
-  pub buffer : bufferOf t q 20 ≡ padded 20 diags
+  pub answer : answerOf t q 20 ≡ record { number = 0; pass = pass; ty = paddedTo answerBytes ty; len = length ty; count = count }
+  pub buffer : bufferOf t q 20 ≡ paddedTo 20 diags
 
 -- it passes
 abbrev pub Passes : List ℕ → List ℕ → List ℕ → Type 0

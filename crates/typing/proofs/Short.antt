@@ -1,4 +1,4 @@
--- How long a rule's type is, where the table's types have at most 192 bytes. Assumes nothing.
+-- How long a rule's type is, where the table's types have at most 192 bytes.
 use Prim.Native.Nat.{ℕ, zero, suc, _+_, _≤_}
 use lib.Dec.{eqb, leb, ltb}
 use lib.ListN.{length, length-drop}
@@ -8,19 +8,19 @@ use mathlib.Core.Logic.{_⊎_, inl, inr}
 use mathlib.Core.Option.{Option, none, some}
 use mathlib.Core.Path.{_≡_, refl, ap, sym}
 use native.Mathlib.Omega.{arith}
-use Rattle.overload.proofs.Lists.{some≢none}
-use Rattle.overload.specs.Arg.{Arg}
-use Rattle.overload.specs.Arity.{anyOwn, own, usable, fits, fitting}
+use Rattle.scoring.proofs.NoneAndNil.{some≢none}
+use Rattle.scoring.specs.Arg.{Arg}
+use Rattle.scoring.specs.Arity.{anyOwn, own, usable, fits, fitting}
 use Rattle.overload.specs.Best.{Best, nobody, best, better, chosen}
 use Rattle.overload.specs.Resolve.{noneFits, settle, resolveIn, resolve}
-use Rattle.overload.specs.Score.{score}
+use Rattle.scoring.specs.Score.{score}
 use Rattle.question.specs.declared.Header.{Header}
-use Rattle.rules.specs.Binary.{addOut, arithmeticOut, operatorOut, builtinBinary, binaryOut}
+use Rattle.operators.specs.Binary.{addOut, arithmeticOut, operatorOut, builtinBinary, binaryOut}
 use Rattle.rules.specs.Member.{variableMember, pairMember, collectionMember, stringMember, elementMember, mapMember, firstFunction, fieldOr, lookupVar, classMember, namedMember, kindMember, baseMember, memberOut}
-use Rattle.rules.specs.Operator.{geOp}
-use Rattle.rules.specs.OperatorMethod.{methodId, hasOperator, firstResult, atClass, climb, operatorReturn}
-use Rattle.rules.specs.Out.{Report, Out, clean, plain, fails, checked, found}
-use Rattle.rules.specs.Unary.{unaryOf, unaryOut}
+use Rattle.operators.specs.Operator.{geOp}
+use Rattle.operators.specs.OperatorMethod.{methodId, hasOperator, firstResult, atClass, climb, operatorReturn}
+use Rattle.operators.specs.Out.{Report, Out, clean, plain, fails, checked, found}
+use Rattle.operators.specs.Unary.{unaryOf, unaryOut}
 use Rattle.symbol.specs.Symbols.{Overload, Symbols}
 use Rattle.ty.proofs.Choice.{by-choice}
 use Rattle.ty.proofs.Held.{non-null-length}
@@ -192,19 +192,19 @@ module _ (S : Symbols) (fit : SymbolsFit S) where
     checked-short : (ok : Bool) (t : Ty) (i : ℕ) → length t ≤ k → Short k (checked ok t i)
     checked-short ok t i h = record { len = h }
 
-    add-short : (a b : ℕ) (s t : Bool) → Short k (addOut a b s t)
+    add-short : (l r : Ty) → Short k (addOut l r)
     unfolding addOut
-    add-short a b s t = either _ (tiny _) (either _ (either _ (tiny _) (tiny _)) (either _ (tiny _) (failed _)))
+    add-short l r = either _ (tiny _) (either _ (either _ (tiny _) (tiny _)) (either _ (tiny _) (failed _)))
 
-    arithmetic-short : (a b : ℕ) → Short k (arithmeticOut a b)
+    arithmetic-short : (l r : Ty) → Short k (arithmeticOut l r)
     unfolding arithmeticOut
-    arithmetic-short a b = either _ (either _ (tiny _) (either _ (tiny _) (tiny _))) (failed _)
+    arithmetic-short l r = either _ (either _ (tiny _) (either _ (tiny _) (tiny _))) (failed _)
 
-    operator-short : (op a b : ℕ) (s t related same : Bool) (l r : Ty) → length l ≤ k → length r ≤ k → Short k (operatorOut op a b s t related same l r)
+    operator-short : (op : ℕ) (l r : Ty) → length l ≤ k → length r ≤ k → Short k (operatorOut S op l r)
     unfolding operatorOut
-    operator-short op a b s t related same l r p q =
-        either _ (add-short a b s t)
-        (either _ (arithmetic-short a b)
+    operator-short op l r p q =
+        either _ (add-short l r)
+        (either _ (arithmetic-short l r)
         (either _ (record { len = omega arith })
         (either _ (record { len = omega arith })
         (either _ (record { len = omega arith })
@@ -215,7 +215,7 @@ module _ (S : Symbols) (fit : SymbolsFit S) where
 
     builtin-short : (op : ℕ) (l r : Ty) → length l ≤ k → length r ≤ k → Short k (builtinBinary S op l r)
     unfolding builtinBinary
-    builtin-short op l r p q = either _ (failed _) (operator-short op _ _ _ _ _ _ l r p q)
+    builtin-short op l r p q = either _ (failed _) (operator-short op l r p q)
 
     pub binary-short : (op : ℕ) (l r : Ty) → length l ≤ k → length r ≤ k → Short k (binaryOut S op l r)
     unfolding binaryOut
@@ -250,9 +250,9 @@ module _ (S : Symbols) (fit : SymbolsFit S) where
           (either _ (tiny _) (either _ (tiny _) (either _ (tiny _) (either _ (tiny _) (either _ (tiny _) (either _ (tiny _) (failed _)))))))
           (class-short owner id)))
 
-      kind-short : (j : ℕ) (array : Bool) (base : Ty) (id : ℕ) → length base ≤ k → Short k (kindMember S j array base id)
+      kind-short : (base : Ty) (id : ℕ) → length base ≤ k → Short k (kindMember S base id)
       unfolding kindMember stringMember elementMember mapMember
-      kind-short j array base id h =
+      kind-short base id h =
           either _ (named-short (nameOf base) id)
           (either _ (either _ (tiny _) (either _ (tiny _) (either _ (tiny _) (failed _))))
           (either _
@@ -261,7 +261,7 @@ module _ (S : Symbols) (fit : SymbolsFit S) where
 
       base-short : (H : Header) (base : Ty) (id : ℕ) → length base ≤ k → Short k (baseMember S H base id)
       unfolding baseMember
-      base-short H base id h = either _ (tiny _) (record { len = kind-short _ _ base id h .len })
+      base-short H base id h = either _ (tiny _) (record { len = kind-short base id h .len })
 
       pub member-short : (H : Header) (id : ℕ) (t : Ty) → length t ≤ k → Short k (memberOut S H id t)
       unfolding memberOut

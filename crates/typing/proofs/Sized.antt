@@ -1,4 +1,4 @@
--- The type of every answer has 256 bytes, and its length counts some of them. Assumes nothing.
+-- The type of every answer has 256 bytes, and its length counts some of them.
 use Prim.Native.Nat.{ℕ, _*_, _-_, _≤_}
 use borrow.Author.Tests.{ltb-false}
 use lib.Dec.{ltb, eqb}
@@ -8,7 +8,7 @@ use mathlib.Core.List.{List}
 use mathlib.Core.Path.{_≡_, refl}
 use native.Mathlib.Omega.{arith}
 use Rattle.area.specs.Diagnostic.{recordLength}
-use Rattle.area.specs.Padding.{padded}
+use Rattle.area.specs.Padding.{paddedTo}
 use Rattle.ty.specs.Choose.{choose}
 use Rattle.typing.specs.Answer.{Answer, answerBytes, faultOf, judgementOf, refused, given, answered, answerOf}
 use Rattle.typing.specs.Judge.{Judged}
@@ -21,7 +21,7 @@ sized-refused : (n : ℕ) → Sized (refused n)
 sized-refused n = record { ty = length-replicate {A = ℕ} answerBytes 0; len = omega arith }
 
 sized-given : (j : Judged) → length (j .ty) ≤ answerBytes → Sized (given j)
-unfolding padded
+unfolding paddedTo
 sized-given j h =
     record {
       ty = simp (length-append, length-replicate) (omega arith);

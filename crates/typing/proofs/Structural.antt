@@ -1,16 +1,16 @@
--- Typings once more, by recursion over the tree: a device of the proofs. Assumes nothing.
+-- Typings once more, by recursion over the tree: a device of the proofs.
 use Prim.Native.Nat.{ℕ, suc, _≤_, _<_}
 use mathlib.Core.List.{List, [], _∷_}
 use mathlib.Core.Logic.{_≢_, _⊎_}
 use mathlib.Core.Option.{Option, none, some}
 use mathlib.Core.Path.{_≡_}
-use Rattle.overload.specs.Arg.{Arg}
-use Rattle.question.specs.Tree.{Node, Row, after, afters, binary, call, cons, leaf, member, method, nameOf, named, nil, unary}
+use Rattle.scoring.specs.Arg.{Arg}
+use Rattle.question.specs.Tree.{Node, Row, numberAfter, numberAfterRow, binary, call, cons, leaf, member, method, argumentName, named, nil, unary}
 use Rattle.question.specs.declared.Header.{Header}
-use Rattle.rules.specs.Binary.{binaryOut}
+use Rattle.operators.specs.Binary.{binaryOut}
 use Rattle.rules.specs.Member.{memberOut}
-use Rattle.rules.specs.Out.{anyTy, clean, errorTy}
-use Rattle.rules.specs.Unary.{unaryOut}
+use Rattle.operators.specs.Out.{anyTy, clean, errorTy}
+use Rattle.operators.specs.Unary.{unaryOut}
 use Rattle.symbol.specs.Symbols.{Symbols}
 use Rattle.ty.specs.Bytes.{Ty}
 use Rattle.typing.specs.CleanCall.{CleanCall, CleanMethod, HasList}
@@ -70,22 +70,22 @@ module _ (S : Symbols) (H : Header) (τ : Choice) where
   unfoldable mutual
     pub Typed : Node → ℕ → Ty → Type 0
     Typed (leaf t) n T = Has τ n T × (T ≡ t)
-    Typed (binary op l r) n T = Has τ n T × CleanBinary S op (λ t. Typed l (suc n) t) (λ t. Typed r (after l (suc n)) t) T
+    Typed (binary op l r) n T = Has τ n T × CleanBinary S op (λ t. Typed l (suc n) t) (λ t. Typed r (numberAfter l (suc n)) t) T
     Typed (unary op x) n T = Has τ n T × CleanUnary op (λ t. Typed x (suc n) t) T
     Typed (named id x) n T = Has τ n T × Typed x (suc n) T
     Typed (member id x) n T = Has τ n T × CleanMember S H id (λ t. Typed x (suc n) t) T
     Typed (call id r) n T = Has τ n T × WithArgs (λ xs. CleanCall S H id xs T) (λ xs. RowTyped r (suc n) xs)
     Typed (method id x r) n T =
-        let a = after x (suc n) in
-        Has τ n T × OnObject S H id (λ t. Typed x (suc n) t) (λ xs. RowTyped r a xs) (Unvisited τ a (afters r a)) T
+        let a = numberAfter x (suc n) in
+        Has τ n T × OnObject S H id (λ t. Typed x (suc n) t) (λ xs. RowTyped r a xs) (Unvisited τ a (numberAfterRow r a)) T
 
     -- a row's arguments, the first of which has number n, are typed, and are xs to the call
     pub RowTyped : Row → ℕ → List Arg → Type 0
     RowTyped nil n xs = xs ≡ []
-    RowTyped (cons x r) n xs = ArgsTyped (nameOf x) n (λ t. Typed x n t) (λ ys. RowTyped r (after x n) ys) xs
+    RowTyped (cons x r) n xs = ArgsTyped (argumentName x) n (λ t. Typed x n t) (λ ys. RowTyped r (numberAfter x n) ys) xs
 
 -- the whole tree, whose root is number 0
 pub record Structural (S : Symbols) (H : Header) (tree : Node) (τ : Choice) : Type 0 where
   pub root : Ty
   pub obeys : Typed S H τ tree 0 root
-  pub past : (k : ℕ) → after tree 0 ≤ k → τ k ≡ none
+  pub past : (k : ℕ) → numberAfter tree 0 ≤ k → τ k ≡ none

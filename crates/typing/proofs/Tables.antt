@@ -1,10 +1,11 @@
--- What the bounds ask of a table, of an accepted one. Assumes nothing.
+-- What the bounds ask of a table, of an accepted one.
 use Prim.Native.Nat.{ℕ}
 use mathlib.Core.List.{List, [], _∷_, List·Memᴰ·not-nil}
 use mathlib.Core.Path.{_≡_}
-use Rattle.symbol.proofs.Goods.{Every, FunctionGood, functions-good, field-good}
+use Rattle.record.proofs.EveryRecord.{Every}
+use Rattle.symbol.proofs.AcceptedTable.{FunctionGood, functions-good, field-good}
 use Rattle.symbol.specs.Lookup.{symbolsOf}
-use Rattle.symbol.specs.Refused.{tableFault}
+use Rattle.record.specs.TableRefused.{tableFault}
 use Rattle.symbol.specs.Symbols.{Overload}
 use Rattle.typing.proofs.Short.{Results, SymbolsFit, cons-results}
 

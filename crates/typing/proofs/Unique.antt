@@ -1,13 +1,13 @@
--- Any two typings are alike, and there is one exactly where the judgement passes. Assumes nothing.
+-- Any two typings are alike, and there is one exactly where the judgement passes.
 use Prim.Native.Nat.{ℕ, _≤_, _<_}
 use mathlib.Core.Bool.{Bool, true, not}
 use mathlib.Core.List.{List, [], _∷_, List·Memᴰ, List·Memᴰ·cases-cons, List·Memᴰ·not-nil, List·Memᴰ·head, List·Memᴰ·tail}
 use mathlib.Core.Logic.{_≢_, _⊎_, inl, inr, _↔_}
 use mathlib.Core.Path.{_≡_, refl, ap, sym, _∙_}
 use native.Mathlib.Omega.{arith}
-use Rattle.question.specs.Tree.{Node, after}
+use Rattle.question.specs.Tree.{Node, numberAfter}
 use Rattle.question.specs.declared.Header.{Header}
-use Rattle.rules.specs.Out.{errorTy}
+use Rattle.operators.specs.Out.{errorTy}
 use Rattle.symbol.specs.Symbols.{Symbols}
 use Rattle.ty.proofs.Choice.{and-left, and-right}
 use Rattle.ty.proofs.Same.{ne-differ}
@@ -43,14 +43,14 @@ no-error-noError [] h = refl
 no-error-noError (g ∷ gs) h = and-both (ap not (ne-differ (g .ty) errorTy (h g (List·Memᴰ·head refl)))) (no-error-noError gs (λ x m. h x (List·Memᴰ·tail m)))
 
 module _ (S : Symbols) (H : Header) where
-  whole : (tree : Node) (τ : Choice) (t : Structural S H tree τ) → Agrees τ (judge S H tree 0) 0 (after tree 0) (t .root)
+  whole : (tree : Node) (τ : Choice) (t : Structural S H tree τ) → Agrees τ (judge S H tree 0) 0 (numberAfter tree 0) (t .root)
   whole tree τ t = forward S H τ tree 0 (t .root) (t .obeys)
 
   -- a typing gives each number what the judgement gives it
   pub typing-types : (tree : Node) (τ : Choice) → Structural S H tree τ → (k : ℕ) → τ k ≡ typeIn (judge S H tree 0 .typed) k
-  typing-types tree τ t k = go (split k (after tree 0))
+  typing-types tree τ t k = go (split k (numberAfter tree 0))
     where
-      go : (k < after tree 0) ⊎ (after tree 0 ≤ k) → τ k ≡ typeIn (judge S H tree 0 .typed) k
+      go : (k < numberAfter tree 0) ⊎ (numberAfter tree 0 ≤ k) → τ k ≡ typeIn (judge S H tree 0 .typed) k
       go (inl s) = whole tree τ t .same k (omega arith) s
       go (inr s) = t .past k s ∙ sym (node-within S H tree 0 .above k s)
 

@@ -5,14 +5,14 @@ use lib.Dec.{eqb, ltb}
 use lib.ListN.{length, replicate}
 use mathlib.Core.List.{List}
 use Rattle.area.specs.Diagnostic.{recordLength, records}
-use Rattle.area.specs.Padding.{padded}
+use Rattle.area.specs.Padding.{paddedTo}
 use Rattle.question.specs.Header.{headerOf}
 use Rattle.question.specs.Parse.{treeOf}
-use Rattle.question.specs.Refused.{questionFault}
+use Rattle.question.specs.QuestionRefused.{questionFault}
 use Rattle.question.specs.declared.Names.{Names}
 use Rattle.symbol.specs.Lookup.{symbolsOf}
-use Rattle.symbol.specs.Refused.{tableFault}
-use Rattle.symbol.specs.Table.{recordsOf, nameCount}
+use Rattle.record.specs.TableRefused.{tableFault}
+use Rattle.record.specs.Table.{recordsOf, nameCount}
 use Rattle.ty.specs.Choose.{choose}
 use Rattle.typing.specs.Judge.{Judged, judge}
 use Rattle.typing.specs.Mark.{passes, markOf}
@@ -49,7 +49,7 @@ refused number = record { number = number; pass = 0; ty = zeros answerBytes; len
 
 abbrev pub given : Judged → Answer
 given j =
-    record { number = 0; pass = markOf (passes j); ty = padded answerBytes (j .ty); len = length (j .ty); count = length (j .diags) }
+    record { number = 0; pass = markOf (passes j); ty = paddedTo answerBytes (j .ty); len = length (j .ty); count = length (j .diags) }
 
 -- 13 root type over 256 bytes; 12 exactly when 5 × diagnostics exceeds the buffer
 unfoldable pub answered : ℕ → Judged → Answer
@@ -62,4 +62,4 @@ answerOf t q lent = choose (eqb (faultOf t q) 0) (answered lent (judgementOf t q
 
 -- the buffer afterwards: the diagnostics and zeros behind them, or all zero where the answer is a refusal
 unfoldable pub bufferOf : List ℕ → List ℕ → ℕ → List ℕ
-bufferOf t q lent = choose (eqb (answerOf t q lent .number) 0) (padded lent (records (judgementOf t q .diags))) (zeros lent)
+bufferOf t q lent = choose (eqb (answerOf t q lent .number) 0) (paddedTo lent (records (judgementOf t q .diags))) (zeros lent)

@@ -5,7 +5,7 @@ use mathlib.Core.List.{List, [], _∷_}
 use mathlib.Core.Option.{Option, none, some}
 use Rattle.overload.specs.Before.{callReports, methodReports}
 use Rattle.question.specs.declared.Header.{Header}
-use Rattle.rules.specs.Out.{Report}
+use Rattle.operators.specs.Out.{Report}
 use Rattle.symbol.specs.Symbols.{Overload, Symbols}
 use Rattle.ty.specs.Bytes.{Ty, kindOf, nameOf, nonNull}
 use Rattle.ty.specs.Choose.{choose}

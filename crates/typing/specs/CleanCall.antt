@@ -7,10 +7,10 @@ use mathlib.Core.List.{List, [], _∷_, _++_, List·Memᴰ}
 use mathlib.Core.Logic.{_⊎_}
 use mathlib.Core.Option.{none, some}
 use mathlib.Core.Path.{_≡_}
-use Rattle.overload.specs.Arg.{Arg}
-use Rattle.overload.specs.Arity.{usable, fitting}
+use Rattle.scoring.specs.Arg.{Arg}
+use Rattle.scoring.specs.Arity.{usable, fitting}
 use Rattle.overload.specs.ByIndex.{mismatches}
-use Rattle.overload.specs.Score.{score}
+use Rattle.scoring.specs.Score.{score}
 use Rattle.question.specs.declared.Header.{Header}
 use Rattle.rules.specs.Access.{blocked}
 use Rattle.symbol.specs.Symbols.{Param, Overload, Symbols}

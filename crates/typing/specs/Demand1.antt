@@ -7,8 +7,8 @@ use mathlib.Core.List.{List}
 use mathlib.Core.Logic.{_≢_, _↔_}
 use mathlib.Core.Path.{_≡_}
 use Rattle.area.specs.Diagnostic.{recordLength}
-use Rattle.question.specs.Refused.{questionFault}
-use Rattle.symbol.specs.Refused.{tableFault}
+use Rattle.question.specs.QuestionRefused.{questionFault}
+use Rattle.record.specs.TableRefused.{tableFault}
 use Rattle.typing.specs.Answer.{Answer, answerBytes, zeros, namesOf, judgementOf}
 
 pub record Demand1 (t q : List ℕ) (lent : ℕ) (a : Answer) (b : List ℕ) : Type 0 where

@@ -1,8 +1,8 @@
--- Demand 3: "A typing is any choice of types, whoever made it, that gives each visited node a type other than Error and obeys document 01's clean rules at each
--- of them. For every accepted table and every question accepted under it, whatever buffer is lent, any two typings are alike: they visit the same nodes and give
--- each the same type. The judge's pass mark is 1 exactly when a typing exists; the answer then has number 0, the typing's root type byte for byte with its length
--- and no diagnostic, and the buffer is all zero. The mark is also 1 exactly when the definition of demand 2, before number 12 is asked, yields no diagnostic,
--- warnings included, and no visited node of type Error. With a typing or without, the answer and the buffer are that definition's."
+-- Demand 3: "A typing is any choice of types, whoever made it, that gives each visited node a type other than Error and obeys document 01's clean rules at
+-- each of them. For every accepted table and every question accepted under it, whatever buffer is lent, any two typings are alike: they visit the same nodes
+-- and give each the same type. The judge's pass mark is 1 exactly when a typing exists; the answer then has number 0, the typing's root type byte for byte
+-- with its length and no diagnostic, and the buffer is all zero. The mark is also 1 exactly when the definition of demand 2, before number 12 is asked, yields
+-- no diagnostic, warnings included, and no visited node of type Error. With a typing or without, the answer and the buffer are that definition's."
 -- A typing is `IsTyping` of Typing.antt; the definition of demand 2 is `judgementOf`, `answerOf` and `bufferOf` of Answer.antt.
 use Prim.Native.Nat.{ℕ}
 use lib.ListN.{length}
@@ -10,13 +10,13 @@ use mathlib.Core.List.{List, [], List·Memᴰ}
 use mathlib.Core.Logic.{_≢_, _↔_}
 use mathlib.Core.Option.{some}
 use mathlib.Core.Path.{_≡_}
-use Rattle.area.specs.Padding.{padded}
+use Rattle.area.specs.Padding.{paddedTo}
 use Rattle.question.specs.Header.{headerOf}
 use Rattle.question.specs.Parse.{treeOf}
-use Rattle.question.specs.Refused.{questionFault}
-use Rattle.rules.specs.Out.{errorTy}
+use Rattle.question.specs.QuestionRefused.{questionFault}
+use Rattle.operators.specs.Out.{errorTy}
 use Rattle.symbol.specs.Lookup.{symbolsOf}
-use Rattle.symbol.specs.Refused.{tableFault}
+use Rattle.record.specs.TableRefused.{tableFault}
 use Rattle.ty.specs.Bytes.{Ty}
 use Rattle.typing.specs.Answer.{Answer, answerBytes, zeros, namesOf, judgementOf, answerOf, bufferOf}
 use Rattle.typing.specs.Judge.{Given, Judged}
@@ -44,7 +44,7 @@ pub record Alike (t q : List ℕ) (τ σ : Choice) : Type 0 where
 -- what the answer is where T is a typing's root type: number 0, the type byte for byte with its length, no diagnostic; and the buffer is all zero
 pub record Passed (T : Ty) (lent : ℕ) (a : Answer) (b : List ℕ) : Type 0 where
   pub number : a .number ≡ 0
-  pub ty : a .ty ≡ padded answerBytes T
+  pub ty : a .ty ≡ paddedTo answerBytes T
   pub len : a .len ≡ length T
   pub count : a .count ≡ 0
   pub buffer : b ≡ zeros lent

@@ -4,15 +4,15 @@ use Prim.Native.Nat.{ℕ, suc}
 use mathlib.Core.List.{List, [], _∷_, _++_}
 use mathlib.Core.Option.{Option, none, some}
 use Rattle.area.specs.Diagnostic.{Diag}
-use Rattle.overload.specs.Arg.{Arg, Verdict}
+use Rattle.scoring.specs.Arg.{Arg, Verdict}
 use Rattle.overload.specs.Resolve.{resolve}
-use Rattle.question.specs.Tree.{Node, leaf, binary, unary, named, member, call, method, Row, nil, cons, after, nameOf}
+use Rattle.question.specs.Tree.{Node, leaf, binary, unary, named, member, call, method, Row, nil, cons, numberAfter, argumentName}
 use Rattle.question.specs.declared.Header.{Header}
-use Rattle.rules.specs.Binary.{binaryOut}
-use Rattle.rules.specs.Diag.{at}
+use Rattle.operators.specs.Binary.{binaryOut}
+use Rattle.operators.specs.Diag.{reportedAt}
 use Rattle.rules.specs.Member.{memberOut}
-use Rattle.rules.specs.Out.{Report, Out, errorTy, anyTy}
-use Rattle.rules.specs.Unary.{unaryOut}
+use Rattle.operators.specs.Out.{Report, Out, errorTy, anyTy}
+use Rattle.operators.specs.Unary.{unaryOut}
 use Rattle.symbol.specs.Symbols.{Symbols}
 use Rattle.ty.specs.Bytes.{Ty}
 use Rattle.typing.specs.Callee.{Callee, callOf, methodOf}
@@ -41,14 +41,14 @@ done n t g d = record { ty = t; typed = g ++ (record { node = n; ty = t } ∷ []
 
 -- by a rule's outcome
 abbrev pub closed : ℕ → Out → List Given → List Diag → Judged
-closed n o g d = done n (o .ty) g (d ++ at n (o .reports))
+closed n o g d = done n (o .ty) g (d ++ reportedAt n (o .reports))
 
 -- by a call's outcome, behind its arguments
 abbrev pub called : ℕ → List Report → Verdict → List Given → List Diag → List Diag → Judged
-called n before v g first args = done n (v .ty) g (first ++ (at n before ++ (args ++ v .diags)))
+called n before v g first args = done n (v .ty) g (first ++ (reportedAt n before ++ (args ++ v .diags)))
 
-abbrev pub joined : Option ℕ → ℕ → Judged → RowJudged → RowJudged
-joined name n a b =
+abbrev pub rowJoined : Option ℕ → ℕ → Judged → RowJudged → RowJudged
+rowJoined name n a b =
     record { args = record { name = name; ty = a .ty; node = n } ∷ b .args; typed = a .typed ++ b .typed; diags = a .diags ++ b .diags }
 
 -- a call: an empty list gives Error silently, arguments unvisited
@@ -68,7 +68,7 @@ module _ (S : Symbols) (H : Header) where
     judge (leaf t) n = done n t [] []
     judge (binary op l r) n =
         let a = judge l (suc n) in
-        let b = judge r (after l (suc n)) in
+        let b = judge r (numberAfter l (suc n)) in
         closed n (binaryOut S op (a .ty) (b .ty)) (a .typed ++ b .typed) (a .diags ++ b .diags)
     judge (unary op x) n =
         let a = judge x (suc n) in
@@ -82,9 +82,9 @@ module _ (S : Symbols) (H : Header) where
     judge (call id r) n = callStep S n (callOf S H id) (judges r (suc n))
     judge (method id x r) n =
         let a = judge x (suc n) in
-        methodStep S n a (methodOf S H id (a .ty)) (judges r (after x (suc n)))
+        methodStep S n a (methodOf S H id (a .ty)) (judges r (numberAfter x (suc n)))
 
     -- the row whose first argument has number n
     pub judges : Row → ℕ → RowJudged
     judges nil n = record { args = []; typed = []; diags = [] }
-    judges (cons x r) n = joined (nameOf x) n (judge x n) (judges r (after x n))
+    judges (cons x r) n = rowJoined (argumentName x) n (judge x n) (judges r (numberAfter x n))

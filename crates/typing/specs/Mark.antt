@@ -6,7 +6,7 @@ use mathlib.Core.Bool.{Bool, true, false, not, _&&_}
 use mathlib.Core.List.{List, [], _∷_}
 use mathlib.Core.Option.{Option, none, some}
 use Rattle.area.specs.Diagnostic.{Diag}
-use Rattle.rules.specs.Out.{errorTy}
+use Rattle.operators.specs.Out.{errorTy}
 use Rattle.ty.specs.Bytes.{Ty, sameBytes}
 use Rattle.ty.specs.Choose.{choose}
 use Rattle.typing.specs.Judge.{Given, Judged}

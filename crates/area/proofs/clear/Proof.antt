@@ -5,7 +5,7 @@ use lib.ListN.{length, replicate, drop, length-set}
 use mathlib.Core.List.{_++_}
 use mathlib.Core.Path.{_≡_}
 use native.Mathlib.Omega.{arith}
-use Rattle.area.proofs.Lists.{clear-more, clear-done}
+use Rattle.area.proofs.ListFacts.{clear-more, clear-done}
 use Rattle.area.proofs.clear.Statement.{statement}
 use Rattle.area.proofs.clear.Tie as tie
 

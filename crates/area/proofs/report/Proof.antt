@@ -2,7 +2,7 @@ use borrow.Author.Needs.{needs}
 use lib.ListN.{length-set}
 use mathlib.Core.Path.{refl}
 use native.Mathlib.Omega.{arith}
-use Rattle.area.proofs.Diagnostics.{putOne-not, put-bytes}
+use Rattle.area.proofs.Diagnostics.{putOne-not, first-length, second-length, put-bytes}
 use Rattle.area.proofs.report.Statement.{statement}
 use Rattle.area.proofs.report.Tie as tie
 
@@ -16,17 +16,9 @@ report-spec =
     (λ c. (refl, putOne-not _ _ _ (c .if1 .taken)))
     (λ c. search needs)
     (λ c. search needs)
+    (λ c κs. simp length-set (omega (arith, c .before .if1 .left)))
     (λ c. search needs)
-    (λ c. simp length-set (omega arith))
+    (λ c κs. let a = c .before .before .before .before .before .before .before .args in omega (arith, first-length (a .buf .now) (a .count) (a .kind) (a .node) (c .before .before .before .put-two .ensures), c .before .before .before .before .before .if1 .left))
     (λ c. search needs)
-    (λ c. search needs)
-    (λ c. simp length-set (omega arith))
-    (λ c. search needs)
-    (λ c. search needs)
-    (λ c. simp length-set (omega arith))
-    (λ c. search needs)
-    (λ c. search needs)
-    (λ c. simp length-set (omega arith))
-    (λ c. search needs)
-    (λ c. search needs)
-    (λ c. (refl, put-bytes _ _ _ _ _ (c .if1 .left))))
+    (λ c. let a = c .before .before .before .before .before .before .before .before .before .before .args in second-length (a .buf .now) (a .count) (a .kind) (a .node) (c .before .before .before .before .before .before .put-two .ensures) (a .number) (c .before .before .put-two2 .ensures))
+    (λ c. let a = c .before .before .before .before .before .before .before .before .before .before .args in let h = c .before .before .before .before .before .before .before .before .if1 .left in (refl, put-bytes (a .buf .now) (a .count) (a .kind) (a .node) (c .before .before .before .before .before .before .put-two .ensures) (a .number) (c .before .before .put-two2 .ensures) h)))

@@ -1,5 +1,5 @@
 use borrow.Author.Needs.{needs}
-use Rattle.aura_c.proofs.Numbers.{put-eight}
+use Rattle.aura_c.proofs.NumberBytes.{put-eight}
 use Rattle.aura_c.proofs.put_eight.Statement.{statement}
 use Rattle.aura_c.proofs.put_eight.Tie as tie
 

@@ -1,5 +1,5 @@
 use borrow.Author.Needs.{needs}
-use Rattle.aura_c.proofs.Numbers.{put-four}
+use Rattle.aura_c.proofs.NumberBytes.{put-four}
 use Rattle.aura_c.proofs.put_four.Statement.{statement}
 use Rattle.aura_c.proofs.put_four.Tie as tie
 

@@ -1,10 +1,9 @@
-use Prim.Native.Nat.{_+_}
-use Prim.Native.Nat.{_≤_}
+use Prim.Native.Nat.{_+_, _≤_}
 use borrow.Author.Needs.{needs}
 use lib.ListN.{length}
 use mathlib.Core.Path.{sym, _∙_}
 use native.Mathlib.Omega.{arith}
-use Rattle.console.proofs.Parts.{whole-room, table-some, table-none}
+use Rattle.console.proofs.InputParts.{whole-room, table-some, table-none}
 use Rattle.console.proofs.table_part.Statement.{statement}
 use Rattle.console.proofs.table_part.Tie as tie
 

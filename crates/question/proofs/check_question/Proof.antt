@@ -1,7 +1,7 @@
 use borrow.Author.Needs.{needs}
 use Rattle.question.proofs.check_question.Statement.{statement}
 use Rattle.question.proofs.check_question.Tie as tie
-use Rattle.question.specs.Refused.{questionFault}
+use Rattle.question.specs.QuestionRefused.{questionFault}
 use Rattle.ty.proofs.Choice.{chain}
 
 pub check-question-spec : {M : Type 1} → statement M

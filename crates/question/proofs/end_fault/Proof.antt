@@ -1,6 +1,6 @@
 use Rattle.question.proofs.end_fault.Statement.{statement}
 use Rattle.question.proofs.end_fault.Tie as tie
-use Rattle.question.specs.Refused.{endFault}
+use Rattle.question.specs.QuestionRefused.{endFault}
 use Rattle.ty.proofs.Choice.{chain}
 
 pub end-fault-spec : {M : Type 1} → statement M

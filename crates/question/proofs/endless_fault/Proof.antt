@@ -1,7 +1,7 @@
 use borrow.Author.Needs.{needs}
 use Rattle.question.proofs.endless_fault.Statement.{statement}
 use Rattle.question.proofs.endless_fault.Tie as tie
-use Rattle.question.specs.Refused.{endlessFault}
+use Rattle.question.specs.Inside.Top.{endlessFault}
 use Rattle.ty.proofs.Choice.{chain-calls}
 
 pub endless-fault-spec : {M : Type 1} → statement M

@@ -1,7 +1,7 @@
 use borrow.Author.Needs.{needs}
 use Rattle.question.proofs.header_fault.Statement.{statement}
 use Rattle.question.proofs.header_fault.Tie as tie
-use Rattle.question.specs.Refused.{headerFault}
+use Rattle.question.specs.QuestionRefused.{headerFault}
 use Rattle.ty.proofs.Choice.{chain}
 
 pub header-fault-spec : {M : Type 1} → statement M

@@ -1,7 +1,7 @@
 use borrow.Author.Needs.{needs}
 use Rattle.question.proofs.more_fault.Statement.{statement}
 use Rattle.question.proofs.more_fault.Tie as tie
-use Rattle.question.specs.Refused.{moreFault}
+use Rattle.question.specs.QuestionRefused.{moreFault}
 
 pub more-fault-spec : {M : Type 1} → statement M
 unfolding moreFault

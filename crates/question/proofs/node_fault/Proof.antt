@@ -1,10 +1,10 @@
 use borrow.Author.Needs.{needs}
 use Rattle.question.proofs.node_fault.Statement.{statement}
 use Rattle.question.proofs.node_fault.Tie as tie
-use Rattle.question.specs.Refused.{nodeFault}
+use Rattle.question.specs.Inside.Top.{readFault}
 
 pub node-fault-spec : {M : Type 1} → statement M
-unfolding nodeFault
+unfolding readFault
 node-fault-spec =
     tie.close
     (tie.spec

@@ -1,16 +1,18 @@
 -- The loop's invariant: what is to be found is what is found from `at` on, where at most 17 trees a node wait to be read. The measure is how many nodes
--- may still come. Assumes nothing.
+-- may still come.
 use Prim.Native.Nat.{_+_, _*_, _≤_, max}
 use borrow.Author.Needs.{needs}
 use lib.ListN.{length}
 use mathlib.Core.Path.{_≡_, refl, sym, ap, _∙_}
 use native.Mathlib.Omega.{arith}
-use Rattle.question.proofs.Reading.{step-small, step-few}
+use Rattle.question.proofs.NodeIds.{same-fault}
+use Rattle.question.proofs.NodeReading.{step-small, step-few}
 use Rattle.question.proofs.Walking.{fault-end, fault-more, fault-stop, fault-turn}
 use Rattle.question.proofs.tree_fault.Statement.{statement}
 use Rattle.question.proofs.tree_fault.Tie as tie
-use Rattle.question.specs.Read.{ownBytes, children}
-use Rattle.question.specs.Refused.{nodeFault, moreFault, nodesFault, treeFault}
+use Rattle.question.specs.Inside.Top.{readFault}
+use Rattle.question.specs.NodeRead.{ownBytes, children}
+use Rattle.question.specs.QuestionRefused.{moreFault, nodesFault, treeFault}
 
 abbrev Inv-loop : tie.InvT-loop
 Inv-loop question names at₀ pending₀ left₀ at pending left = (nodesFault names left question at pending ≡ treeFault names question) × (left ≤ 64) × (pending + 17 * left ≤ 1089) × (at ≤ max 5 (length question))
@@ -39,7 +41,7 @@ node-fault-requires c κs = search needs
 returns-2 : tie.Need-returns-2 Inv-loop μ-loop
 returns-2 c =
     let s = c .before .before .before .before .before .loop in
-    let e = c .before .node-fault .ensures ∙ ap (nodeFault (c .before .before .before .before .before .before .before .args .names)) (c .before .before .before .node-at .ensures) in
+    let e = c .before .node-fault .ensures ∙ ap (readFault (c .before .before .before .before .before .before .before .args .names)) (c .before .before .before .node-at .ensures) ∙ same-fault (c .before .before .before .before .before .before .before .args .names) (c .before .before .before .before .before .before .before .args .question .now) (s .at) in
     e ∙ sym (fault-stop (c .before .before .before .before .before .before .before .args .names) (c .before .before .before .before .before .before .before .args .question .now) (s .at) (s .left) (s .pending) (omega arith) (omega arith) (omega arith)) ∙ s .inv .0
 
 own-bytes-requires : tie.Need-own-bytes-requires Inv-loop μ-loop
@@ -73,7 +75,7 @@ loop-again c =
     let s = c .before .before .before .before .before .before .before .loop in
     let o = c .before .own-bytes .ensures ∙ ap ownBytes (c .before .before .before .before .before .node-at .ensures) in
     let k = c .children .ensures ∙ ap children (c .before .before .before .before .before .node-at .ensures) in
-    let e = c .before .before .before .node-fault .ensures ∙ ap (nodeFault (c .before .before .before .before .before .before .before .before .before .args .names)) (c .before .before .before .before .before .node-at .ensures) in (
+    let e = c .before .before .before .node-fault .ensures ∙ ap (readFault (c .before .before .before .before .before .before .before .before .before .args .names)) (c .before .before .before .before .before .node-at .ensures) ∙ same-fault (c .before .before .before .before .before .before .before .before .before .args .names) q (s .at) in (
       fault-turn (c .before .before .before .before .before .before .before .before .before .args .names) q (s .at) (s .left) (s .pending) _ _ (omega arith) (omega arith) (omega arith) o k ∙ s .inv .0,
       omega arith,
       omega (arith, step-few q (s .at), s .inv),

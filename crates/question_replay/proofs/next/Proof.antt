@@ -1,4 +1,4 @@
--- The input and the output are those of the C library; the parts of the buffer lie within it. Assumes nothing.
+-- The input and the output are those of the C library; the parts of the buffer lie within it.
 use borrow.Author.Needs.{needs}
 use lib.ListN.{length-append}
 use lib.Seq.{length-take-le}

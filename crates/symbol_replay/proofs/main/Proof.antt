@@ -1,4 +1,4 @@
--- The measure is the number of turns that are left. Assumes nothing.
+-- The measure is the number of turns that are left.
 use native.Mathlib.Omega.{arith}
 use Rattle.symbol_replay.proofs.main.Statement.{statement}
 use Rattle.symbol_replay.proofs.main.Tie as tie

@@ -1,10 +1,10 @@
--- The input and the output are those of the C library; the parts of the buffer lie within it. Assumes nothing.
+-- The input and the output are those of the C library; the parts of the buffer lie within it.
 use borrow.Author.Needs.{needs}
 use lib.ListN.{length-append}
 use lib.Seq.{length-take-le}
 use mathlib.Core.Path.{sym}
 use native.Mathlib.Omega.{arith}
-use Rattle.symbol.proofs.Rooms.{room-long}
+use Rattle.index.proofs.Rooms.{room-long}
 use Rattle.symbol_replay.proofs.next.Statement.{statement}
 use Rattle.symbol_replay.proofs.next.Tie as tie
 

@@ -1,4 +1,4 @@
--- The loop's invariant: what is left of both from `i` on decides. The measure is how much that is. Assumes nothing.
+-- The loop's invariant: what is left of both from `i` on decides. The measure is how much that is.
 use Prim.Native.Nat.{_≤_, _-_}
 use lib.ListN.{length, drop}
 use mathlib.Core.Path.{_≡_, refl, sym, _∙_}

@@ -2,7 +2,7 @@ use borrow.Author.Needs.{needs}
 use Rattle.console.proofs.Writing.{wrote-all, lines-done}
 use Rattle.console.proofs.print.print_answer.Statement.{statement}
 use Rattle.console.proofs.print.print_answer.Tie as tie
-use Rattle.console.specs.Answer.{printed}
+use Rattle.console.specs.AnswerText.{printed}
 
 clear-requires : tie.Need-clear-requires
 clear-requires c κs = search needs

@@ -2,7 +2,7 @@ use borrow.Author.Needs.{needs}
 use Rattle.console.proofs.Writing.{wrote-then}
 use Rattle.console.proofs.print.put_first_line.Statement.{statement}
 use Rattle.console.proofs.print.put_first_line.Tie as tie
-use Rattle.console.specs.Answer.{firstLine}
+use Rattle.console.specs.AnswerText.{firstLine}
 
 put-field-requires : tie.Need-put-field-requires
 put-field-requires c κs = search needs

@@ -5,7 +5,7 @@ use native.Mathlib.Omega.{arith}
 use Rattle.console.proofs.Writing.{wrote-length, hex-none, hex-turn, hex-done}
 use Rattle.console.proofs.print.put_hex_bytes.Statement.{statement}
 use Rattle.console.proofs.print.put_hex_bytes.Tie as tie
-use Rattle.console.specs.Buffer.{Wrote}
+use Rattle.console.specs.Inside.Wrote.{Wrote}
 use Rattle.console.specs.Text.{hexBytes}
 
 abbrev Inv-loop : tie.InvT-loop

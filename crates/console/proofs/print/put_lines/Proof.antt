@@ -4,8 +4,8 @@ use native.Mathlib.Omega.{arith}
 use Rattle.console.proofs.Writing.{wrote-length, lines-none, lines-turn, lines-done}
 use Rattle.console.proofs.print.put_lines.Statement.{statement}
 use Rattle.console.proofs.print.put_lines.Tie as tie
-use Rattle.console.specs.Answer.{linesOf}
-use Rattle.console.specs.Buffer.{Wrote}
+use Rattle.console.specs.AnswerText.{linesOf}
+use Rattle.console.specs.Inside.Wrote.{Wrote}
 
 abbrev Inv-loop : tie.InvT-loop
 Inv-loop diagnostics n out₀ at next₀ i₀ out next i = (i ≤ n) × Wrote out₀ out at next (linesOf diagnostics i)

@@ -1,5 +1,5 @@
 use native.Mathlib.Omega.{arith}
-use Rattle.console.proofs.Lists.{records-all, records-some}
+use Rattle.console.proofs.TextLists.{records-all, records-some}
 use Rattle.console.proofs.print.records_in.Statement.{statement}
 use Rattle.console.proofs.print.records_in.Tie as tie
 

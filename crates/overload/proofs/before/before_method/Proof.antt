@@ -2,7 +2,7 @@ use borrow.Author.Needs.{needs}
 use mathlib.Core.Path.{sym}
 use native.Mathlib.Omega.{arith}
 use Rattle.overload.proofs.Reporting.{reported-as, reported-append}
-use Rattle.overload.proofs.Singles.{at-append, access-few}
+use Rattle.overload.proofs.SingleReports.{at-append, access-few}
 use Rattle.overload.proofs.before.before_method.Statement.{statement}
 use Rattle.overload.proofs.before.before_method.Tie as tie
 use Rattle.symbol.specs.Lookup.{symbolsOf}

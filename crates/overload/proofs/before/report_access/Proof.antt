@@ -1,6 +1,6 @@
 use borrow.Author.Needs.{needs}
 use Rattle.overload.proofs.Reporting.{reported-none, reported-one, reported-as}
-use Rattle.overload.proofs.Singles.{access-told, access-fine}
+use Rattle.overload.proofs.SingleReports.{access-told, access-fine}
 use Rattle.overload.proofs.before.report_access.Statement.{statement}
 use Rattle.overload.proofs.before.report_access.Tie as tie
 

@@ -1,6 +1,6 @@
 use borrow.Author.Needs.{needs}
 use Rattle.overload.proofs.Reporting.{reported-none, reported-one, reported-as}
-use Rattle.overload.proofs.Singles.{suspend-fine, suspend-told}
+use Rattle.overload.proofs.SingleReports.{suspend-fine, suspend-told}
 use Rattle.overload.proofs.before.report_suspend.Statement.{statement}
 use Rattle.overload.proofs.before.report_suspend.Tie as tie
 

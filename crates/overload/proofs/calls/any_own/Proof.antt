@@ -1,6 +1,6 @@
 use borrow.Author.Needs.{needs}
 use borrow.Author.Tests.{not-true, not-false}
-use Rattle.overload.proofs.Walks.{OwnFrom, own-start, own-none, own-found, own-place, own-on, leftOf, left-less}
+use Rattle.overload.proofs.FunctionListWalk.{OwnFrom, own-start, own-none, own-found, own-place, own-on, leftOf, left-less}
 use Rattle.overload.proofs.calls.any_own.Statement.{statement}
 use Rattle.overload.proofs.calls.any_own.Tie as tie
 use Rattle.symbol.specs.Lookup.{symbolsOf}

@@ -1,10 +1,10 @@
 use borrow.Author.Needs.{needs}
 use mathlib.Core.Path.{sym}
 use native.Mathlib.Omega.{arith}
-use Rattle.overload.proofs.Rows.{args-length, args-short}
-use Rattle.overload.proofs.Settled.{settled-nothing}
+use Rattle.overload.proofs.CallAnswers.{settled-nothing}
+use Rattle.overload.proofs.FunctionListWalk.{walked-room, resolved}
+use Rattle.scoring.proofs.ParamsAndArgsLeft.{args-length, args-short}
 use Rattle.overload.proofs.Tallies.{tally-place}
-use Rattle.overload.proofs.Walks.{walked-room, resolved}
 use Rattle.overload.proofs.calls.check_call_args.Statement.{statement}
 use Rattle.overload.proofs.calls.check_call_args.Tie as tie
 

@@ -1,6 +1,6 @@
 use borrow.Author.Needs.{needs}
+use Rattle.overload.proofs.CallAnswers.{called-error}
 use Rattle.overload.proofs.Reporting.{reported-none, reported-one}
-use Rattle.overload.proofs.Settled.{called-error}
 use Rattle.overload.proofs.calls.none_fits.Statement.{statement}
 use Rattle.overload.proofs.calls.none_fits.Tie as tie
 use Rattle.overload.specs.Resolve.{noneFits}

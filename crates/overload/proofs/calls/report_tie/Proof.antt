@@ -1,6 +1,6 @@
 use borrow.Author.Needs.{needs}
 use Rattle.overload.proofs.Reporting.{reported-none, reported-one, reported-as}
-use Rattle.overload.proofs.Singles.{tie-several, tie-not}
+use Rattle.overload.proofs.SingleReports.{tie-several, tie-not}
 use Rattle.overload.proofs.calls.report_tie.Statement.{statement}
 use Rattle.overload.proofs.calls.report_tie.Tie as tie
 

@@ -1,6 +1,6 @@
 use borrow.Author.Needs.{needs}
+use Rattle.overload.proofs.CallAnswers.{settled-best, settled-one, settled-none}
 use Rattle.overload.proofs.Reporting.{reported-one}
-use Rattle.overload.proofs.Settled.{settled-best, settled-one, settled-none}
 use Rattle.overload.proofs.calls.settle.Statement.{statement}
 use Rattle.overload.proofs.calls.settle.Tie as tie
 

@@ -2,11 +2,11 @@ use borrow.Author.Needs.{needs}
 use mathlib.Core.Bool.{Bool, _&&_}
 use mathlib.Core.List.{List, _++_}
 use mathlib.Core.Path.{sym, ap, _∙_}
-use Rattle.overload.proofs.Chosen.{taken-not, taken-fits, taken-other}
+use Rattle.overload.proofs.OverloadFold.{taken-not, taken-fits, taken-other}
 use Rattle.overload.proofs.Tallies.{tally-as, tally-same}
 use Rattle.overload.proofs.calls.turn.Statement.{statement}
 use Rattle.overload.proofs.calls.turn.Tie as tie
-use Rattle.overload.specs.Arity.{fits}
+use Rattle.scoring.specs.Arity.{fits}
 use Rattle.symbol.specs.Symbols.{Overload}
 
 pub turn-spec : {M : Type 1} → statement M

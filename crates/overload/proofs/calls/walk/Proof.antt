@@ -2,11 +2,11 @@ use borrow.Author.Needs.{needs}
 use lib.ListN.{length}
 use mathlib.Core.Path.{_≡_, refl, _∙_}
 use native.Mathlib.Omega.{arith}
-use Rattle.overload.proofs.Rows.{args-length}
-use Rattle.overload.proofs.Walks.{leftOf, Walking, walk-start, walk-room, walk-place, walk-on, walk-done, left-less, functions-few}
+use Rattle.overload.proofs.FunctionListWalk.{leftOf, Walking, walk-start, walk-room, walk-place, walk-on, walk-done, left-less, functions-few}
+use Rattle.scoring.proofs.ParamsAndArgsLeft.{args-length}
 use Rattle.overload.proofs.calls.walk.Statement.{statement}
 use Rattle.overload.proofs.calls.walk.Tie as tie
-use Rattle.overload.specs.Args.{argsIn}
+use Rattle.scoring.specs.Inside.Args.{argsIn}
 use Rattle.symbol.specs.Lookup.{symbolsOf}
 
 abbrev Inv-loop : tie.InvT-loop

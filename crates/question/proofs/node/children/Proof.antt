@@ -2,7 +2,7 @@ use borrow.Author.Needs.{needs}
 use native.Mathlib.Omega.{arith}
 use Rattle.question.proofs.node.children.Statement.{statement}
 use Rattle.question.proofs.node.children.Tie as tie
-use Rattle.question.specs.Read.{children}
+use Rattle.question.specs.NodeRead.{children}
 
 pub children-spec : {M : Type 1} → statement M
 unfolding children

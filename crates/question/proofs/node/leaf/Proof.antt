@@ -4,8 +4,8 @@ use native.Mathlib.Omega.{arith}
 use Rattle.question.proofs.node.leaf.Statement.{statement}
 use Rattle.question.proofs.node.leaf.Tie as tie
 use Rattle.question.proofs.Plain.{plain-leaf}
-use Rattle.question.specs.Read.{leafOf}
-use Rattle.ty.proofs.Sized.{whole}
+use Rattle.question.specs.NodeRead.{leafOf}
+use Rattle.ty.proofs.TypeSizes.{whole}
 
 pub leaf-spec : {M : Type 1} → statement M
 unfolding leafOf

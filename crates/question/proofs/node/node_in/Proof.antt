@@ -1,7 +1,7 @@
 use borrow.Author.Needs.{needs}
 use Rattle.question.proofs.node.node_in.Statement.{statement}
 use Rattle.question.proofs.node.node_in.Tie as tie
-use Rattle.question.specs.Read.{nodeIn}
+use Rattle.question.specs.NodeRead.{nodeIn}
 use Rattle.ty.proofs.Choice.{chain}
 
 pub node-in-spec : {M : Type 1} → statement M

@@ -1,6 +1,6 @@
 use Rattle.question.proofs.node.node_of.Statement.{statement}
 use Rattle.question.proofs.node.node_of.Tie as tie
-use Rattle.question.specs.Read.{nodeOf}
+use Rattle.question.specs.NodeRead.{nodeOf}
 use Rattle.ty.proofs.Choice.{chain}
 
 pub node-of-spec : {M : Type 1} → statement M

@@ -1,7 +1,7 @@
 use borrow.Author.Needs.{needs}
 use Rattle.question.proofs.node.own_bytes.Statement.{statement}
 use Rattle.question.proofs.node.own_bytes.Tie as tie
-use Rattle.question.specs.Read.{ownBytes}
+use Rattle.question.specs.NodeRead.{ownBytes}
 
 pub own-bytes-spec : {M : Type 1} → statement M
 unfolding ownBytes

@@ -1,16 +1,16 @@
 -- The loop's invariant: what is to be passed is what is passed from `at` on, where at most 17 trees a node wait to be passed. The measure is how many
--- nodes may still come. Assumes nothing.
+-- nodes may still come.
 use Prim.Native.Nat.{_+_, _*_, _≤_, _-_, max}
 use borrow.Author.Needs.{needs}
 use lib.ListN.{length}
 use mathlib.Core.Path.{_≡_, refl, ap, _∙_}
 use native.Mathlib.Omega.{arith}
-use Rattle.question.proofs.Reading.{step-small, step-few}
+use Rattle.question.proofs.NodeReading.{step-small, step-few}
 use Rattle.question.proofs.Walking.{skip-end, skip-stop, skip-turn}
 use Rattle.question.proofs.node.skip.Statement.{statement}
 use Rattle.question.proofs.node.skip.Tie as tie
-use Rattle.question.specs.Read.{ownBytes, children}
-use Rattle.question.specs.Skip.{skipFrom, skipAt}
+use Rattle.question.specs.Inside.Skip.{skipFrom, skipAt}
+use Rattle.question.specs.NodeRead.{ownBytes, children}
 
 abbrev Inv-loop : tie.InvT-loop
 Inv-loop q start trees at₀ nodes₀ pending₀ at nodes pending = (skipFrom (64 - nodes) q at nodes pending ≡ skipAt q start trees) × (nodes ≤ 64) × (pending ≤ trees + 17 * nodes) × (at ≤ max start (length q))

@@ -2,7 +2,7 @@ use borrow.Author.Needs.{needs}
 use Rattle.rules.proofs.access.access_report.Statement.{statement}
 use Rattle.rules.proofs.access.access_report.Tie as tie
 use Rattle.rules.specs.Access.{accessReport}
-use Rattle.rules.specs.Ruled.{reportOf}
+use Rattle.operators.specs.Inside.Ruled.{reportOf}
 use Rattle.ty.proofs.Choice.{chain}
 
 pub access-report-spec : {M : Type 1} → statement M

@@ -7,8 +7,8 @@ use mathlib.Core.Path.{sym, _∙_, ap, refl}
 use Rattle.rules.proofs.Bases.{same-base}
 use Rattle.rules.proofs.member.check_member.Statement.{statement}
 use Rattle.rules.proofs.member.check_member.Tie as tie
+use Rattle.operators.specs.Inside.Ruled.{reportOf}
 use Rattle.rules.specs.Member.{memberOut, baseMember}
-use Rattle.rules.specs.Ruled.{reportOf}
 use Rattle.ty.proofs.Choice.{chain, passed}
 use Rattle.ty.specs.Bytes.{kindOf}
 use Rattle.ty.specs.Kind.{moduleKind}
@@ -52,7 +52,6 @@ check-member-spec =
     (λ c κs. search needs)
     (λ c κs. search needs)
     (λ c κs. search needs)
-    (λ c κs. search needs)
     (λ c.
     let c2 = c .before .before in
     let c3 = c2 .before in
@@ -60,19 +59,15 @@ check-member-spec =
     let c5 = c4 .before in
     let c6 = c5 .before in
     let c7 = c6 .before in
-    let c8 = c7 .before in
-    let c12 = c8 .before .before .before .before in
-    let a = c12 .args in
+    let c11 = c7 .before .before .before .before in
+    let a = c11 .args in
+    let e = sym (c7 .is-nullable-object .ensures) ∙ c6 .if1 .left in
     λ y.
     rw (
-      c .behind .ensures (a .table .now) (a .object .now) y,
-      c3 .member-report .ensures,
-      c .before .kind-member .ensures y,
-      c2 .is-array .ensures,
-      c5 .kind-of .ensures,
-      c6 .non-null .ensures,
-      same-base _ (a .object .now) _ (sym (c8 .is-nullable-object .ensures)
-          ∙ c7 .if1 .left),
-    ) (passed _ _ _ _ (sym (c8 .is-nullable-object .ensures) ∙ c7 .if1 .left) (passed _ _ _ _
-    (sym (ap (λ (s : List ℕ). eqb (kindOf s) moduleKind) (c6 .non-null .ensures)) ∙ (sym (ap (λ (k : ℕ). eqb k moduleKind) (c5 .kind-of .ensures))
-    ∙ ne-eqb _ _ (c4 .if2 .left))) refl))))
+      c .report-before .ensures (a .table .now) (a .object .now) y,
+      c2 .member-report .ensures,
+      c .before .kind-member .ensures (a .object .now) y (rw (c5 .non-null .ensures) (same-base (a .object .now) e)),
+      c5 .non-null .ensures,
+    ) (passed _ _ _ _ e (passed _ _ _ _
+    (sym (ap (λ (s : List ℕ). eqb (kindOf s) moduleKind) (c5 .non-null .ensures)) ∙ (sym (ap (λ (k : ℕ). eqb k moduleKind) (c4 .kind-of .ensures))
+    ∙ ne-eqb _ _ (c3 .if2 .left))) refl))))

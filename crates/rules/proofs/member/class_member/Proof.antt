@@ -1,10 +1,10 @@
 use borrow.Author.Needs.{needs}
 use Rattle.area.specs.Source.{typeFrom}
-use Rattle.rules.proofs.Lookups.{no-variable, is-field, is-function}
+use Rattle.rules.proofs.MemberLookups.{no-variable, is-field, is-function}
 use Rattle.rules.proofs.member.class_member.Statement.{statement}
 use Rattle.rules.proofs.member.class_member.Tie as tie
 use Rattle.rules.specs.Member.{classMember}
-use Rattle.rules.specs.Ruled.{reportOf}
+use Rattle.operators.specs.Inside.Ruled.{reportOf}
 use Rattle.ty.proofs.Choice.{chain}
 
 pub class-member-spec : {M : Type 1} → statement M

@@ -1,8 +1,8 @@
 use borrow.Author.Needs.{needs}
 use Rattle.rules.proofs.member.kind_member.Statement.{statement}
 use Rattle.rules.proofs.member.kind_member.Tie as tie
+use Rattle.operators.specs.Inside.Ruled.{reportOf}
 use Rattle.rules.specs.Member.{kindMember}
-use Rattle.rules.specs.Ruled.{reportOf}
 use Rattle.ty.proofs.Choice.{chain}
 
 pub kind-member-spec : {M : Type 1} → statement M
@@ -12,36 +12,42 @@ kind-member-spec =
     (tie.spec
     (λ c κs. search needs)
     (λ c κs. search needs)
-    (λ c y.
-    let c6 = c .before .before .before .before .before .before in
-    rw (c .named-member .ensures (c6 .args .object .now) y, c .before .name-of .ensures) (search chain depth 16))
+    (λ c κs. search needs)
+    (λ c.
+    let c3 = c .before .before .before in
+    λ x y h.
+    rw (c .named-member .ensures x y, c .before .name-of .ensures, ← c3 .kind-of .ensures) (search chain depth 16))
+    (λ c κs. search needs)
+    (λ c.
+    let c3 = c .before .before .before in
+    let c7 = c3 .before .before .before .before in
+    λ x y h.
+    rw (c .string-member .ensures (c7 .args .table .now) x y, ← c3 .kind-of .ensures) (search chain depth 16))
+    (λ c κs. search needs)
+    (λ c.
+    let c4 = c .before .before .before .before in
+    let c8 = c4 .before .before .before .before in
+    λ x y h.
+    rw (
+      c .element-member .ensures (c8 .args .table .now) x y,
+      h (rw (c4 .kind-of .ensures) at (c .before .if3 .taken)),
+      ← c4 .kind-of .ensures,
+    ) (search chain depth 16))
+    (λ c κs. search needs)
+    (λ c.
+    let c5 = c .before .before .before .before .before in
+    let c9 = c5 .before .before .before .before in
+    λ x y h.
+    rw (c .map-member .ensures (c9 .args .table .now) x y, ← c5 .kind-of .ensures) (search chain depth 16))
     (λ c κs. search needs)
     (λ c.
     let c6 = c .before .before .before .before .before .before in
-    let a = c6 .args in
-    λ y.
-    rw (c .string-member .ensures (a .table .now) (a .object .now) y) (search chain depth 16))
+    let c10 = c6 .before .before .before .before in
+    λ x y h.
+    rw (c .plain .ensures (c10 .args .table .now) x y, ← c6 .kind-of .ensures) (search chain depth 16))
     (λ c κs. search needs)
     (λ c.
-    let c7 = c .before .before .before .before .before .before .before in
-    let a = c7 .args in
-    λ y.
-    rw (c .element-member .ensures (a .table .now) (a .object .now) y) (search chain depth 16))
-    (λ c κs. search needs)
-    (λ c.
-    let c8 = c .before .before .before .before .before .before .before .before in
-    let a = c8 .args in
-    λ y.
-    rw (c .map-member .ensures (a .table .now) (a .object .now) y) (search chain depth 16))
-    (λ c κs. search needs)
-    (λ c.
-    let c9 = c .before .before .before .before .before .before .before .before .before in
-    let a = c9 .args in
-    λ y.
-    rw (c .plain .ensures (a .table .now) (a .object .now) y) (search chain depth 16))
-    (λ c κs. search needs)
-    (λ c.
-    let c9 = c .before .before .before .before .before .before .before .before .before in
-    let a = c9 .args in
-    λ y.
-    rw (c .fails .ensures (a .table .now) (a .object .now) y) (search chain depth 16)))
+    let c6 = c .before .before .before .before .before .before in
+    let c10 = c6 .before .before .before .before in
+    λ x y h.
+    rw (c .fails .ensures (c10 .args .table .now) x y, ← c6 .kind-of .ensures) (search chain depth 16)))

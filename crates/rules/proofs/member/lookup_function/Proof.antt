@@ -1,6 +1,7 @@
 use borrow.Author.Needs.{needs}
 use mathlib.Core.Path.{sym}
-use Rattle.rules.proofs.Lookups.{none-found, first-found, first-function}
+use Rattle.operators.proofs.MethodLookups.{none-found, first-found}
+use Rattle.rules.proofs.MemberLookups.{first-function}
 use Rattle.rules.proofs.member.lookup_function.Statement.{statement}
 use Rattle.rules.proofs.member.lookup_function.Tie as tie
 use Rattle.rules.specs.Member.{firstFunction}

@@ -1,6 +1,6 @@
 use borrow.Author.Needs.{needs}
 use mathlib.Core.Path.{sym, _∙_}
-use Rattle.rules.proofs.Lookups.{field-found, no-field}
+use Rattle.rules.proofs.MemberLookups.{field-found, no-field}
 use Rattle.rules.proofs.member.lookup_var_ty.Statement.{statement}
 use Rattle.rules.proofs.member.lookup_var_ty.Tie as tie
 

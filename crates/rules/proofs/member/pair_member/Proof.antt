@@ -3,8 +3,8 @@ use Rattle.area.specs.Source.{typeFrom}
 use Rattle.rules.proofs.member.pair_member.Statement.{statement}
 use Rattle.rules.proofs.member.pair_member.Tie as tie
 use Rattle.rules.specs.Member.{pairMember}
-use Rattle.rules.specs.Out.{unless}
-use Rattle.rules.specs.Ruled.{reportOf}
+use Rattle.operators.specs.Out.{unless}
+use Rattle.operators.specs.Inside.Ruled.{reportOf}
 use Rattle.ty.proofs.Choice.{chain}
 
 pub pair-member-spec : {M : Type 1} → statement M

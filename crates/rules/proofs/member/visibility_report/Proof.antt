@@ -1,6 +1,6 @@
 use borrow.Author.Needs.{needs}
 use mathlib.Core.Path.{sym, _∙_}
-use Rattle.rules.proofs.Lookups.{no-visibility, has-visibility}
+use Rattle.rules.proofs.MemberLookups.{no-visibility, has-visibility}
 use Rattle.rules.proofs.member.visibility_report.Statement.{statement}
 use Rattle.rules.proofs.member.visibility_report.Tie as tie
 

@@ -3,10 +3,10 @@ use borrow.Author.Needs.{needs}
 use borrow.Author.Tests.{eq-eqb, ne-eqb}
 use mathlib.Core.List.{List}
 use mathlib.Core.Path.{ap, _∙_}
-use Rattle.symbol.proofs.Sizes.{stands-own, name-room, name-bytes}
+use Rattle.record.proofs.RecordSizes.{stands-own, name-room, name-bytes}
 use Rattle.symbol.proofs.checks.builtin_name.Statement.{statement}
 use Rattle.symbol.proofs.checks.builtin_name.Tie as tie
-use Rattle.symbol.specs.Spelling.{builtinNames, spelled}
+use Rattle.record.specs.Spelling.{builtinNames, spelled}
 
 returns : tie.Need-returns
 returns c = let x = stands-own (c .before .before .before .args .t .now) (c .before .before .before .args .me) (c .before .before .before .args .h) (c .before .before .before .pre) in rw (← x, ne-eqb _ _ (c .if1 .taken))

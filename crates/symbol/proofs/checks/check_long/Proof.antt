@@ -1,5 +1,5 @@
 use borrow.Author.Needs.{needs}
-use Rattle.symbol.proofs.Rooms.{late-long}
+use Rattle.index.proofs.Rooms.{late-long}
 use Rattle.symbol.proofs.checks.check_long.Statement.{statement}
 use Rattle.symbol.proofs.checks.check_long.Tie as tie
 

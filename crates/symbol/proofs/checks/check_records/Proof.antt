@@ -3,7 +3,7 @@ use borrow.Author.Needs.{needs}
 use lib.ListN.{length}
 use mathlib.Core.Path.{_≡_, refl, _∙_}
 use native.Mathlib.Omega.{arith}
-use Rattle.symbol.proofs.Mades.{Making, making-start, making-stopped, making-next, making-done}
+use Rattle.symbol.proofs.IndexMakes.{Making, making-start, making-stopped, making-next, making-done}
 use Rattle.symbol.proofs.Passes.{Going, going-start, going-asked, own-is, own-refused, own-stopped, going-prepared, going-key, both, key-refused, key-stopped, going-placed, going-join, going-next, going-done, going-room, going-accepted}
 use Rattle.symbol.proofs.checks.check_records.Statement.{statement}
 use Rattle.symbol.proofs.checks.check_records.Tie as tie

@@ -1,6 +1,6 @@
 use borrow.Author.Needs.{needs}
 use native.Mathlib.Omega.{arith}
-use Rattle.symbol.proofs.Rooms.{late-short}
+use Rattle.index.proofs.Rooms.{late-short}
 use Rattle.symbol.proofs.checks.check_short.Statement.{statement}
 use Rattle.symbol.proofs.checks.check_short.Tie as tie
 

@@ -1,8 +1,8 @@
 use borrow.Author.Needs.{needs}
 use mathlib.Core.Path.{_∙_}
 use native.Mathlib.Omega.{arith}
-use Rattle.symbol.proofs.Faults.{long-fault}
-use Rattle.symbol.proofs.Mades.{made-long}
+use Rattle.record.proofs.Faults.{long-fault}
+use Rattle.symbol.proofs.IndexMakes.{made-long}
 use Rattle.symbol.proofs.Passes.{refused}
 use Rattle.symbol.proofs.checks.check_table.Statement.{statement}
 use Rattle.symbol.proofs.checks.check_table.Tie as tie

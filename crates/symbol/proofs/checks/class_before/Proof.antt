@@ -1,10 +1,10 @@
 use borrow.Author.Needs.{needs}
 use mathlib.Core.Path.{subst}
 use native.Mathlib.Omega.{arith}
-use Rattle.symbol.proofs.Meets.{planted-open, class-taken, class-free}
-use Rattle.symbol.specs.Spot.{SpotIs}
-use Rattle.symbol.specs.declared.tree.Key.the-variants.{Ids}
-use Rattle.symbol.specs.declared.tree.Spot.{Spot}
+use Rattle.symbol.proofs.SearchMeetsKey.{planted-open, class-taken, class-free}
+use Rattle.index.specs.Inside.Spot.{SpotIs}
+use Rattle.index.specs.declared.tree.Key.the-variants.{Ids}
+use Rattle.index.specs.declared.tree.Spot.{Spot}
 use Rattle.symbol.proofs.checks.class_before.Statement.{statement}
 use Rattle.symbol.proofs.checks.class_before.Tie as tie
 

@@ -3,14 +3,14 @@ use Prim.Native.Nat.{ℕ, _+_, _%_}
 use lib.ListN.{length}
 use mathlib.Core.Path.{sym, ap, _∙_, subst}
 use native.Mathlib.Omega.{arith}
-use Rattle.symbol.proofs.Meets.{own-in, own-open, list-fresh, list-bucket, key-taken, key-free}
-use Rattle.symbol.proofs.Searches.{root-free}
-use Rattle.symbol.specs.Index.{listCount}
-use Rattle.symbol.specs.Key.{treeFor, KeyIn, keyOf}
-use Rattle.symbol.specs.Spot.{SpotIs, FreeIs}
-use Rattle.symbol.specs.declared.front.Head.{Head}
-use Rattle.symbol.specs.declared.tree.Key.{Key}
-use Rattle.symbol.specs.declared.tree.Spot.{Spot}
+use Rattle.symbol.proofs.SearchMeetsKey.{own-in, own-open, list-fresh, list-bucket, key-taken, key-free}
+use Rattle.index.proofs.Searches.{root-free}
+use Rattle.index.specs.Inside.Index.{listCount}
+use Rattle.index.specs.Inside.SearchKey.{treeFor, KeyIn, keyAt}
+use Rattle.index.specs.Inside.Spot.{SpotIs, FreeIs}
+use Rattle.record.specs.declared.front.Head.{Head}
+use Rattle.index.specs.declared.tree.Key.{Key}
+use Rattle.index.specs.declared.tree.Spot.{Spot}
 use Rattle.symbol.proofs.checks.entry_for.Statement.{statement}
 use Rattle.symbol.proofs.checks.entry_for.Tie as tie
 
@@ -50,13 +50,13 @@ add-t15 c = omega (arith, (c .before .before .tree-of .ensures .1))
 
 returns-2 : tie.Need-returns-2
 returns-2 c =
-    let f = root-free (c .before .before .before .before .before .before .before .before .args .t .now) (c .before .before .before .before .before .before .before .before .args .x .now) (keyOf (c .before .before .before .before .before .before .before .before .args .me) (c .before .before .before .before .before .before .before .before .args .h)) (c .before .before .tree-of .result) (c .before .entry-at .result) ((c .before .before .tree-of .ensures .0) ∙ ap (treeFor (c .before .before .before .before .before .before .before .before .args .t .now)) (c .before .before .before .key-of .ensures)) (c .before .entry-at .ensures) (c .if2 .taken) in
+    let f = root-free (c .before .before .before .before .before .before .before .before .args .t .now) (c .before .before .before .before .before .before .before .before .args .x .now) (keyAt (c .before .before .before .before .before .before .before .before .args .me) (c .before .before .before .before .before .before .before .before .args .h)) (c .before .before .tree-of .result) (c .before .entry-at .result) ((c .before .before .tree-of .ensures .0) ∙ ap (treeFor (c .before .before .before .before .before .before .before .before .args .t .now)) (c .before .before .before .key-of .ensures)) (c .before .entry-at .ensures) (c .if2 .taken) in
     record {
       key = key-free (c .before .before .before .before .before .before .before .before .args .t .now) (c .before .before .before .before .before .before .before .before .args .x .now) (c .before .before .before .before .before .before .before .before .args .me) (c .before .before .before .before .before .before .before .before .args .h) (c .before .before .before .before .before .before .before .before .pre) (c .before .before .before .before .if1 .left) (1 + (c .before .before .tree-of .result)) f;
       place =
           record {
             other = λ z. (c .before .before .before .before .if1 .left) (ap (λ (y : Head). y .kind) ((c .before .before .before .before .before .before .before .before .pre .stands .head)) ∙ z);
-            free = subst (λ (z : Head). FreeIs (c .before .before .before .before .before .before .before .before .args .t .now) (c .before .before .before .before .before .before .before .before .args .x .now) (keyOf (c .before .before .before .before .before .before .before .before .args .me) z) (1 + (c .before .before .tree-of .result))) ((c .before .before .before .before .before .before .before .before .pre .stands .head)) f;
+            free = subst (λ (z : Head). FreeIs (c .before .before .before .before .before .before .before .before .args .t .now) (c .before .before .before .before .before .before .before .before .args .x .now) (keyAt (c .before .before .before .before .before .before .before .before .args .me) z) (1 + (c .before .before .tree-of .result))) ((c .before .before .before .before .before .before .before .before .pre .stands .head)) f;
           };
     }
 
@@ -70,17 +70,17 @@ enum-known-spot : tie.Need-enum-known-spot
 enum-known-spot c = search needs
 
 returns-3 : tie.Need-returns-3
-returns-3 c = record { key = key-taken (c .before .before .before .before .before .before .before .before .before .before .before .args .t .now) (c .before .before .before .before .before .before .before .before .before .before .before .args .x .now) (c .before .before .before .before .before .before .before .before .before .before .before .args .me) (c .before .before .before .before .before .before .before .before .before .before .before .args .h) (c .before .before .before .before .before .before .before .before .before .before .before .pre) (c .before .before .before .before .before .before .before .if1 .left) _ (subst (λ (z : Spot). SpotIs (c .before .before .before .before .before .before .before .before .before .before .before .args .t .now) (c .before .before .before .before .before .before .before .before .before .before .before .args .x .now) ((c .before .before .before .before .before .before .before .before .before .before .before .args .me .at)) (keyOf (c .before .before .before .before .before .before .before .before .before .before .before .args .me) (c .before .before .before .before .before .before .before .before .before .before .before .args .h)) z) (c .enum-told .given .1) (subst (λ (z : Key). SpotIs (c .before .before .before .before .before .before .before .before .before .before .before .args .t .now) (c .before .before .before .before .before .before .before .before .before .before .before .args .x .now) ((c .before .before .before .before .before .before .before .before .before .before .before .args .me .at)) z (c .before .before .search .result)) (c .before .before .before .before .before .before .key-of .ensures) ((c .before .before .search .ensures) ((c .before .before .before .before .before .before .before .before .before .before .before .args .me .at)) ((c .before .before .before .before .before .before .before .before .before .before .before .pre .planted .tree))))); place = tt }
+returns-3 c = record { key = key-taken (c .before .before .before .before .before .before .before .before .before .before .before .args .t .now) (c .before .before .before .before .before .before .before .before .before .before .before .args .x .now) (c .before .before .before .before .before .before .before .before .before .before .before .args .me) (c .before .before .before .before .before .before .before .before .before .before .before .args .h) (c .before .before .before .before .before .before .before .before .before .before .before .pre) (c .before .before .before .before .before .before .before .if1 .left) _ (subst (λ (z : Spot). SpotIs (c .before .before .before .before .before .before .before .before .before .before .before .args .t .now) (c .before .before .before .before .before .before .before .before .before .before .before .args .x .now) ((c .before .before .before .before .before .before .before .before .before .before .before .args .me .at)) (keyAt (c .before .before .before .before .before .before .before .before .before .before .before .args .me) (c .before .before .before .before .before .before .before .before .before .before .before .args .h)) z) (c .enum-told .given .1) (subst (λ (z : Key). SpotIs (c .before .before .before .before .before .before .before .before .before .before .before .args .t .now) (c .before .before .before .before .before .before .before .before .before .before .before .args .x .now) ((c .before .before .before .before .before .before .before .before .before .before .before .args .me .at)) z (c .before .before .search .result)) (c .before .before .before .before .before .before .key-of .ensures) ((c .before .before .search .ensures) ((c .before .before .before .before .before .before .before .before .before .before .before .args .me .at)) ((c .before .before .before .before .before .before .before .before .before .before .before .pre .planted .tree))))); place = tt }
 
 returns-4 : tie.Need-returns-4
 returns-4 c =
-    let f = subst (λ (z : Spot). SpotIs (c .before .before .before .before .before .before .before .before .before .before .before .before .args .t .now) (c .before .before .before .before .before .before .before .before .before .before .before .before .args .x .now) ((c .before .before .before .before .before .before .before .before .before .before .before .before .args .me .at)) (keyOf (c .before .before .before .before .before .before .before .before .before .before .before .before .args .me) (c .before .before .before .before .before .before .before .before .before .before .before .before .args .h)) z) (c .before .spot .given .1) (subst (λ (z : Key). SpotIs (c .before .before .before .before .before .before .before .before .before .before .before .before .args .t .now) (c .before .before .before .before .before .before .before .before .before .before .before .before .args .x .now) ((c .before .before .before .before .before .before .before .before .before .before .before .before .args .me .at)) z (c .before .before .before .search .result)) (c .before .before .before .before .before .before .before .key-of .ensures) ((c .before .before .before .search .ensures) ((c .before .before .before .before .before .before .before .before .before .before .before .before .args .me .at)) ((c .before .before .before .before .before .before .before .before .before .before .before .before .pre .planted .tree)))) in
+    let f = subst (λ (z : Spot). SpotIs (c .before .before .before .before .before .before .before .before .before .before .before .before .args .t .now) (c .before .before .before .before .before .before .before .before .before .before .before .before .args .x .now) ((c .before .before .before .before .before .before .before .before .before .before .before .before .args .me .at)) (keyAt (c .before .before .before .before .before .before .before .before .before .before .before .before .args .me) (c .before .before .before .before .before .before .before .before .before .before .before .before .args .h)) z) (c .before .spot .given .1) (subst (λ (z : Key). SpotIs (c .before .before .before .before .before .before .before .before .before .before .before .before .args .t .now) (c .before .before .before .before .before .before .before .before .before .before .before .before .args .x .now) ((c .before .before .before .before .before .before .before .before .before .before .before .before .args .me .at)) z (c .before .before .before .search .result)) (c .before .before .before .before .before .before .before .key-of .ensures) ((c .before .before .before .search .ensures) ((c .before .before .before .before .before .before .before .before .before .before .before .before .args .me .at)) ((c .before .before .before .before .before .before .before .before .before .before .before .before .pre .planted .tree)))) in
     record {
       key = key-free (c .before .before .before .before .before .before .before .before .before .before .before .before .args .t .now) (c .before .before .before .before .before .before .before .before .before .before .before .before .args .x .now) (c .before .before .before .before .before .before .before .before .before .before .before .before .args .me) (c .before .before .before .before .before .before .before .before .before .before .before .before .args .h) (c .before .before .before .before .before .before .before .before .before .before .before .before .pre) (c .before .before .before .before .before .before .before .before .if1 .left) _ f;
       place =
           record {
             other = λ z. (c .before .before .before .before .before .before .before .before .if1 .left) (ap (λ (y : Head). y .kind) ((c .before .before .before .before .before .before .before .before .before .before .before .before .pre .stands .head)) ∙ z);
-            free = subst (λ (z : Head). FreeIs (c .before .before .before .before .before .before .before .before .before .before .before .before .args .t .now) (c .before .before .before .before .before .before .before .before .before .before .before .before .args .x .now) (keyOf (c .before .before .before .before .before .before .before .before .before .before .before .before .args .me) z) ((c .before .spot .given .0 .0))) ((c .before .before .before .before .before .before .before .before .before .before .before .before .pre .stands .head)) f;
+            free = subst (λ (z : Head). FreeIs (c .before .before .before .before .before .before .before .before .before .before .before .before .args .t .now) (c .before .before .before .before .before .before .before .before .before .before .before .before .args .x .now) (keyAt (c .before .before .before .before .before .before .before .before .before .before .before .before .args .me) z) ((c .before .spot .given .0 .0))) ((c .before .before .before .before .before .before .before .before .before .before .before .before .pre .stands .head)) f;
           };
     }
 

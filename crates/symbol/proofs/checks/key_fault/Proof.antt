@@ -1,8 +1,8 @@
 use borrow.Author.Needs.{needs}
 use mathlib.Core.Path.{refl, sym, _∙_}
-use Rattle.symbol.proofs.Aheads.{late-is}
-use Rattle.symbol.proofs.Sizes.{stands-own}
-use Rattle.symbol.specs.Asked.{keyFault}
+use Rattle.symbol.proofs.SuperLate.{late-is}
+use Rattle.record.proofs.RecordSizes.{stands-own}
+use Rattle.record.specs.Inside.HeadFault.{keyFault}
 use Rattle.ty.proofs.Choice.{chosen, passed}
 use Rattle.symbol.proofs.checks.key_fault.Statement.{statement}
 use Rattle.symbol.proofs.checks.key_fault.Tie as tie

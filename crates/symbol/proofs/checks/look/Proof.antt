@@ -1,7 +1,7 @@
 use mathlib.Core.Bool.{Bool, not}
 use mathlib.Core.Path.{refl, sym, ap, _∙_, subst}
 use native.Mathlib.Omega.{arith}
-use Rattle.symbol.specs.Ahead.{Looked}
+use Rattle.index.specs.Inside.Ahead.{Looked}
 use Rattle.symbol.proofs.checks.look.Statement.{statement}
 use Rattle.symbol.proofs.checks.look.Tie as tie
 

@@ -1,10 +1,10 @@
 use borrow.Author.Needs.{needs}
 use borrow.Author.Tests.{le-ltb}
 use mathlib.Core.Path.{refl}
-use Rattle.symbol.proofs.Sizes.{stands-own}
+use Rattle.record.proofs.RecordSizes.{stands-own}
 use Rattle.symbol.proofs.checks.own_fault.Statement.{statement}
 use Rattle.symbol.proofs.checks.own_fault.Tie as tie
-use Rattle.symbol.specs.Asked.{ownFault}
+use Rattle.record.specs.Inside.HeadFault.{ownFault}
 use Rattle.ty.proofs.Choice.{chain, chosen, passed}
 
 returns : tie.Need-returns

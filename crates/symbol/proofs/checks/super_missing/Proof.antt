@@ -1,8 +1,8 @@
 use borrow.Author.Tests.{eq-eqb, ne-eqb}
 use mathlib.Core.Bool.{not}
 use mathlib.Core.Path.{ap}
-use Rattle.symbol.proofs.Sizes.{stands-own}
-use Rattle.symbol.specs.Asked.{superMissing}
+use Rattle.record.proofs.RecordSizes.{stands-own}
+use Rattle.record.specs.Inside.HeadFault.{superMissing}
 use Rattle.symbol.proofs.checks.super_missing.Statement.{statement}
 use Rattle.symbol.proofs.checks.super_missing.Tie as tie
 

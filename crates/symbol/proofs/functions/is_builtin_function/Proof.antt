@@ -1,7 +1,7 @@
 use borrow.Author.Needs.{needs}
 use mathlib.Core.Path.{refl}
 use native.Mathlib.Omega.{arith}
-use Rattle.symbol.proofs.Calls.{function-long, function-inside, function-builtin}
+use Rattle.symbol.proofs.FunctionsRead.{function-long, function-inside, function-builtin}
 use Rattle.symbol.proofs.functions.is_builtin_function.Statement.{statement}
 use Rattle.symbol.proofs.functions.is_builtin_function.Tie as tie
 

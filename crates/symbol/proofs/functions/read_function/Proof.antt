@@ -3,7 +3,7 @@ use Prim.Native.Nat.{_+_}
 use lib.ListN.{length-drop}
 use mathlib.Core.Path.{ap}
 use native.Mathlib.Omega.{arith}
-use Rattle.symbol.specs.declared.front.Head.{Head}
+use Rattle.record.specs.declared.front.Head.{Head}
 use Rattle.symbol.proofs.functions.read_function.Statement.{statement}
 use Rattle.symbol.proofs.functions.read_function.Tie as tie
 

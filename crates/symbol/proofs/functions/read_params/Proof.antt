@@ -5,8 +5,8 @@ use native.Mathlib.Omega.{arith}
 use Rattle.symbol.proofs.Arrays.{RowGoing, row-starts, row-done, row-room, row-next}
 use Rattle.symbol.proofs.functions.read_params.Statement.{statement}
 use Rattle.symbol.proofs.functions.read_params.Tie as tie
-use Rattle.symbol.specs.Lookup.{typeLength}
-use Rattle.symbol.specs.Row.{part}
+use Rattle.record.specs.Inside.Keyed.{typeLength}
+use Rattle.symbol.specs.Inside.ParamsRow.{part}
 use Rattle.symbol.specs.declared.functions.Params.{Params}
 
 abbrev Inv-loop : tie.InvT-loop

@@ -1,6 +1,6 @@
 use borrow.Author.Needs.{needs}
 use native.Mathlib.Omega.{arith}
-use Rattle.symbol.proofs.Calls.{function-long, function-inside, function-room, function-count, function-row, function-read}
+use Rattle.symbol.proofs.FunctionsRead.{function-long, function-inside, function-room, function-count, function-row, function-read}
 use Rattle.symbol.proofs.functions.read_whole.Statement.{statement}
 use Rattle.symbol.proofs.functions.read_whole.Tie as tie
 

@@ -2,7 +2,7 @@ use borrow.Author.Needs.{needs}
 use mathlib.Core.Path.{_∙_}
 use Rattle.symbol.proofs.functions.type_length.Statement.{statement}
 use Rattle.symbol.proofs.functions.type_length.Tie as tie
-use Rattle.symbol.specs.Lookup.{typeLength}
+use Rattle.record.specs.Inside.Keyed.{typeLength}
 
 sub-read-type : tie.Need-sub-read-type
 sub-read-type c = search needs

@@ -2,10 +2,10 @@ use borrow.Author.Needs.{needs}
 use lib.ListN.{length-drop, drop}
 use mathlib.Core.Path.{_≡_, ap, refl}
 use native.Mathlib.Omega.{arith}
-use Rattle.symbol.proofs.Finds.{place-fits, place-inside, place-part}
-use Rattle.symbol.specs.Front.{headOf}
-use Rattle.symbol.specs.Lookup.{symbolsIn}
-use Rattle.symbol.specs.declared.front.Head.{Head}
+use Rattle.index.proofs.ListSearch.{place-fits, place-inside, place-part}
+use Rattle.record.specs.Inside.Front.{headOf}
+use Rattle.symbol.proofs.LaidLookups.{field-told}
+use Rattle.record.specs.declared.front.Head.{Head}
 use Rattle.symbol.proofs.lookups.field_of.Statement.{statement}
 use Rattle.symbol.proofs.lookups.field_of.Tie as tie
 
@@ -31,12 +31,10 @@ enum-told : tie.Need-enum-told
 enum-told c = search needs
 
 returns : tie.Need-returns
-unfolding symbolsIn
-returns c = let h = rw (c .before .before .before .before .before .f .given .1) at (c .before .before .before .before .before .before .before .seek .ensures) in let g = rw (c .before .before .before .tail .ensures) at (c .before .before .read-record .ensures) in let n : (c .before .before .read-record .result .len) ≡ headOf (drop (c .before .before .before .before .before .f .given .0 .0 .at) (c .before .before .before .before .before .before .before .before .before .before .args .t .now)) .len = ap (λ (x : Head). x .len) (g .same) in let l = place-fits (c .before .before .before .before .before .before .before .before .before .before .args .t .now) _ 5 (c .before .before .before .before .before .before .before .before .before .before .args .owner) (c .before .before .before .before .before .before .before .before .before .before .args .name) (c .before .before .before .before .before .f .given .0 .0) h .field refl in (rw (h .first, n, place-part (c .before .before .before .before .before .before .before .before .before .before .args .t .now) _ 5 (c .before .before .before .before .before .before .before .before .before .before .args .owner) (c .before .before .before .before .before .before .before .before .before .before .args .name) (c .before .before .before .before .before .f .given .0 .0) h 5), omega (arith, place-inside (c .before .before .before .before .before .before .before .before .before .before .args .t .now) _ 5 (c .before .before .before .before .before .before .before .before .before .before .args .owner) (c .before .before .before .before .before .before .before .before .before .before .args .name) (c .before .before .before .before .before .f .given .0 .0) h))
+returns c = let h = rw (c .before .before .before .before .before .f .given .1) at (c .before .before .before .before .before .before .before .seek .ensures) in let g = rw (c .before .before .before .tail .ensures) at (c .before .before .read-record .ensures) in let n : (c .before .before .read-record .result .len) ≡ headOf (drop (c .before .before .before .before .before .f .given .0 .0 .at) (c .before .before .before .before .before .before .before .before .before .before .args .t .now)) .len = ap (λ (x : Head). x .len) (g .same) in let l = place-fits (c .before .before .before .before .before .before .before .before .before .before .args .t .now) _ 5 (c .before .before .before .before .before .before .before .before .before .before .args .owner) (c .before .before .before .before .before .before .before .before .before .before .args .name) (c .before .before .before .before .before .f .given .0 .0) h .field refl in (rw (← field-told (c .before .before .before .before .before .before .before .before .before .before .args .t .now) (c .before .before .before .before .before .before .before .before .before .before .pre .clean) (c .before .before .before .before .before .before .before .before .before .before .args .owner) (c .before .before .before .before .before .before .before .before .before .before .args .name), h .first, n, place-part (c .before .before .before .before .before .before .before .before .before .before .args .t .now) _ 5 (c .before .before .before .before .before .before .before .before .before .before .args .owner) (c .before .before .before .before .before .before .before .before .before .before .args .name) (c .before .before .before .before .before .f .given .0 .0) h 5), omega (arith, place-inside (c .before .before .before .before .before .before .before .before .before .before .args .t .now) _ 5 (c .before .before .before .before .before .before .before .before .before .before .args .owner) (c .before .before .before .before .before .before .before .before .before .before .args .name) (c .before .before .before .before .before .f .given .0 .0) h))
 
 returns-2 : tie.Need-returns-2
-unfolding symbolsIn
-returns-2 c = let e = rw (c .enum-told .given .1) at (c .before .before .seek .ensures) in (rw e, tt)
+returns-2 c = let e = rw (c .enum-told .given .1) at (c .before .before .seek .ensures) in (rw (← field-told (c .before .before .before .before .before .args .t .now) (c .before .before .before .before .before .pre .clean) (c .before .before .before .before .before .args .owner) (c .before .before .before .before .before .args .name), e), tt)
 
 pub field-of-spec : {M : Type 1} → statement M
 field-of-spec =

@@ -2,13 +2,14 @@ use borrow.Author.Needs.{needs}
 use mathlib.Core.List.{List, map}
 use mathlib.Core.Path.{_∙_, subst}
 use native.Mathlib.Omega.{arith}
-use Rattle.symbol.proofs.Finds.{list-first, list-all}
-use Rattle.symbol.proofs.Lists.{function-found}
+use Rattle.index.proofs.ListSearch.{list-first, list-all}
+use Rattle.symbol.proofs.LaidLookups.{functions-keyed}
+use Rattle.symbol.proofs.FunctionLists.{function-found}
 use Rattle.symbol.proofs.lookups.first_function.Statement.{statement}
 use Rattle.symbol.proofs.lookups.first_function.Tie as tie
-use Rattle.symbol.specs.Answer.{FunctionFound}
+use Rattle.symbol.specs.Inside.LookupAnswer.{FunctionFound}
 use Rattle.symbol.specs.Lookup.{overloadOf, symbolsIn}
-use Rattle.symbol.specs.Table.{Record}
+use Rattle.record.specs.Table.{Record, recordsOf}
 
 key-bucket-requires : tie.Need-key-bucket-requires
 key-bucket-requires c κs = search needs
@@ -36,7 +37,7 @@ follow-requires c κs = ((c .before .before .before .before .before .before .pre
 
 returns : tie.Need-returns
 unfolding symbolsIn
-returns c = subst (λ (z : List Record). FunctionFound (c .before .before .before .before .before .before .before .args .t .now) (map overloadOf z) (c .follow .result)) (list-all (c .before .before .before .before .before .before .before .args .t .now) (c .before .before .before .before .before .before .before .args .x .now) (c .before .before .before .before .before .before .before .pre) (c .before .before .before .before .before .before .before .args .owner) (c .before .before .before .before .before .before .before .args .name) (c .before .before .before .list-reduced .result) ((c .before .before .before .list-reduced .ensures .0) ∙ (rw (c .before .before .before .before .key-bucket .ensures .0))) (c .before .before .before .list-reduced .ensures .1) (c .before .entry-at .result) ((c .before .entry-at .ensures) ∙ (rw (c .before .before .bucket-count .ensures .0)))) (function-found (c .before .before .before .before .before .before .before .args .t .now) _ (c .before .before .before .before .before .before .before .args .owner) (c .before .before .before .before .before .before .before .args .name) (c .follow .result) (c .follow .ensures))
+returns c = subst (λ (z : List Record). FunctionFound (c .before .before .before .before .before .before .before .args .t .now) (map overloadOf z) (c .follow .result)) (list-all (c .before .before .before .before .before .before .before .args .t .now) (c .before .before .before .before .before .before .before .args .x .now) (c .before .before .before .before .before .before .before .pre) (c .before .before .before .before .before .before .before .args .owner) (c .before .before .before .before .before .before .before .args .name) (c .before .before .before .list-reduced .result) ((c .before .before .before .list-reduced .ensures .0) ∙ (rw (c .before .before .before .before .key-bucket .ensures .0))) (c .before .before .before .list-reduced .ensures .1) (c .before .entry-at .result) ((c .before .entry-at .ensures) ∙ (rw (c .before .before .bucket-count .ensures .0))) ∙ functions-keyed (recordsOf (c .before .before .before .before .before .before .before .args .t .now)) (c .before .before .before .before .before .before .before .args .owner) (c .before .before .before .before .before .before .before .args .name)) (function-found (c .before .before .before .before .before .before .before .args .t .now) _ (c .before .before .before .before .before .before .before .args .owner) (c .before .before .before .before .before .before .before .args .name) (c .follow .result) (c .follow .ensures))
 
 pub first-function-spec : {M : Type 1} → statement M
 first-function-spec =

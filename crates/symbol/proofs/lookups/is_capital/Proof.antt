@@ -4,26 +4,26 @@ use borrow.Author.Tests.{le-ltb}
 use mathlib.Core.List.{[]}
 use mathlib.Core.Path.{_∙_}
 use native.Mathlib.Omega.{arith}
-use Rattle.symbol.proofs.Accepts.{accepted-clean}
+use Rattle.record.proofs.Accepts.{accepted-clean}
 use Rattle.symbol.proofs.NamesFirst.{countBelow, name-at, names-past, names-counted}
 use Rattle.symbol.proofs.lookups.is_capital.Statement.{statement}
 use Rattle.symbol.proofs.lookups.is_capital.Tie as tie
-use Rattle.symbol.specs.Lookup.{capitalIn, symbolsIn}
-use Rattle.symbol.specs.Table.{recordsOf}
+use Rattle.symbol.specs.Lookup.{symbolsIn}
+use Rattle.record.specs.Table.{recordsOf}
 use Rattle.ty.proofs.Choice.{chain, passed}
 
 entry-at-requires : tie.Need-entry-at-requires
 entry-at-requires c κs = search needs
 
 returns : tie.Need-returns
-unfolding symbolsIn capitalIn
+unfolding symbolsIn
 returns c = search chain depth 8
 
 cast-i : tie.Need-cast-i
 cast-i c = search needs
 
 returns-2 : tie.Need-returns-2
-unfolding symbolsIn capitalIn
+unfolding symbolsIn
 returns-2 c = let a = (c .before .before .entry-at .ensures) ∙ (c .before .before .before .before .before .pre .indexed .names) ∙ names-counted [] (recordsOf (c .before .before .before .before .before .args .t .now)) (accepted-clean (c .before .before .before .before .before .args .t .now) (c .before .before .before .before .before .pre .clean)) in passed _ _ _ _ (le-ltb _ _ (c .before .if1 .left)) (rw (names-past ((c .before .before .before .before .before .args .id) - 40) [] (recordsOf (c .before .before .before .before .before .args .t .now)) (accepted-clean (c .before .before .before .before .before .args .t .now) (c .before .before .before .before .before .pre .clean)) (omega arith)))
 
 mul-byte-at : tie.Need-mul-byte-at
@@ -45,7 +45,7 @@ byte-at-requires-2 : tie.Need-byte-at-requires-2
 byte-at-requires-2 c κs = search needs
 
 returns-3 : tie.Need-returns-3
-unfolding symbolsIn capitalIn
+unfolding symbolsIn
 returns-3 c = let a = (c .before .before .before .before .entry-at .ensures) ∙ (c .before .before .before .before .before .before .before .pre .indexed .names) ∙ names-counted [] (recordsOf (c .before .before .before .before .before .before .before .args .t .now)) (accepted-clean (c .before .before .before .before .before .before .before .args .t .now) (c .before .before .before .before .before .before .before .pre .clean)) in let n : (c .before .before .before .before .before .before .before .args .id) - 40 < countBelow 2 (recordsOf (c .before .before .before .before .before .before .before .args .t .now)) = omega arith in let x = name-at ((c .before .before .before .before .before .before .before .args .id) - 40) (c .before .before .before .before .before .before .before .args .t .now) [] (accepted-clean (c .before .before .before .before .before .before .before .args .t .now) (c .before .before .before .before .before .before .before .pre .clean)) n 1 (omega arith) in let y = name-at ((c .before .before .before .before .before .before .before .args .id) - 40) (c .before .before .before .before .before .before .before .args .t .now) [] (accepted-clean (c .before .before .before .before .before .before .before .args .t .now) (c .before .before .before .before .before .before .before .pre .clean)) n 2 (omega arith) in passed _ _ _ _ (le-ltb _ _ (c .before .before .before .if1 .left)) (rw (x, y, (c .before .byte-at .ensures), (c .byte-at2 .ensures)))
 
 pub is-capital-spec : {M : Type 1} → statement M

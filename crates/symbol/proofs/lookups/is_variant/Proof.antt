@@ -2,7 +2,8 @@ use borrow.Author.Needs.{needs}
 use native.Mathlib.Omega.{arith}
 use Rattle.symbol.proofs.lookups.is_variant.Statement.{statement}
 use Rattle.symbol.proofs.lookups.is_variant.Tie as tie
-use Rattle.symbol.specs.Lookup.{symbolsIn}
+use Rattle.symbol.proofs.LaidLookups.{variant-told}
+use Rattle.record.specs.Table.{recordsOf}
 
 seek-requires : tie.Need-seek-requires
 seek-requires c κs = ((c .before .before .pre), record { low = omega arith; other = λ e. omega arith })
@@ -14,12 +15,10 @@ enum-told-2 : tie.Need-enum-told-2
 enum-told-2 c = search needs
 
 returns : tie.Need-returns
-unfolding symbolsIn
-returns c = let h = rw (c .enum-told .given .1) at (c .before .before .seek .ensures) in rw (h .first)
+returns c = let h = rw (c .enum-told .given .1) at (c .before .before .seek .ensures) in rw (← variant-told (recordsOf (c .before .before .before .before .before .args .t .now)) (c .before .before .before .before .before .args .owner) (c .before .before .before .before .before .args .name), h .first)
 
 returns-2 : tie.Need-returns-2
-unfolding symbolsIn
-returns-2 c = let e = rw (c .enum-told2 .given .1) at (c .before .before .seek .ensures) in rw e
+returns-2 c = let e = rw (c .enum-told2 .given .1) at (c .before .before .seek .ensures) in rw (← variant-told (recordsOf (c .before .before .before .before .before .args .t .now)) (c .before .before .before .before .before .args .owner) (c .before .before .before .before .before .args .name), e)
 
 pub is-variant-spec : {M : Type 1} → statement M
 is-variant-spec = tie.close (tie.spec seek-requires enum-told enum-told-2 returns returns-2)

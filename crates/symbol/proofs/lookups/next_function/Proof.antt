@@ -1,9 +1,9 @@
 use borrow.Author.Needs.{needs}
 use mathlib.Core.Path.{_∙_}
 use native.Mathlib.Omega.{arith}
-use Rattle.symbol.proofs.Accepts.{accepted-short}
-use Rattle.symbol.proofs.Finds.{next-first}
-use Rattle.symbol.proofs.Lists.{functions-next}
+use Rattle.record.proofs.Accepts.{accepted-short}
+use Rattle.index.proofs.ListSearch.{next-first}
+use Rattle.symbol.proofs.FunctionLists.{functions-next}
 use Rattle.symbol.proofs.lookups.next_function.Statement.{statement}
 use Rattle.symbol.proofs.lookups.next_function.Tie as tie
 

@@ -1,7 +1,8 @@
 use borrow.Author.Needs.{needs}
 use native.Mathlib.Omega.{arith}
-use Rattle.symbol.proofs.Finds.{place-two}
-use Rattle.symbol.specs.Lookup.{symbolsIn}
+use Rattle.index.proofs.ListSearch.{place-two}
+use Rattle.symbol.proofs.LaidLookups.{mask-told}
+use Rattle.record.specs.Table.{recordsOf}
 use Rattle.symbol.proofs.lookups.operators_of.Statement.{statement}
 use Rattle.symbol.proofs.lookups.operators_of.Tie as tie
 
@@ -21,12 +22,10 @@ enum-told : tie.Need-enum-told
 enum-told c = search needs
 
 returns : tie.Need-returns
-unfolding symbolsIn
-returns c = let h = rw (c .before .before .before .f .given .1) at (c .before .before .before .before .before .seek .ensures) in rw (h .first, place-two (c .before .before .before .before .before .before .before .before .args .t .now) _ 3 (c .before .before .before .before .before .before .before .before .args .class) 0 (c .before .before .before .f .given .0 .0) h (omega arith), (c .id-at .ensures))
+returns c = let h = rw (c .before .before .before .f .given .1) at (c .before .before .before .before .before .seek .ensures) in rw (← mask-told (recordsOf (c .before .before .before .before .before .before .before .before .args .t .now)) (c .before .before .before .before .before .before .before .before .args .class), h .first, place-two (c .before .before .before .before .before .before .before .before .args .t .now) _ 3 (c .before .before .before .before .before .before .before .before .args .class) 0 (c .before .before .before .f .given .0 .0) h (omega arith), (c .id-at .ensures))
 
 returns-2 : tie.Need-returns-2
-unfolding symbolsIn
-returns-2 c = let e = rw (c .enum-told .given .1) at (c .before .before .seek .ensures) in rw e
+returns-2 c = let e = rw (c .enum-told .given .1) at (c .before .before .seek .ensures) in rw (← mask-told (recordsOf (c .before .before .before .before .before .args .t .now)) (c .before .before .before .before .before .args .class), e)
 
 pub operators-of-spec : {M : Type 1} → statement M
 operators-of-spec = tie.close (tie.spec seek-requires enum-known-f add-id-at id-at-requires enum-told returns returns-2)

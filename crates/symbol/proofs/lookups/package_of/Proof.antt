@@ -1,10 +1,11 @@
 use borrow.Author.Needs.{needs}
 use mathlib.Core.Path.{refl, sym, _∙_}
 use native.Mathlib.Omega.{arith}
-use Rattle.symbol.proofs.Finds.{place-fits, place-inside, place-id}
+use Rattle.index.proofs.ListSearch.{place-fits, place-inside, place-id}
 use Rattle.symbol.proofs.lookups.package_of.Statement.{statement}
 use Rattle.symbol.proofs.lookups.package_of.Tie as tie
-use Rattle.symbol.specs.Lookup.{symbolsIn}
+use Rattle.symbol.proofs.LaidLookups.{package-told}
+use Rattle.record.specs.Table.{recordsOf}
 
 seek-requires : tie.Need-seek-requires
 seek-requires c κs = ((c .before .before .pre), record { low = omega arith; other = λ e. omega arith })
@@ -22,12 +23,10 @@ enum-told : tie.Need-enum-told
 enum-told c = search needs
 
 returns : tie.Need-returns
-unfolding symbolsIn
-returns c = let h = rw (c .before .before .before .f .given .1) at (c .before .before .before .before .before .seek .ensures) in let n = place-fits (c .before .before .before .before .before .before .before .before .args .t .now) _ 2 (c .before .before .before .before .before .before .before .before .args .class) 0 (c .before .before .before .f .given .0 .0) h .class refl in rw (h .first) ((c .id-at .ensures) ∙ sym (place-id (c .before .before .before .before .before .before .before .before .args .t .now) _ 2 (c .before .before .before .before .before .before .before .before .args .class) 0 (c .before .before .before .f .given .0 .0) h 5 (omega arith)))
+returns c = let h = rw (c .before .before .before .f .given .1) at (c .before .before .before .before .before .seek .ensures) in let n = place-fits (c .before .before .before .before .before .before .before .before .args .t .now) _ 2 (c .before .before .before .before .before .before .before .before .args .class) 0 (c .before .before .before .f .given .0 .0) h .class refl in rw (← package-told (recordsOf (c .before .before .before .before .before .before .before .before .args .t .now)) (c .before .before .before .before .before .before .before .before .args .class), h .first) ((c .id-at .ensures) ∙ sym (place-id (c .before .before .before .before .before .before .before .before .args .t .now) _ 2 (c .before .before .before .before .before .before .before .before .args .class) 0 (c .before .before .before .f .given .0 .0) h 5 (omega arith)))
 
 returns-2 : tie.Need-returns-2
-unfolding symbolsIn
-returns-2 c = let e = rw (c .enum-told .given .1) at (c .before .before .seek .ensures) in rw e
+returns-2 c = let e = rw (c .enum-told .given .1) at (c .before .before .seek .ensures) in rw (← package-told (recordsOf (c .before .before .before .before .before .args .t .now)) (c .before .before .before .before .before .args .class), e)
 
 pub package-of-spec : {M : Type 1} → statement M
 package-of-spec =

@@ -1,5 +1,5 @@
 -- The loop's invariant: what is to be found is what is found from `at` on, where at most 17 types a byte wait to be read. The measure is what is left
--- of the bytes that are examined. Assumes nothing.
+-- of the bytes that are examined.
 use Prim.Native.Nat.{_≤_, _-_, _+_, _*_}
 use borrow.Author.Needs.{needs}
 use mathlib.Core.Path.{_≡_, sym, _∙_}
@@ -64,11 +64,11 @@ returns c = sym (found (c .before .before) Broken (c .enum-told .given .1))
 enum-told-2 : tie.Need-enum-told-2 Inv-loop μ-loop
 enum-told-2 c = search needs
 
-stopped-requires : tie.Need-stopped-requires Inv-loop μ-loop
-stopped-requires c κs = search needs
+no-end-requires : tie.Need-no-end-requires Inv-loop μ-loop
+no-end-requires c κs = search needs
 
 returns-2 : tie.Need-returns-2 Inv-loop μ-loop
-returns-2 c = c .stopped .ensures ∙ sym (found (c .before .before .before) Out (c .before .enum-told2 .given .1))
+returns-2 c = c .no-end .ensures ∙ sym (found (c .before .before .before) Out (c .before .enum-told2 .given .1))
 
 enum-known-found : tie.Need-enum-known-found Inv-loop μ-loop
 enum-known-found c = search needs
@@ -108,7 +108,7 @@ read-type-spec =
     enum-told
     returns
     enum-told-2
-    stopped-requires
+    no-end-requires
     returns-2
     enum-known-found
     sub-pending

@@ -1,0 +1,4 @@
+pub mod Calling
+pub mod Rows
+pub mod Spaces
+pub mod Steps

@@ -1,0 +1,11 @@
+pub mod Buckets
+pub mod ListSearch
+pub mod Chains
+pub mod SearchTrees
+pub mod Paths
+pub mod Searches
+pub mod Earlier
+pub mod Single
+pub mod Aheads
+pub mod Rooms
+pub mod Empty

@@ -1,0 +1,106 @@
+-- Records with keys of their own, in an accepted table: a search finds the only one with a key.
+use Prim.Native.Nat.{ℕ, zero, suc, _-_, _≤_, _<_}
+use borrow.Author.Tests.{eqb-true, eq-eqb, ltb-true, ltb-false}
+use lib.Dec.{eqb, ltb}
+use lib.ListN.{length, drop}
+use mathlib.Core.Bool.{Bool, true, false, true≢false}
+use mathlib.Core.List.{List, []}
+use mathlib.Core.Path.{_≡_, refl, sym, ap, _∙_}
+use native.Mathlib.Omega.{arith, not-le}
+use Rattle.record.proofs.Accepts.{accepted-short, with-no}
+use Rattle.index.proofs.Chains.{behind-before}
+use Rattle.index.proofs.Earlier.{any-key, passed-before}
+use Rattle.index.proofs.ListSearch.{sits-cons, sits-own, sits-next, sits-later, sits-clean, sits-whole, here-is}
+use Rattle.index.proofs.Paths.{of-kind, of-both, not-met}
+use Rattle.record.proofs.Records.{at-start, records-end}
+use Rattle.index.specs.Inside.IndexedTable.{IndexedTable}
+use Rattle.index.specs.Inside.Found.{HereIs}
+use Rattle.record.specs.Inside.Front.{headOf}
+use Rattle.record.specs.Inside.Keyed.{isOf, recordsWith}
+use Rattle.record.specs.Inside.HeadFault.{sameKey, hasKey}
+use Rattle.record.specs.Inside.FrontRecord.{frontRecord}
+use Rattle.record.specs.Table.{recordsOf}
+use Rattle.index.specs.Inside.SearchKey.{Single}
+use Rattle.index.specs.Inside.Spot.{Open, TakenIs, FreeIs}
+use Rattle.index.specs.Inside.SearchTree.{TreeMember}
+use Rattle.record.specs.Inside.Walk.{Sits, behind, before}
+use Rattle.record.specs.declared.front.Head.{Head}
+use Rattle.index.specs.declared.index.Place.{Place}
+use Rattle.index.specs.declared.tree.Key.the-variants.{Ids}
+
+-- records that are passed over
+passed-over : (t : List ℕ) (k a b e : ℕ) → Sits t e → ((q : ℕ) → Sits t q → q < e → isOf k a b (headOf (frontRecord (drop q t))) ≡ false)
+    → (m p : ℕ) → e - p ≤ m → Sits t p → p ≤ e → recordsWith k a b (recordsOf (drop p t)) ≡ recordsWith k a b (recordsOf (drop e t))
+passed-over t k a b e v fails zero p h w l = let d : p ≡ e = omega arith in ap (λ (i : ℕ). recordsWith k a b (recordsOf (drop i t))) d
+passed-over t k a b e v fails (suc m) p h w l =
+    go (eqb p e) refl (λ s i. passed-over t k a b e v fails m (behind t p) (omega (arith, sits-later t p w s)) (sits-next t p w s) i)
+  where
+    go : (u : Bool) → eqb p e ≡ u → (p < length t → behind t p ≤ e → recordsWith k a b (recordsOf (drop (behind t p) t)) ≡ recordsWith k a b (recordsOf (drop e t)))
+        → recordsWith k a b (recordsOf (drop p t)) ≡ recordsWith k a b (recordsOf (drop e t))
+    go true q ih = ap (λ (i : ℕ). recordsWith k a b (recordsOf (drop i t))) (eqb-true p e q)
+    go false q ih =
+        let c : p < e = not-le e p (λ z. true≢false (sym (eq-eqb p e (omega arith)) ∙ q)) in
+        let s : p < length t = omega (arith, v .at .inside) in
+        ap (recordsWith k a b) (sits-cons t p w s) ∙ with-no k a b _ _ (fails p w c) ∙ ih s (behind-before t p e w v c)
+
+none-behind : (t : List ℕ) (k a b p : ℕ) → length t ≤ p → recordsWith k a b (recordsOf (drop p t)) ≡ []
+unfolding recordsWith
+none-behind t k a b p h = ap (recordsWith k a b) (records-end t p h)
+
+none-left : (t : List ℕ) (k a b : ℕ) → ((q : ℕ) → Sits t q → q < length t → isOf k a b (headOf (frontRecord (drop q t))) ≡ false)
+    → (m p : ℕ) → length t - p ≤ m → Sits t p → recordsWith k a b (recordsOf (drop p t)) ≡ []
+none-left t k a b fails zero p h w = none-behind t k a b p (omega arith)
+none-left t k a b fails (suc m) p h w =
+    go (ltb p (length t)) refl (λ s. none-left t k a b fails m (behind t p) (omega (arith, sits-later t p w s)) (sits-next t p w s))
+  where
+    go : (u : Bool) → ltb p (length t) ≡ u → (p < length t → recordsWith k a b (recordsOf (drop (behind t p) t)) ≡ []) → recordsWith k a b (recordsOf (drop p t)) ≡ []
+    go false q ih = none-behind t k a b p (ltb-false p (length t) q)
+    go true q ih =
+        let s = ltb-true p (length t) q in
+        ap (recordsWith k a b) (sits-cons t p w s) ∙ with-no k a b _ _ (fails p w s) ∙ ih s
+
+pub accepted-open : (t x : List ℕ) → IndexedTable t x → Open t x
+accepted-open t x ok = record { short = accepted-short t (ok .clean); end = length t; inside = omega arith; tree = ok .indexed .tree }
+
+module _ (t x : List ℕ) (ok : IndexedTable t x) (k a b : ℕ) (one : Single k) where
+  start : Sits t 0
+  start = record { index = 0; at = at-start t }
+
+  -- the first record that passes is the only one
+  module _ (p : ℕ) (w : Sits t p) (some : p < length t) (yes : isOf k a b (headOf (frontRecord (drop p t))) ≡ true) where
+    fresh : hasKey (frontRecord (drop p t)) (before (w .index) (recordsOf t)) ≡ false
+    fresh = sits-clean t p w some (ok .clean) .fresh
+
+    alone : (q : ℕ) → Sits t q → q < p → isOf k a b (headOf (frontRecord (drop q t))) ≡ false
+    alone q v l = go (isOf k a b (headOf (frontRecord (drop q t)))) refl
+      where
+        go : (u : Bool) → isOf k a b (headOf (frontRecord (drop q t))) ≡ u → isOf k a b (headOf (frontRecord (drop q t))) ≡ false
+        go false z = z
+        go true z =
+            let s : sameKey (frontRecord (drop q t)) (frontRecord (drop p t)) ≡ true = of-both k a b (frontRecord (drop q t)) (frontRecord (drop p t)) one z yes in
+            let h = passed-before t (λ r. sameKey r (frontRecord (drop p t))) p w q v l s in
+            absurd (true≢false (sym h ∙ any-key (frontRecord (drop p t)) (before (w .index) (recordsOf t)) ∙ fresh))
+
+    pub single-here : HereIs t (recordsWith k a b (recordsOf t)) k a b (record { at = p })
+    single-here = here-is t p w some (ok .clean) k a b yes (recordsWith k a b (recordsOf t)) (passed-over t k a b p w alone p 0 (omega arith) start (omega arith))
+
+  pub single-taken : (p : Place) → TakenIs t (length t) (Ids k a b) p → HereIs t (recordsWith k a b (recordsOf t)) k a b p
+  single-taken p h = single-here (p .at) (h .node .begun .sits) (h .node .begun .some) (h .has)
+
+  pub single-free : (s : ℕ) → FreeIs t x (Ids k a b) s → recordsWith k a b (recordsOf t) ≡ []
+  single-free s free = none-left t k a b none (length t) 0 (omega arith) start
+    where
+      none : (q : ℕ) → Sits t q → q < length t → isOf k a b (headOf (frontRecord (drop q t))) ≡ false
+      none q v l = go (isOf k a b (headOf (frontRecord (drop q t)))) refl
+        where
+          node : isOf k a b (headOf (frontRecord (drop q t))) ≡ true → TreeMember t (length t) q
+          node z =
+              record {
+                begun = record { sits = v; some = l; whole = sits-whole t q v l (ok .clean) };
+                low = l;
+                other = λ f. one .other (sym (sym (ap (λ (h : Head). h .kind) (sits-own t q v l)) ∙ of-kind k a b (frontRecord (drop q t)) z) ∙ f);
+              }
+
+          go : (u : Bool) → isOf k a b (headOf (frontRecord (drop q t))) ≡ u → isOf k a b (headOf (frontRecord (drop q t))) ≡ false
+          go false z = z
+          go true z = absurd (not-met t x (length t) (ok .indexed .tree) (Ids k a b) (one .low) s free q (node z) z)

@@ -1,0 +1,10 @@
+pub mod IndexedTable
+pub mod Found
+pub mod Bucket
+pub mod Index
+pub mod SearchTree
+pub mod SearchKey
+pub mod Spot
+pub mod Entered
+pub mod Searched
+pub mod Ahead

@@ -1,0 +1,4 @@
+pub mod Arm
+pub mod Assigns
+pub mod Climbs
+pub mod MethodLookups

@@ -1,0 +1,9 @@
+use mathlib.Core.Path.{refl}
+use Rattle.operators.proofs.ruled.no_report.Statement.{statement}
+use Rattle.operators.proofs.ruled.no_report.Tie as tie
+use Rattle.operators.specs.Inside.Ruled.{reportOf}
+
+pub no-report-spec : {M : Type 1} → statement M
+unfolding reportOf
+no-report-spec = tie.close (tie.spec
+    (λ c. refl))

@@ -1,0 +1,3 @@
+-- What code and proofs of the operators hand each other.
+pub mod Ruled
+pub mod Looked

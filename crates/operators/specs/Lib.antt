@@ -1,0 +1,11 @@
+pub mod Operand
+pub mod Operator
+pub mod OperatorMethod
+pub mod Binary
+pub mod Unary
+pub mod Assign
+pub mod Out
+pub mod DiagnosticKind
+pub mod Diag
+pub mod Made
+pub mod Inside

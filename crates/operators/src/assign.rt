@@ -1,0 +1,98 @@
+// Assignability.
+use crate::operand::numbers;
+use ty::Kind;
+use ty::NameId;
+ghost use mathlib.Core.Path.{_≡_};
+ghost use Rattle.operators.specs.Assign.{isNamed, isGrowing, isListName, assignsAtOnce, assignStep, canAssign};
+
+// What one look at two types says: yes, no, or it goes by the type inside the left one, inside the right one, or inside both.
+pub enum Next {
+    Yes,
+    No,
+    Left,
+    Right,
+    Both,
+}
+
+// A Named of a name.
+fn is_named(id: u16, t: &[u8]) -> bool
+    ensures { λ r. ⌜ r ≡ isNamed id (now (t .entry)) ⌝ }
+{
+    (ty::kind_of(t) == Kind::NAMED) & (ty::name_of(t) == id)
+}
+
+// ArrayList or MutableList, as names.
+fn is_growing(t: &[u8]) -> bool
+    ensures { λ r. ⌜ r ≡ isGrowing (now (t .entry)) ⌝ }
+{
+    is_named(NameId::ARRAY_LIST, t) | is_named(NameId::MUTABLE_LIST, t)
+}
+
+// List, ArrayList or MutableList, as names.
+fn is_list_name(t: &[u8]) -> bool
+    ensures { λ r. ⌜ r ≡ isListName (now (t .entry)) ⌝ }
+{
+    is_named(NameId::LIST, t) | is_growing(t)
+}
+
+// The checks that come first and all say yes.
+fn assigns_at_once(a: &[u8], b: &[u8]) -> bool
+    ensures { λ r. ⌜ r ≡ assignsAtOnce (now (a .entry)) (now (b .entry)) ⌝ }
+{
+    let k = ty::kind_of(a);
+    let m = ty::kind_of(b);
+    ty::same_bytes(a, b)
+        | (((m == Kind::ANY) | ((m == Kind::ERROR) | (k == Kind::ERROR)))
+            | ((k == Kind::ANY) | (numbers(a, b) | ((k == Kind::LIST) & (m == Kind::LIST)))))
+}
+
+// One look at two types: the checks in their order.
+fn step(a: &[u8], b: &[u8]) -> Next
+    ensures { λ r. ⌜ r ≡ assignStep (now (a .entry)) (now (b .entry)) ⌝ }
+{
+    if assigns_at_once(a, b) {
+        return Next::Yes;
+    }
+    let k = ty::kind_of(a);
+    let m = ty::kind_of(b);
+    let list = is_list_name(b);
+    if (k == Kind::LIST) & (m == Kind::ARRAY) {
+        return Next::Both;
+    }
+    if is_growing(a) & (m == Kind::ARRAY) {
+        return Next::Yes;
+    }
+    if (k == Kind::ARRAY) & (m == Kind::ARRAY) {
+        return Next::Both;
+    }
+    if is_list_name(a) & ((m == Kind::LIST) | list) {
+        return Next::Yes;
+    }
+    if (k == Kind::LIST) & list {
+        return Next::Yes;
+    }
+    if m == Kind::NULLABLE {
+        return Next::Right;
+    }
+    if k == Kind::NULLABLE {
+        return Next::Left;
+    }
+    if k == Kind::NOTHING {
+        return Next::Yes;
+    }
+    Next::No
+}
+
+// Whether the type a assigns to the type b.
+pub fn can_assign_to(a: &[u8], b: &[u8]) -> bool
+    ensures { λ r. ⌜ r ≡ canAssign (now (a .entry)) (now (b .entry)) ⌝ }
+{
+    let next = step(a, b);
+    match next {
+        Next::Yes => true,
+        Next::No => false,
+        Next::Left => can_assign_to(ty::inner(a), b),
+        Next::Right => can_assign_to(a, ty::inner(b)),
+        Next::Both => can_assign_to(ty::inner(a), ty::inner(b)),
+    }
+}

@@ -1,0 +1,4 @@
+pub mod Top
+pub mod Stands
+pub mod Skip
+pub mod Legal

@@ -1,0 +1,17 @@
+pub mod Types
+pub mod ParamSteps
+pub mod Bounds
+pub mod Own
+pub mod Runs
+pub mod Agree
+pub mod Records
+pub mod RecordSizes
+pub mod SpellingRows
+pub mod SameKeys
+pub mod NoFault
+pub mod Laid
+pub mod LaidHead
+pub mod Faults
+pub mod Accepts
+pub mod EveryRecord
+pub mod RecordParts

@@ -1,0 +1,13 @@
+-- What the program asks of a case: whether the judge's text is the one expected.
+use Prim.Native.Nat.{_≤_, ℕ}
+use lib.ListN.{length}
+use mathlib.Core.Bool.{Bool}
+use mathlib.Core.List.{List}
+use mathlib.Core.Path.{_≡_}
+use Rattle.judge_text.specs.ProgramText.{answerText, programBuffer, longestText}
+use Rattle.ty.specs.Bytes.{sameBytes}
+
+-- r says whether the text for a table and a question is the one expected, where a buffer no longer than the program's is lent and the text has room
+abbrev pub Agreement : List ℕ → List ℕ → List ℕ → List ℕ → List ℕ → Bool → Type 0
+Agreement table question expected lent room r =
+    length lent ≤ programBuffer → longestText ≤ length room → r ≡ sameBytes (answerText table question (length lent)) expected

@@ -1,9 +1,0 @@
-use borrow.Author.Needs.{needs}
-use Rattle.rules.proofs.ruled.alone.Statement.{statement}
-use Rattle.rules.proofs.ruled.alone.Tie as tie
-
-pub alone-spec : {M : Type 1} → statement M
-alone-spec = tie.close (tie.spec
-    (λ c κs. search needs)
-    (λ c κs. search needs)
-    (λ c table x y. rw (c .behind .ensures table x y, c .before .no-report .ensures)))

@@ -1,0 +1,3 @@
+-- What code and proofs of the rules hand each other.
+pub mod Variable
+pub mod MemberRuled
