@@ -3,6 +3,7 @@
 //!     cargo run --release               measures and prints the page
 //!     cargo run --release -- --write    also writes docs/SPEED.md and docs/speed.svg
 //!     cargo run --release -- --quick    a short run, to see that it works
+//!     cargo run --release -- --lines    prints a line for each row instead of the page, for tools/turns.py
 
 mod collide;
 mod inputs;
@@ -125,13 +126,14 @@ fn main() {
             return stack::child(kib.parse().expect("a number of KiB"));
         }
     }
-    let (mut write, mut quick) = (false, false);
+    let (mut write, mut quick, mut lines) = (false, false, false);
     for argument in &arguments {
         match argument.as_str() {
             "--write" => write = true,
             "--quick" => quick = true,
+            "--lines" => lines = true,
             other => {
-                eprintln!("{other} is none of: --write --quick");
+                eprintln!("{other} is none of: --write --quick --lines");
                 std::process::exit(2);
             }
         }
@@ -154,7 +156,7 @@ fn main() {
     let before = std::fs::read_to_string(&place).unwrap_or_default();
     let by_hand = before.find(BY_HAND).map_or("", |at| &before[at..]);
     let page = report::page(&report, by_hand);
-    print!("{page}");
+    print!("{}", if lines { report::lines(&report) } else { page.clone() });
     if write {
         std::fs::write(&place, &page).expect("docs/SPEED.md is written");
         std::fs::write(format!("{DOCS}/speed.svg"), plot::svg(&panels(&report))).expect("docs/speed.svg is written");

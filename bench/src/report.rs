@@ -62,6 +62,36 @@ pub struct Report {
     pub stack: Option<usize>,
 }
 
+/// A line for each measured row: its name, and nanoseconds of the judge and of the Rust's filling and methods (nothing where
+/// there is no such side). tools/turns.py reads them.
+pub fn lines(report: &Report) -> String {
+    let mut out = String::new();
+    let mut line = |name: String, judge: f64, rust: Option<f64>| {
+        let rust = rust.map_or(String::new(), |rust| format!("{rust:.2}"));
+        let _ = writeln!(out, "{name}\t{judge:.2}\t{rust}");
+    };
+    for Row { make, bytes, asked, times } in &report.rows {
+        line(format!("{}, {bytes} bytes, {asked}", make.words()), times.whole, Some(times.rust()));
+    }
+    for Growth { make, steps } in &report.growth {
+        for (bytes, times) in steps {
+            line(format!("growth: {}, {bytes} bytes", make.words()), times.whole, Some(times.rust()));
+        }
+    }
+    for NodeGrowth { name, steps } in &report.nodes {
+        for (count, times) in steps {
+            line(format!("growth: {name}, {count} nodes"), times.whole, Some(times.rust()));
+        }
+    }
+    for RefusedRow { what, number, bytes, time } in &report.refused {
+        line(format!("refused: {what}, number {number}, {bytes} bytes"), *time, None);
+    }
+    for (bytes, time) in &report.buffers {
+        line(format!("buffer: {bytes} bytes"), *time, None);
+    }
+    out
+}
+
 fn median(mut values: Vec<f64>) -> f64 {
     values.sort_by(f64::total_cmp);
     let middle = values.len() / 2;
