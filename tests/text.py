@@ -50,6 +50,16 @@ class Samples(unittest.TestCase):
                 self.assertEqual(done.stdout.decode(), q.printed(), q.name)
 
 
+class BuiltIn(unittest.TestCase):
+    def test_the_names_are_those_of_the_rust_crate(self):
+        self.assertEqual(len(aura_text.BUILT_IN), 40)
+        self.assertEqual([aura_text.BUILT_IN[i] for i in (0, 5, 6, 16, 28, 39)], "Pair Set plus ge set keys".split())
+        self.assertEqual(aura_text.built_in('pub const BUILT_IN: [&str; 2] = ["a", "b"];\n'), ["a", "b"])
+        for text in ["", 'pub const BUILT_IN: [&str; 2] = [\n    "a",\n];\n']:
+            with self.assertRaises(SystemExit, msg=text):
+                aura_text.built_in(text)
+
+
 class Records(unittest.TestCase):
     def test_each_kind_of_record(self):
         names = "name A\nname B\nname p\n"

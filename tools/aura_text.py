@@ -39,9 +39,20 @@ import re
 import subprocess
 import sys
 
-BUILT_IN = """Pair List ArrayList MutableList Array Set plus minus times div mod eq ne lt gt le ge toString hashCode
-equals first second size count isEmpty last get getAt set add push append contains indexOf length isNotEmpty trim
-lowercase uppercase keys""".split()
+# The built-in names are those of the Rust crate, which the oracle takes too.
+SPELLINGS = pathlib.Path(__file__).resolve().parent.parent / "aura-judge/src/spellings.rs"
+
+
+def built_in(text):
+    """The strings of `BUILT_IN: [&str; N] = [..];`, N of them."""
+    found = re.search(r"BUILT_IN: \[&str; (\d+)\] = \[(.*?)\];", text, re.S)
+    names = re.findall(r'"([^"]*)"', found[2]) if found else []
+    if not found or len(names) != int(found[1]):
+        sys.exit(f"{SPELLINGS}: the built-in names are not there")
+    return names
+
+
+BUILT_IN = built_in(SPELLINGS.read_text(encoding="ascii"))
 KINDS = """Int Long Short Byte Float Double Boolean Char String Any Nothing Unit Nullable Pointer Array List Map Named
 Function TypeVar Module Error""".split()
 WITH_BODY = {"Array", "Named", "Function", "TypeVar", "Module"}

@@ -1,4 +1,4 @@
-//! The built-in names. The oracle takes this file too, so that there is one list of them.
+//! The built-in names. The oracle and `tools/aura_text.py` take this file too, so that there is one list of them.
 
 /// The names that have fixed numbers.
 pub const BUILT_IN: [&str; 40] = [

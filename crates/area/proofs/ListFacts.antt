@@ -5,7 +5,7 @@ use lib.ListN.{length, getD, take, drop, set, replicate, length-append, length-d
 use lib.Seq.{sets, sets-eq, length-take-le, take-suc, take-all, take-nil, getD-drop, getD-set-other, drop-set-add, take-set-le, drop-length, take-append-seam, drop-append-add, length-sets}
 use mathlib.Core.List.{List, [], _∷_, _++_, append-nil}
 use mathlib.Core.Path.{_≡_, refl, sym, ap, _∙_}
-use native.Mathlib.Nat.{add-zero, zero-sub, suc-sub-suc, sub-zero, not-suc-le-zero, le-of-suc-le-suc}
+use native.Mathlib.Nat.{add-zero, zero-sub, suc-sub-suc, sub-zero}
 use native.Mathlib.Numerals.{add-one}
 use native.Mathlib.Omega.{arith}
 
@@ -33,12 +33,6 @@ drop-take zero n s = ap (λ (k : ℕ). take k s) (sym (sub-zero n))
 drop-take (suc j) zero s = ap (λ (k : ℕ). take k (drop (suc j) s)) (sym (zero-sub (suc j)))
 drop-take (suc j) (suc n) [] = sym (take-nil (suc n - suc j))
 drop-take (suc j) (suc n) (x ∷ s) = drop-take j n s ∙ ap (λ (k : ℕ). take k (drop j s)) (sym (suc-sub-suc n j))
-
--- inside the list the default does not matter
-pub getD-any {ℓ} : {A : Type ℓ} (l : List A) (i : ℕ) (d e : A) → i < length l → getD l i d ≡ getD l i e
-getD-any [] i d e h = absurd (not-suc-le-zero h)
-getD-any (x ∷ xs) zero d e h = refl
-getD-any (x ∷ xs) (suc i) d e h = getD-any xs i d e (le-of-suc-le-suc h)
 
 -- ---- stores of several bytes
 pub sets-snoc : (vs a : List ℕ) (p x : ℕ) → set (sets a p vs) (p + length vs) x ≡ sets a p (vs ++ (x ∷ []))

@@ -1,12 +1,12 @@
 -- Laws of the area: what a slot holds after a store, and what leaves it alone.
-use Prim.Native.Nat.{ℕ, zero, suc, _+_, _*_, _≤_, _<_}
-use lib.ListN.{length, getD, take, drop, set, drop-of-length-le, length-map, length-set, List·getD-map, List·getD-eq-default}
-use lib.Seq.{sets, sets-eq, length-sets, length-take-le, getD-take, getD-set-same, getD-set-other, take-at, drop-at, take-nil}
-use mathlib.Core.List.{List, [], _∷_, _++_, map, append-assoc}
+use Prim.Native.Nat.{ℕ, _+_, _*_, _≤_, _<_}
+use lib.ListN.{length, getD, take, drop, set, drop-of-length-le, length-set, List·getD-eq-default}
+use lib.Seq.{sets, sets-eq, length-sets, length-take-le, getD-set-same, getD-set-other, take-at, drop-at, take-nil}
+use mathlib.Core.List.{List, [], _∷_, _++_, append-assoc}
 use mathlib.Core.Path.{_≡_, refl, sym, ap, _∙_, subst}
 use native.Mathlib.Omega.{arith}
-use Rattle.area.proofs.ListFacts.{part-length, part-sets, getD-any}
-use Rattle.area.specs.Inside.Slot.{Lent, Slot, Slots, Stored, SlotHolds, SlotsHold, store, storeLen, slotOf, slotTypes}
+use Rattle.area.proofs.ListFacts.{part-length, part-sets}
+use Rattle.area.specs.Inside.Slot.{Lent, Slot, Stored, SlotHolds, SlotsHold, store, storeLen, slotOf}
 use Rattle.ty.specs.Bytes.{Ty}
 
 -- ---- reading a slot
@@ -67,9 +67,6 @@ held-under a l m n t u h w =
 pub held-stored : (a a′ l l′ : List ℕ) (m : ℕ) (t : Ty) → Stored a a′ l l′ m t → Lent a l → m < length l → length t ≤ 256 → SlotHolds a′ l′ m t
 held-stored a a′ l l′ m t s lent h small = rw (s .area, s .lens) (held-here a l m t lent h small)
 
-pub under-stored : (a a′ l l′ : List ℕ) (n : ℕ) (t : Ty) → Stored a a′ l l′ n t → (m : ℕ) (u : Ty) → m < n → SlotHolds a l m u → SlotHolds a′ l′ m u
-under-stored a a′ l l′ n t s m u h w = rw (s .area, s .lens) (held-under a l m n t u h w)
-
 -- what is lent stays lent: by the lengths alone
 pub lent-still : (a a′ l l′ : List ℕ) → length a′ ≡ length a → length l′ ≡ length l → Lent a l → Lent a′ l′
 lent-still a a′ l l′ e f lent = record { wide = omega (arith, lent .wide); long = omega (arith, lent .long) }
@@ -93,61 +90,3 @@ helds-more a l lo hi [] [] h w = tt
 helds-more a l lo hi [] (t ∷ ts) h w = absurd w
 helds-more a l lo hi (m ∷ ms) [] h w = absurd w
 helds-more a l lo hi (m ∷ ms) (t ∷ ts) h w = (omega (arith, w .0), w .1, helds-more a l lo hi ms ts h (w .2))
-
-pub helds-types : (a l : List ℕ) (lo : ℕ) (ms : List ℕ) (ts : List Ty) → SlotsHold a l lo ms ts → map (slotOf a l) ms ≡ ts
-unfolding SlotsHold
-helds-types a l lo [] [] w = refl
-helds-types a l lo [] (t ∷ ts) w = absurd w
-helds-types a l lo (m ∷ ms) [] w = absurd w
-helds-types a l lo (m ∷ ms) (t ∷ ts) w =
-    let e : slotOf a l m ≡ t = w .1 .is in
-    let f : map (slotOf a l) ms ≡ ts = helds-types a l lo ms ts (w .2) in
-    cc
-
-pub helds-slot : (a l : List ℕ) (node lo : ℕ) (ms : List ℕ) (ts : List Ty) → node < lo → SlotsHold a l lo ms ts → (i : ℕ) → i < length ms → Slot l node (getD ms i 0)
-unfolding SlotsHold
-helds-slot a l node lo [] [] h w i g = absurd (omega arith)
-helds-slot a l node lo [] (t ∷ ts) h w i g = absurd w
-helds-slot a l node lo (m ∷ ms) [] h w i g = absurd w
-helds-slot a l node lo (m ∷ ms) (t ∷ ts) h w zero g = held-slot a l node m t (omega (arith, w .0)) (w .1)
-helds-slot a l node lo (m ∷ ms) (t ∷ ts) h w (suc i) g = helds-slot a l node lo ms ts h (w .2) i (omega arith)
-
--- what leaves every slot before n leaves several such
-pub helds-under : (a l a′ l′ : List ℕ) (lo n : ℕ) (ms : List ℕ) (ts : List Ty) → ((m : ℕ) (u : Ty) → m < n → SlotHolds a l m u → SlotHolds a′ l′ m u)
-    → ((i : ℕ) → i < length ms → getD ms i 0 < n) → SlotsHold a l lo ms ts → SlotsHold a′ l′ lo ms ts
-unfolding SlotsHold
-helds-under a l a′ l′ lo n [] [] f h w = tt
-helds-under a l a′ l′ lo n [] (t ∷ ts) f h w = absurd w
-helds-under a l a′ l′ lo n (m ∷ ms) [] f h w = absurd w
-helds-under a l a′ l′ lo n (m ∷ ms) (t ∷ ts) f h w =
-    (w .0, f m t (h 0 (omega arith)) (w .1), helds-under a l a′ l′ lo n ms ts f (λ i g. h (suc i) (omega arith)) (w .2))
-
--- ---- the types in the first n of some slots
-module _ (a l nodes : List ℕ) (n : ℕ) (there : n ≤ length nodes) where
-  pub types-length : length (slotTypes a l nodes n) ≡ n
-  unfolding slotTypes
-  types-length = length-map (take n nodes) (slotOf a l) ∙ length-take-le n nodes there
-
-  pub type-at : (i : ℕ) → i < n → getD (slotTypes a l nodes n) i [] ≡ slotOf a l (getD nodes i 0)
-  unfolding slotTypes
-  type-at i h =
-      let room : i < length (map (slotOf a l) (take n nodes)) = omega (arith, types-length) in
-      getD-any (map (slotOf a l) (take n nodes)) i [] (slotOf a l 0) room ∙ List·getD-map (slotOf a l) (take n nodes) i 0
-      ∙ ap (λ (m : ℕ). slotOf a l m) (getD-take n nodes i 0 h)
-
--- the first n of some slots are those that hold ts
-module _ (a l : List ℕ) (lo : ℕ) (nodes ms : List ℕ) (ts : List Ty) (n : ℕ) (e : take n nodes ≡ ms) (w : SlotsHold a l lo ms ts) where
-  pub helds-in : slotTypes a l nodes n ≡ ts
-  unfolding slotTypes
-  helds-in = ap (λ (is : List ℕ). map (slotOf a l) is) e ∙ helds-types a l lo ms ts w
-
-  pub helds-slots : (node : ℕ) → node < lo → n ≤ 16 → n ≤ length nodes → Slots l node nodes n
-  helds-slots node h few there =
-      let f : length ms ≡ n = sym (ap (λ (is : List ℕ). length is) e) ∙ length-take-le n nodes there in
-      record {
-        fits = few;
-        there = there;
-        each = λ i g.
-            let d : getD nodes i 0 ≡ getD ms i 0 = sym (getD-take n nodes i 0 g) ∙ ap (λ (is : List ℕ). getD is i 0) e in
-            rw d (helds-slot a l node lo ms ts h w i (omega arith));
-      }

@@ -3,18 +3,23 @@ use Prim.Native.Nat.{ℕ, suc, _+_, _-_, _*_, _≤_, _<_}
 use lib.ListN.{length, length-append, replicate}
 use mathlib.Core.Bool.{Bool, true, false, not, true≢false, false≢true}
 use mathlib.Core.List.{List, [], _++_, append-assoc, append-nil}
-use mathlib.Core.Option.{Option, none, some}
+use mathlib.Core.Option.{Option}
 use mathlib.Core.Path.{_≡_, refl, sym, ap, _∙_}
+use native.Mathlib.Numerals.{add-one}
 use native.Mathlib.Omega.{arith}
 use Rattle.area.specs.Diagnostic.{Diag, countLimit}
 use Rattle.overload.proofs.ReportBounds.{call-few}
+use Rattle.nodes.proofs.Filling.{filled-none, filled-join}
+use Rattle.cycle.proofs.Holding.{space-behind, tree-held}
 use Rattle.nodes.proofs.Reaching.{state-path, reached-here, reached-join, reached-inside, reached-as}
 use Rattle.cycle.proofs.Rows.{row-args, row-many, row-count}
 use Rattle.cycle.proofs.Spaces.{slots-few}
 use Rattle.cycle.proofs.Steps.{slot-room, asked-inside, ChildIs, child, close}
 use Rattle.nodes.proofs.Working.{at-length}
-use Rattle.nodes.specs.Inside.Call.{ListIs, NoList, BegunIs, CallAsked}
+use Rattle.nodes.proofs.Beginning.{ListIs, begun-none, call-begun, method-begun}
+use Rattle.nodes.specs.Inside.Call.{methodOwner, BegunIs, CallAsked}
 use Rattle.cycle.specs.Inside.Contract.{mostAtNode, slotsFor, Space, NodeAsked, NodeIs, RowAsked, RowIs}
+use Rattle.nodes.specs.Inside.AreaFilled.{AreaFilled}
 use Rattle.nodes.specs.Inside.Progress.{insideOf, passedOver, Reached, Finished}
 use Rattle.nodes.specs.declared.calls.Begun.{Begun}
 use Rattle.nodes.specs.declared.calls.RowJudged.{RowJudged}
@@ -41,8 +46,9 @@ use Rattle.operators.specs.Out.{errorTy, anyTy}
 use Rattle.symbol.specs.Lookup.{symbolsOf}
 use Rattle.index.specs.Inside.IndexedTable.{IndexedTable}
 use Rattle.symbol.specs.Symbols.{Symbols}
-use Rattle.ty.specs.Bytes.{Ty, plainTy}
+use Rattle.ty.specs.Bytes.{plainTy}
 use Rattle.ty.specs.Kind.{anyKind, errorKind}
+use Rattle.ty.specs.Name.{noId}
 use Rattle.typing.proofs.Short.{call-short, method-short}
 use Rattle.typing.proofs.Tables.{symbols-fit}
 use Rattle.typing.specs.Callee.{Callee, callOf, methodOf}
@@ -56,18 +62,6 @@ no-test false e = refl
 pub yes-test : (b : Bool) → not b ≡ false → b ≡ true
 yes-test true e = refl
 yes-test false e = absurd (true≢false e)
-
--- ---- what a call finds
-module _ (S : Symbols) (id node : ℕ) (s : State) (b b′ : List ℕ) (r : Begun) where
-  pub begun-none : (found : Option Callee) → BegunIs S id node found s b b′ r → r .listed ≡ false → (found ≡ none) × NoList s b b′ r
-  unfolding BegunIs
-  begun-none none x e = (refl, x)
-  begun-none (some c) x e = absurd (true≢false (sym (x .listed) ∙ e))
-
-  pub begun-some : (found : Option Callee) → BegunIs S id node found s b b′ r → r .listed ≡ true → (c : Callee) × (found ≡ some c) × ListIs S id node c s b b′ r
-  unfolding BegunIs
-  begun-some none x e = absurd (false≢true (sym (x .listed) ∙ e))
-  begun-some (some c) x e = (c, refl, x)
 
 -- ---- what a row is asked, behind what was judged since
 pub asked-row : {q : List ℕ} {s : State} (x : NodeAsked q s) {r : State} {p n : ℕ} {g : List Given} {d : List Diag} {b b₁ : List ℕ} → Reached s p n g d b b₁ r → (rs : Row) (many : ℕ)
@@ -90,7 +84,7 @@ asked-row {s = s} x {r} {p} {n} {d = d} w rs many st lg counted fits room few =
 -- ---- a row that is judged, from where its call was
 pub record LaterRow (t : List ℕ) (H : Header) (s : State) (p n : ℕ) (g : List Given) (d : List Diag) (a a₁ l l₁ b b₁ : List ℕ) (r : State) (rs : Row) : Type 0 where
   pub reached : Reached s (p + bytess rs) (numberAfterRow rs n) (g ++ judges (symbolsOf t) H rs n .typed) (d ++ judges (symbolsOf t) H rs n .diags) b b₁ r
-  pub under : (m : ℕ) (u : Ty) → m < n → SlotHolds a l m u → SlotHolds a₁ l₁ m u
+  pub filled : AreaFilled a a₁ l l₁ (judges (symbolsOf t) H rs n .typed)
   pub few : length (judges (symbolsOf t) H rs n .diags) ≤ mostAtNode * sizes rs
 
 pub later-row : {t : List ℕ} {H : Header} {s r : State} {p n : ℕ} {g : List Given} {d : List Diag} {many : ℕ} {zs ws a a₁ l l₁ b b₁ b₂ : List ℕ} {row : RowJudged} {rs : Row}
@@ -102,7 +96,7 @@ later-row {t} {H} {r = r} {p = p} {n = n} {rs = rs} w z =
       reached = reached-join w
           (reached-as (ap (λ (k : ℕ). k + bytess rs) at) (ap (λ (k : ℕ). numberAfterRow rs k) node) (ap (λ (k : ℕ). judges (symbolsOf t) H rs k .typed) node)
           (ap (λ (k : ℕ). judges (symbolsOf t) H rs k .diags) node) (z .reached));
-      under = rw node at (z .under);
+      filled = rw node at (z .filled);
       few = rw node at (z .few);
     }
 
@@ -121,7 +115,7 @@ passed-over q {s} {e} {p} {n} many w rs st small counted =
 
 -- ---- a call that finds a list, behind what was judged since
 module _ {t : List ℕ} {index : List ℕ} (ok : IndexedTable t index) (H : Header) {q : List ℕ} {s : State} (x : NodeAsked q s) {e : State} {p n : ℕ} {g : List Given} {d : List Diag}
-    {b b₁ b₂ : List ℕ} (w : Reached s p n g d b b₁ e) (id : ℕ) (c : Callee) {begun : Begun} (list : ListIs (symbolsOf t) id (s .node) c e b₁ b₂ begun) (rs : Row) (many : ℕ)
+    {b b₁ b₂ : List ℕ} (w : Reached s p n g d b b₁ e) (id : ℕ) (c : Callee) {owner : ℕ} {begun : Begun} (list : ListIs (symbolsOf t) owner id (s .node) c e b₁ b₂ begun) (rs : Row) (many : ℕ)
     (st : RowStands q rs p) (lg : RowLegal (x .names) rs) (counted : count rs ≡ many) (fits : many ≤ 16) (later : s .node < n) (room : n + sizes rs ≤ slotsFor (length q)) (few : s .count + length d + 2 ≤ mostAtNode * n) where
   before : Reached s p n g (d ++ atNode (s .node) (c .before)) b b₂ (begun .state)
   before =
@@ -148,14 +142,14 @@ module _ {t : List ℕ} {index : List ℕ} (ok : IndexedTable t index) (H : Head
 
     args-is : argsIn a₁ l₁ (row .args) ≡ judges (symbolsOf t) H rs n .args
     unfolding row-asked asked-row
-    args-is = row-args row-asked (is row-asked) ∙ ap (λ (k : ℕ). judges (symbolsOf t) H rs k .args) (ap (λ (z : State). z .node) (before .result))
+    args-is = row-args ok row-asked lent (is row-asked) ∙ ap (λ (k : ℕ). judges (symbolsOf t) H rs k .args) (ap (λ (z : State). z .node) (before .result))
 
     args-few : length (argsIn a₁ l₁ (row .args)) ≤ 16
     args-few = omega (arith, ap (λ (xs : List Arg). length xs) args-is ∙ row-count (symbolsOf t) H rs n)
 
     verdict-is : resolve (symbolsOf t) (symbolsOf t .functionsOf (begun .owner) id) (s .node) (argsIn a₁ l₁ (row .args))
         ≡ resolve (symbolsOf t) (c .overloads) (s .node) (judges (symbolsOf t) H rs n .args)
-    verdict-is = rw (list .list, args-is)
+    verdict-is = rw (list .owned, list .list, args-is)
 
     row-later : LaterRow t H s p n g (d ++ atNode (s .node) (c .before)) a a₁ l l₁ b b₃ (row .state) rs
     row-later = later-row before row-is
@@ -168,24 +162,23 @@ module _ {t : List ℕ} {index : List ℕ} (ok : IndexedTable t index) (H : Head
         let v = argsIn a₁ l₁ (row .args) in
         record {
           room = slot-room x lent;
-          fits = omega (arith, row-many row-asked (is row-asked));
+          fits = omega (arith, row-many ok row-asked lent (is row-asked));
           few = omega (arith, length-append D (J .diags), before-few, row-later .few, slots-few (length q));
-          short = rw (list .list) (omega (arith, short v));
-          most = rw (list .list) (most v args-few);
+          short = rw (list .owned, list .list) (omega (arith, short v));
+          most = rw (list .owned, list .list) (most v args-few);
         }
 
-    pub call-close : {a₀ l₀ a′ l′ b′ : List ℕ} {r : State} → ((m : ℕ) (u : Ty) → m < s .node → SlotHolds a₀ l₀ m u → SlotHolds a l m u)
+    pub call-close : {a₀ l₀ a′ l′ b′ : List ℕ} {r : State} → AreaFilled a₀ a l₀ l g
         → judge (symbolsOf t) H (x .tree) (s .node)
         ≡ called (s .node) (c .before) (resolve (symbolsOf t) (c .overloads) (s .node) (judges (symbolsOf t) H rs n .args)) (g ++ judges (symbolsOf t) H rs n .typed) d (judges (symbolsOf t) H rs n .diags)
         → p + bytess rs ≡ s .at + bytes (x .tree) → numberAfterRow rs n ≡ numberAfter (x .tree) (s .node) → length d + mostAtNode * suc (sizes rs) ≤ mostAtNode * size (x .tree)
         → Finished (row .state) (s .node) (resolve (symbolsOf t) (symbolsOf t .functionsOf (begun .owner) id) (s .node) (argsIn a₁ l₁ (row .args)) .ty)
         (resolve (symbolsOf t) (symbolsOf t .functionsOf (begun .owner) id) (s .node) (argsIn a₁ l₁ (row .args)) .diags) a₁ a′ l₁ l′ b₃ b′ r
         → NodeIs t H s a₀ a′ l₀ l′ b b′ r (x .tree)
-    call-close under eq ep en size f =
+    call-close fill eq ep en size f =
         let J : Judgements = judges (symbolsOf t) H rs n in
         let D : List Diag = d ++ atNode (s .node) (c .before) in
-        close ok H x _ eq (row-later .reached) (rw verdict-is at f) refl (simp append-assoc) ep en lent
-        (λ m u h v. row-later .under m u (omega arith) (under m u h v)) (omega (arith, length-append D (J .diags), before-few, row-later .few))
+        close ok H x _ eq (row-later .reached) (filled-join fill (row-later .filled)) (rw verdict-is at f) refl (simp append-assoc) ep en (omega (arith, length-append D (J .diags), before-few, row-later .few))
 
 -- ---- the bound on what a call reports
 pub record CallsFit (S : Symbols) : Type 0 where
@@ -196,7 +189,7 @@ calls-fit t index ok = record { most = λ owner id n xs h. call-few t index owne
 
 -- ---- calls
 module _ {t : List ℕ} {index : List ℕ} (ok : IndexedTable t index) (fit : CallsFit (symbolsOf t)) (H : Header) {q : List ℕ} {s : State} (x : NodeAsked q s) (id many : ℕ) (h : nodeAt q (s .at) ≡ Call id many)
-    {s₁ : State} (i : s₁ ≡ insideOf s 4) (b b₁ : List ℕ) (begun : Begun) (is : BegunIs (symbolsOf t) id (s .node) (callOf (symbolsOf t) H id) s₁ b b₁ begun) where
+    {s₁ : State} (i : s₁ ≡ insideOf s 4) (b b₁ : List ℕ) (begun : Begun) (is : BegunIs noId (s .node) (callOf (symbolsOf t) H id) s₁ b b₁ begun) where
   inside-call : Reached s (s .at + 4) (suc (s .node)) [] [] b b s₁
   inside-call =
       reached-as (ap (λ (z : State). z .at) i) (ap (λ (z : State). z .node) i) refl refl (reached-inside 4 i (reached-here s₁ b))
@@ -208,7 +201,7 @@ module _ {t : List ℕ} {index : List ℕ} (ok : IndexedTable t index) (fit : Ca
     over-call =
         let (rs, e, counted, st) = is-call q (s .at) (x .tree) id many (x .stands) h in
         let sz : size (x .tree) ≡ suc (sizes rs) = ap size e in
-        let (f, n) = begun-none _ _ _ _ _ _ _ _ is no in
+        let (f, n) = begun-none _ is no in
         rw (n .state) (passed-over q many inside-call rs st (omega (arith, x .room, slots-few (length q))) counted)
 
     pub call-passed : passedOver q (begun .state) many .node ≤ 64
@@ -219,17 +212,17 @@ module _ {t : List ℕ} {index : List ℕ} (ok : IndexedTable t index) (fit : Ca
         let node : passedOver q (begun .state) many .node ≡ numberAfterRow rs (suc (s .node)) = ap (λ (z : State). z .node) (over-call .result) in
         omega (arith, afters-sizes rs (suc (s .node)), x .room, slots-few (length q))
 
-    pub ret-call-none : {a a′ l l′ : List ℕ} {r : State} → Space q a l → ((b : List ℕ) → Finished (passedOver q (begun .state) many) (s .node) (plainTy errorKind) [] a a′ l l′ b b r)
+    pub ret-call-none : {a a′ l l′ : List ℕ} {r : State} → ((b : List ℕ) → Finished (passedOver q (begun .state) many) (s .node) (plainTy errorKind) [] a a′ l l′ b b r)
         → NodeIs t H s a a′ l l′ b b₁ r (x .tree)
     unfolding judge size bytes numberAfter callStep
-    ret-call-none lent f =
+    ret-call-none f =
         let (rs, e, counted, st) = is-call q (s .at) (x .tree) id many (x .stands) h in
-        let (found, n) = begun-none _ _ _ _ _ _ _ _ is no in
+        let (found, n) = begun-none _ is no in
         let by : bytes (x .tree) ≡ 4 + bytess rs = ap bytes e in
         let num : numberAfter (x .tree) (s .node) ≡ numberAfterRow rs (suc (s .node)) = ap (λ (z : Node). numberAfter z (s .node)) e in
         let sz : size (x .tree) ≡ suc (sizes rs) = ap size e in
         let j : judge (symbolsOf t) H (x .tree) (s .node) ≡ done (s .node) errorTy [] [] = ap (λ (z : Node). judge (symbolsOf t) H z (s .node)) e ∙ ap (λ (o : Option Callee). callStep (symbolsOf t) (s .node) o (judges (symbolsOf t) H rs (suc (s .node)))) found in
-        rw (n .buffer) (close ok H x _ j over-call (f b) refl refl (omega arith) (sym num) lent (λ m u k v. v) (omega arith))
+        rw (n .buffer) (close ok H x _ j over-call (filled-none _ _) (f b) refl refl (omega arith) (sym num) (omega arith))
 
   -- a list
   module _ (yes : begun .listed ≡ true) where
@@ -237,7 +230,7 @@ module _ {t : List ℕ} {index : List ℕ} (ok : IndexedTable t index) (fit : Ca
     unfolding size Legal
     asked-args =
         let (rs, e, counted, st) = is-call q (s .at) (x .tree) id many (x .stands) h in
-        let (c, found, list) = begun-some _ _ _ _ _ _ _ _ is yes in
+        let (c, found, list) = call-begun (symbolsOf t) H id is yes in
         let sz : size (x .tree) ≡ suc (sizes rs) = ap size e in
         let lg : Legal (x .names) (call id rs) = rw e at (x .legal) in
         row-asked ok H x inside-call id c list rs many st (lg .1) counted (room-of q (s .at) _ h .1) (omega arith) (omega (arith, x .room)) (omega (arith, x .within .few))
@@ -246,7 +239,7 @@ module _ {t : List ℕ} {index : List ℕ} (ok : IndexedTable t index) (fit : Ca
     unfolding size Legal
     args-fall =
         let (rs, e, counted, st) = is-call q (s .at) (x .tree) id many (x .stands) h in
-        let (c, found, list) = begun-some _ _ _ _ _ _ _ _ is yes in
+        let (c, found, list) = call-begun (symbolsOf t) H id is yes in
         let sz : size (x .tree) ≡ suc (sizes rs) = ap size e in
         let lg : Legal (x .names) (call id rs) = rw e at (x .legal) in
         let room = room-of q (s .at) _ h in
@@ -258,11 +251,11 @@ module _ {t : List ℕ} {index : List ℕ} (ok : IndexedTable t index) (fit : Ca
       unfolding size Legal
       args-ready =
           let (rs, e, counted, st) = is-call q (s .at) (x .tree) id many (x .stands) h in
-          let (c, found, list) = begun-some _ _ _ _ _ _ _ _ is yes in
+          let (c, found, list) = call-begun (symbolsOf t) H id is yes in
           let sz : size (x .tree) ≡ suc (sizes rs) = ap size e in
           let lg : Legal (x .names) (call id rs) = rw e at (x .legal) in
           call-ready ok H x inside-call id c list rs many st (lg .1) counted (room-of q (s .at) _ h .1) (omega arith) (omega (arith, x .room)) (omega (arith, x .within .few)) lent js
-          (λ xs. call-short (symbolsOf t) (symbols-fit t (ok .clean)) H id c (s .node) xs found) (λ xs k. rw (list .list) at (fit .most (begun .owner) id (s .node) xs k))
+          (λ xs. call-short (symbolsOf t) (symbols-fit t (ok .clean)) H id c (s .node) xs found) (λ xs k. rw (list .owned, list .list) at (fit .most (begun .owner) id (s .node) xs k))
 
       pub ret-call : {a′ l′ b′ : List ℕ} {r : State}
           → Finished (row .state) (s .node) (resolve (symbolsOf t) (symbolsOf t .functionsOf (begun .owner) id) (s .node) (argsIn a₁ l₁ (row .args)) .ty)
@@ -271,14 +264,14 @@ module _ {t : List ℕ} {index : List ℕ} (ok : IndexedTable t index) (fit : Ca
       unfolding judge size Legal bytes numberAfter callStep
       ret-call f =
           let (rs, e, counted, st) = is-call q (s .at) (x .tree) id many (x .stands) h in
-          let (c, found, list) = begun-some _ _ _ _ _ _ _ _ is yes in
+          let (c, found, list) = call-begun (symbolsOf t) H id is yes in
           let by : bytes (x .tree) ≡ 4 + bytess rs = ap bytes e in
           let num : numberAfter (x .tree) (s .node) ≡ numberAfterRow rs (suc (s .node)) = ap (λ (z : Node). numberAfter z (s .node)) e in
           let sz : size (x .tree) ≡ suc (sizes rs) = ap size e in
           let lg : Legal (x .names) (call id rs) = rw e at (x .legal) in
           call-close ok H x inside-call id c list rs many st (lg .1) counted (room-of q (s .at) _ h .1) (omega arith) (omega (arith, x .room)) (omega (arith, x .within .few)) lent js
-          (λ xs. call-short (symbolsOf t) (symbols-fit t (ok .clean)) H id c (s .node) xs found) (λ xs k. rw (list .list) at (fit .most (begun .owner) id (s .node) xs k))
-          (λ m u k v. v) (ap (λ (z : Node). judge (symbolsOf t) H z (s .node)) e ∙ ap (λ (o : Option Callee). callStep (symbolsOf t) (s .node) o (judges (symbolsOf t) H rs (suc (s .node)))) found) (omega arith) (sym num) (omega arith) f
+          (λ xs. call-short (symbolsOf t) (symbols-fit t (ok .clean)) H id c (s .node) xs found) (λ xs k. rw (list .owned, list .list) at (fit .most (begun .owner) id (s .node) xs k))
+          (filled-none _ _) (ap (λ (z : Node). judge (symbolsOf t) H z (s .node)) e ∙ ap (λ (o : Option Callee). callStep (symbolsOf t) (s .node) o (judges (symbolsOf t) H rs (suc (s .node)))) found) (omega arith) (sym num) (omega arith) f
 
 -- ---- method calls
 module _ {t : List ℕ} {index : List ℕ} (ok : IndexedTable t index) (fit : CallsFit (symbolsOf t)) (H : Header) {q : List ℕ} {s : State} (x : NodeAsked q s) (id many : ℕ) (h : nodeAt q (s .at) ≡ Method id many)
@@ -304,10 +297,16 @@ module _ {t : List ℕ} {index : List ℕ} (ok : IndexedTable t index) (fit : Ca
         let n : r₁ .count ≡ s .count + length (judge (symbolsOf t) H c (suc (s .node)) .diags) = ap (λ (z : State). z .count) (object-is .reached .result) in
         omega (arith, object-is .few, x .within .few, x .room, slots-few (length q))
 
-    module _ (b₁ : List ℕ) (begun : Begun) (bs : BegunIs (symbolsOf t) id (s .node) (methodOf (symbolsOf t) H id (slotOf a l (s .node + 1))) r₁ b b₁ begun) where
+    module _ (lent₀ : Space q a₀ l₀) (b₁ : List ℕ) (begun : Begun) (bs : BegunIs (methodOwner (slotOf a l (s .node + 1))) (s .node) (methodOf (symbolsOf t) H id (slotOf a l (s .node + 1))) r₁ b b₁ begun) where
       begun-is : let c = is-method q (s .at) (x .tree) id many (x .stands) h .0 in
-          BegunIs (symbolsOf t) id (s .node) (methodOf (symbolsOf t) H id (judge (symbolsOf t) H c (suc (s .node)) .ty)) r₁ b b₁ begun
-      begun-is = rw (object-is .top .is) at bs
+          BegunIs (methodOwner (judge (symbolsOf t) H c (suc (s .node)) .ty)) (s .node) (methodOf (symbolsOf t) H id (judge (symbolsOf t) H c (suc (s .node)) .ty)) r₁ b b₁ begun
+      unfolding size
+      begun-is =
+          let (c, rs, e, counted, sc, st) = is-method q (s .at) (x .tree) id many (x .stands) h in
+          let sz : size (x .tree) ≡ suc (size c + sizes rs) = ap size e in
+          let top : SlotHolds a l (s .node + 1) (judge (symbolsOf t) H c (suc (s .node)) .ty)
+          = rw add-one (tree-held ok H q c (suc (s .node)) (s .at + 4) sc (omega (arith, x .room)) (object-is .filled) (space-behind (object-is .filled) lent₀)) in
+          rw (top .is) at bs
 
       -- no list
       module _ (no : begun .listed ≡ false) where
@@ -317,7 +316,7 @@ module _ {t : List ℕ} {index : List ℕ} (ok : IndexedTable t index) (fit : Ca
         over-method =
             let (c, rs, e, counted, sc, st) = is-method q (s .at) (x .tree) id many (x .stands) h in
             let sz : size (x .tree) ≡ suc (size c + sizes rs) = ap size e in
-            let (f, n) = begun-none _ _ _ _ _ _ _ _ begun-is no in
+            let (f, n) = begun-none _ begun-is no in
             rw (n .state) (passed-over q many (object-is .reached) rs st (omega (arith, x .room, slots-few (length q))) counted)
 
         pub method-passed : passedOver q (begun .state) many .node ≤ 64
@@ -328,18 +327,18 @@ module _ {t : List ℕ} {index : List ℕ} (ok : IndexedTable t index) (fit : Ca
             let node : passedOver q (begun .state) many .node ≡ numberAfterRow rs (numberAfter c (suc (s .node))) = ap (λ (z : State). z .node) (over-method .result) in
             omega (arith, afters-sizes rs (numberAfter c (suc (s .node))), after-size c (suc (s .node)), x .room, slots-few (length q))
 
-        pub ret-method-none : {a′ l′ : List ℕ} {r : State} → Space q a l → ((b : List ℕ) → Finished (passedOver q (begun .state) many) (s .node) (plainTy anyKind) [] a a′ l l′ b b r)
+        pub ret-method-none : {a′ l′ : List ℕ} {r : State} → ((b : List ℕ) → Finished (passedOver q (begun .state) many) (s .node) (plainTy anyKind) [] a a′ l l′ b b r)
             → NodeIs t H s a₀ a′ l₀ l′ b₀ b₁ r (x .tree)
         unfolding judge size bytes numberAfter methodStep
-        ret-method-none lent f =
+        ret-method-none f =
             let (c, rs, e, counted, sc, st) = is-method q (s .at) (x .tree) id many (x .stands) h in
-            let (found, n) = begun-none _ _ _ _ _ _ _ _ begun-is no in
+            let (found, n) = begun-none _ begun-is no in
             let C : Judged = judge (symbolsOf t) H c (suc (s .node)) in
             let by : bytes (x .tree) ≡ 4 + bytes c + bytess rs = ap bytes e in
             let num : numberAfter (x .tree) (s .node) ≡ numberAfterRow rs (numberAfter c (suc (s .node))) = ap (λ (z : Node). numberAfter z (s .node)) e in
             let sz : size (x .tree) ≡ suc (size c + sizes rs) = ap size e in
             let j : judge (symbolsOf t) H (x .tree) (s .node) ≡ done (s .node) anyTy (C .typed) (C .diags) = ap (λ (z : Node). judge (symbolsOf t) H z (s .node)) e ∙ ap (λ (o : Option Callee). methodStep (symbolsOf t) (s .node) (judge (symbolsOf t) H c (suc (s .node))) o (judges (symbolsOf t) H rs (numberAfter c (suc (s .node))))) found in
-            rw (n .buffer) (close ok H x _ j over-method (f b) refl (append-nil (C .diags)) (omega arith) (sym num) lent (object-is .under) (omega (arith, object-is .few)))
+            rw (n .buffer) (close ok H x _ j over-method (object-is .filled) (f b) refl (append-nil (C .diags)) (omega arith) (sym num) (omega (arith, object-is .few)))
 
       -- a list
       module _ (yes : begun .listed ≡ true) where
@@ -347,7 +346,7 @@ module _ {t : List ℕ} {index : List ℕ} (ok : IndexedTable t index) (fit : Ca
         unfolding size Legal
         asked-method =
             let (c, rs, e, counted, sc, st) = is-method q (s .at) (x .tree) id many (x .stands) h in
-            let (f, found, list) = begun-some _ _ _ _ _ _ _ _ begun-is yes in
+            let (f, found, list) = method-begun (symbolsOf t) H id (judge (symbolsOf t) H c (suc (s .node)) .ty) begun-is yes in
             let sz : size (x .tree) ≡ suc (size c + sizes rs) = ap size e in
             let lg : Legal (x .names) (method id c rs) = rw e at (x .legal) in
             let num = after-size c (suc (s .node)) in
@@ -357,7 +356,7 @@ module _ {t : List ℕ} {index : List ℕ} (ok : IndexedTable t index) (fit : Ca
         unfolding size Legal
         method-fall =
             let (c, rs, e, counted, sc, st) = is-method q (s .at) (x .tree) id many (x .stands) h in
-            let (f, found, list) = begun-some _ _ _ _ _ _ _ _ begun-is yes in
+            let (f, found, list) = method-begun (symbolsOf t) H id (judge (symbolsOf t) H c (suc (s .node)) .ty) begun-is yes in
             let sz : size (x .tree) ≡ suc (size c + sizes rs) = ap size e in
             let lg : Legal (x .names) (method id c rs) = rw e at (x .legal) in
             let num = after-size c (suc (s .node)) in
@@ -370,12 +369,12 @@ module _ {t : List ℕ} {index : List ℕ} (ok : IndexedTable t index) (fit : Ca
           unfolding size Legal
           method-ready =
               let (c, rs, e, counted, sc, st) = is-method q (s .at) (x .tree) id many (x .stands) h in
-              let (f, found, list) = begun-some _ _ _ _ _ _ _ _ begun-is yes in
+              let (f, found, list) = method-begun (symbolsOf t) H id (judge (symbolsOf t) H c (suc (s .node)) .ty) begun-is yes in
               let sz : size (x .tree) ≡ suc (size c + sizes rs) = ap size e in
               let lg : Legal (x .names) (method id c rs) = rw e at (x .legal) in
               let num = after-size c (suc (s .node)) in
               call-ready ok H x (object-is .reached) id f list rs many st (lg .2) counted (room-of q (s .at) _ h .1) (omega arith) (omega (arith, x .room)) (omega (arith, x .within .few, object-is .few, some-size c)) lent js
-              (λ xs. method-short (symbolsOf t) (symbols-fit t (ok .clean)) H id (judge (symbolsOf t) H c (suc (s .node)) .ty) f (s .node) xs found) (λ xs k. rw (list .list) at (fit .most (begun .owner) id (s .node) xs k))
+              (λ xs. method-short (symbolsOf t) (symbols-fit t (ok .clean)) H id (judge (symbolsOf t) H c (suc (s .node)) .ty) f (s .node) xs found) (λ xs k. rw (list .owned, list .list) at (fit .most (begun .owner) id (s .node) xs k))
 
           pub ret-method : {a′ l′ b′ : List ℕ} {r : State}
               → Finished (row .state) (s .node) (resolve (symbolsOf t) (symbolsOf t .functionsOf (begun .owner) id) (s .node) (argsIn a₁ l₁ (row .args)) .ty)
@@ -384,12 +383,12 @@ module _ {t : List ℕ} {index : List ℕ} (ok : IndexedTable t index) (fit : Ca
           unfolding judge size Legal bytes numberAfter methodStep
           ret-method w =
               let (c, rs, e, counted, sc, st) = is-method q (s .at) (x .tree) id many (x .stands) h in
-              let (f, found, list) = begun-some _ _ _ _ _ _ _ _ begun-is yes in
+              let (f, found, list) = method-begun (symbolsOf t) H id (judge (symbolsOf t) H c (suc (s .node)) .ty) begun-is yes in
               let by : bytes (x .tree) ≡ 4 + bytes c + bytess rs = ap bytes e in
               let num : numberAfter (x .tree) (s .node) ≡ numberAfterRow rs (numberAfter c (suc (s .node))) = ap (λ (z : Node). numberAfter z (s .node)) e in
               let sz : size (x .tree) ≡ suc (size c + sizes rs) = ap size e in
               let lg : Legal (x .names) (method id c rs) = rw e at (x .legal) in
               let k = after-size c (suc (s .node)) in
               call-close ok H x (object-is .reached) id f list rs many st (lg .2) counted (room-of q (s .at) _ h .1) (omega arith) (omega (arith, x .room)) (omega (arith, x .within .few, object-is .few, some-size c)) lent js
-              (λ xs. method-short (symbolsOf t) (symbols-fit t (ok .clean)) H id (judge (symbolsOf t) H c (suc (s .node)) .ty) f (s .node) xs found) (λ xs k. rw (list .list) at (fit .most (begun .owner) id (s .node) xs k))
-              (object-is .under) (ap (λ (z : Node). judge (symbolsOf t) H z (s .node)) e ∙ ap (λ (o : Option Callee). methodStep (symbolsOf t) (s .node) (judge (symbolsOf t) H c (suc (s .node))) o (judges (symbolsOf t) H rs (numberAfter c (suc (s .node))))) found) (omega arith) (sym num) (omega (arith, object-is .few)) w
+              (λ xs. method-short (symbolsOf t) (symbols-fit t (ok .clean)) H id (judge (symbolsOf t) H c (suc (s .node)) .ty) f (s .node) xs found) (λ xs k. rw (list .owned, list .list) at (fit .most (begun .owner) id (s .node) xs k))
+              (object-is .filled) (ap (λ (z : Node). judge (symbolsOf t) H z (s .node)) e ∙ ap (λ (o : Option Callee). methodStep (symbolsOf t) (s .node) (judge (symbolsOf t) H c (suc (s .node))) o (judges (symbolsOf t) H rs (numberAfter c (suc (s .node))))) found) (omega arith) (sym num) (omega (arith, object-is .few)) w

@@ -6,13 +6,14 @@ use lib.Seq.{sets, sets-eq, take-at, getD-take}
 use mathlib.Core.Bool.{true}
 use mathlib.Core.List.{List, [], _∷_}
 use mathlib.Core.Option.{none, some}
-use mathlib.Core.Path.{_≡_, refl, sym, ap, _∙_, subst}
+use mathlib.Core.Path.{_≡_, refl, sym, ap, _∙_}
 use native.Mathlib.Nat.{add-zero}
 use native.Mathlib.Numerals.{add-one}
 use native.Mathlib.Omega.{arith}
-use Rattle.area.proofs.Slots.{helds-more}
+use Rattle.nodes.proofs.Filling.{filled-none, filled-join}
+use Rattle.cycle.proofs.Holding.{space-before, row-held}
 use Rattle.nodes.proofs.Reaching.{reached-here, reached-join, reached-as}
-use Rattle.cycle.specs.Inside.Contract.{mostAtNode, NodeAsked, NodeIs, RowAsked, RowIs}
+use Rattle.cycle.specs.Inside.Contract.{mostAtNode, Space, NodeAsked, NodeIs, RowAsked, RowIs}
 use Rattle.nodes.specs.Inside.Row.{nameRead, nameAt, idOf, nodesOf, idsOf, tysOf}
 use Rattle.nodes.specs.declared.calls.RowJudged.{RowJudged}
 use Rattle.nodes.specs.declared.progress.State.{State}
@@ -21,13 +22,14 @@ use Rattle.scoring.specs.Arg.{Arg}
 use Rattle.scoring.specs.Inside.Args.{nameIn, argAt, argsRow, argsIn}
 use Rattle.scoring.specs.declared.args.Args.{Args}
 use Rattle.question.proofs.Standing.{is-nil, is-cons}
-use Rattle.question.proofs.Trees.{after-size, some-size}
+use Rattle.question.proofs.Trees.{after-size}
 use Rattle.question.specs.Inside.Legal.{Legal, RowLegal}
 use Rattle.question.specs.QuestionRefused.{defined}
 use Rattle.question.specs.Inside.Stands.{TreeStands}
 use Rattle.question.specs.Tree.{Node, Row, leaf, binary, unary, named, member, call, method, nil, cons, numberAfter, numberAfterRow, size, sizes, count, bytes, bytess, argumentName}
 use Rattle.question.specs.declared.Header.{Header}
 use Rattle.question.specs.declared.Names.{Names}
+use Rattle.index.specs.Inside.IndexedTable.{IndexedTable}
 use Rattle.symbol.specs.Lookup.{symbolsOf}
 use Rattle.symbol.specs.Symbols.{Symbols}
 use Rattle.ty.specs.Choose.{choose}
@@ -128,12 +130,13 @@ args-are a l lo x zs ws xs n e h k f held nm =
     (λ j i. let o : 0 + j ≡ j = omega arith in rw o (ap (λ (z : Args). getD (z .nodes) j 0) f ∙ set-at zs (nodesOf xs) j (omega arith) (omega arith)))
     (λ j i. let o : 0 + j ≡ j = omega arith in rw o (ap (λ (z : Args). getD (z .names) j 0) f ∙ set-at ws (idsOf xs) j (omega arith) (omega arith))) held nm
 
-module _ {t : List ℕ} {H : Header} {q : List ℕ} {s : State} {n : ℕ} (x : RowAsked q s 0 n) {a a′ l l′ b b′ : List ℕ} {r : RowJudged}
-    (is : RowIs t H s 0 n (replicate 16 0) (replicate 16 0) a a′ l l′ b b′ r (x .trees)) where
+module _ {t : List ℕ} {index : List ℕ} (ok : IndexedTable t index) {H : Header} {q : List ℕ} {s : State} {n : ℕ} (x : RowAsked q s 0 n) {a a′ l l′ b b′ : List ℕ} {r : RowJudged}
+    (lent : Space q a′ l′) (is : RowIs t H s 0 n (replicate 16 0) (replicate 16 0) a a′ l l′ b b′ r (x .trees)) where
   pub row-args : argsIn a′ l′ (r .args) ≡ judges (symbolsOf t) H (x .trees) (s .node) .args
   row-args =
       args-are a′ l′ (s .node) (r .args) (replicate 16 0) (replicate 16 0) (judges (symbolsOf t) H (x .trees) (s .node) .args) n
-      (row-count (symbolsOf t) H (x .trees) (s .node) ∙ x .counted) (omega (arith, x .fits)) (omega (arith, x .fits)) (is .args) (is .held)
+      (row-count (symbolsOf t) H (x .trees) (s .node) ∙ x .counted) (omega (arith, x .fits)) (omega (arith, x .fits)) (is .args)
+      (row-held ok H q (x .trees) (s .node) (s .at) (x .stands) (x .room) (is .filled) (space-before (is .filled) lent))
       (row-named (symbolsOf t) H (x .names) (x .within .known) (x .trees) (s .node) (x .legal))
 
   pub row-many : r .args .count ≡ n
@@ -174,16 +177,16 @@ module _ {q : List ℕ} {s : State} {k left : ℕ} (x : RowAsked q s k left) (ne
 -- ---- what is left of a row
 module _ {t : List ℕ} {H : Header} {q : List ℕ} {s : State} {k left : ℕ} (n : ℕ) (x : RowAsked q s k left) (nodes names a l b : List ℕ) where
   pub ret-done : left ≡ 0 → RowIs t H s k n nodes names a a l l b b (record { args = record { count = n; nodes = nodes; names = names }; state = s }) (x .trees)
-  unfolding judges bytess numberAfterRow sizes nodesOf idsOf tysOf SlotsHold
+  unfolding judges bytess numberAfterRow sizes nodesOf idsOf
   ret-done z =
       rw (is-nil (x .trees) (x .counted ∙ z))
-      (record { reached = reached-as (sym (add-zero (s .at))) refl refl refl (reached-here s b); args = refl; held = tt; under = λ m u h v. v; few = omega arith })
+      (record { reached = reached-as (sym (add-zero (s .at))) refl refl refl (reached-here s b); filled = filled-none a l; args = refl; few = omega arith })
 
   pub ret-also : (ne : left ≡ 0 → ⊥) {a₁ l₁ b₁ a₂ l₂ b₂ : List ℕ} {e : State} {r : RowJudged} {id : ℕ} (is : NodeIs t H s a a₁ l l₁ b b₁ e (asked-first x ne .tree)) → id ≡ nameAt q (s .at)
       → RowIs t H e (k + 1) n (set nodes k (s .node)) (set names k id) a₁ a₂ l₁ l₂ b₁ b₂ r (asked-rest x ne is .trees)
       → RowIs t H s k n nodes names a a₂ l l₂ b b₂ r (x .trees)
-  unfolding judges bytess numberAfterRow sizes nodesOf idsOf tysOf SlotsHold asked-first asked-rest
-  ret-also ne {a₂ = a₂} {l₂ = l₂} {e = e} {id = id} y i z =
+  unfolding judges bytess numberAfterRow sizes nodesOf idsOf asked-first asked-rest
+  ret-also ne {e = e} {id = id} y i z =
       let (c, us, eq, m, st, ss) = is-cons q (s .at) (x .trees) left (x .stands) (x .counted) ne in
       let at : e .at ≡ s .at + bytes c = ap (λ (z : State). z .at) (y .reached .result) in
       let node : e .node ≡ numberAfter c (s .node) = ap (λ (z : State). z .node) (y .reached .result) in
@@ -196,14 +199,8 @@ module _ {t : List ℕ} {H : Header} {q : List ℕ} {s : State} {k left : ℕ} (
         reached = reached-as (omega arith) refl refl refl
             (reached-join (y .reached)
             (reached-as (ap (λ (p : ℕ). p + bytess us) at) (ap (λ (p : ℕ). numberAfterRow us p) node) (ap (λ (p : ℕ). J p .typed) node) (ap (λ (p : ℕ). J p .diags) node) (z .reached)));
+        filled = filled-join (y .filled) (rw node at (z .filled));
         args = z .args ∙ rw (node, name, add-one) refl;
-        held = (
-          omega arith,
-          z .under (s .node) _ (omega (arith, some-size c)) (y .top),
-          helds-more a₂ l₂ (s .node) (numberAfter c (s .node)) (nodesOf (J (numberAfter c (s .node)) .args)) (tysOf (J (numberAfter c (s .node)) .args)) (omega arith)
-              (subst (λ (p : ℕ). SlotsHold a₂ l₂ p (nodesOf (J p .args)) (tysOf (J p .args))) node (z .held)),
-        );
-        under = λ m u h v. z .under m u (omega arith) (y .under m u h v);
         few = omega (arith, length-append (judge (symbolsOf t) H c (s .node) .diags) (J (numberAfter c (s .node)) .diags), y .few, zf);
       })
 

@@ -5,17 +5,20 @@ use mathlib.Core.List.{List, [], _∷_, _++_, append-nil}
 use mathlib.Core.Path.{_≡_, refl, sym, ap, _∙_}
 use native.Mathlib.Numerals.{add-one}
 use native.Mathlib.Omega.{arith}
-use Rattle.area.proofs.Slots.{held-stored, under-stored, held-slot}
+use Rattle.area.proofs.Slots.{held-slot}
 use Rattle.area.specs.Diagnostic.{Diag, countLimit}
+use Rattle.area.specs.Inside.Slot.{Slot, SlotHolds, slotOf}
+use Rattle.nodes.proofs.Filling.{filled-none, filled-one, filled-join, filled-as}
+use Rattle.cycle.proofs.Holding.{space-before, node-under, tree-fits, tree-held}
 use Rattle.nodes.proofs.Reaching.{reached-here, reached-join, reached-inside, reached-as}
 use Rattle.cycle.proofs.Spaces.{slots-few}
 use Rattle.cycle.specs.Inside.Contract.{mostAtNode, slotsFor, Space, NodeAsked, NodeIs}
+use Rattle.nodes.specs.Inside.AreaFilled.{AreaFilled}
 use Rattle.nodes.specs.Inside.Progress.{insideOf, Reached, Finished}
 use Rattle.nodes.specs.Inside.Rule.{LeafAsked, RuleAsked}
 use Rattle.nodes.specs.declared.progress.State.{State}
-use Rattle.area.specs.Inside.Slot.{Slot, Stored, SlotHolds, slotOf}
 use Rattle.question.proofs.NodeReading.{room-of}
-use Rattle.question.proofs.Standing.{is-bad, is-endless, is-leaf, is-binary, is-unary, is-named, is-member, at-ends, at-fits}
+use Rattle.question.proofs.Standing.{is-bad, is-endless, is-leaf, is-binary, is-unary, is-named, is-member, at-ends}
 use Rattle.question.proofs.Trees.{after-size, some-size}
 use Rattle.question.specs.Inside.Legal.{Legal}
 use Rattle.question.specs.NodeRead.{nodeAt}
@@ -31,8 +34,6 @@ use Rattle.operators.specs.Unary.{unaryOut}
 use Rattle.symbol.specs.Lookup.{symbolsOf}
 use Rattle.index.specs.Inside.IndexedTable.{IndexedTable}
 use Rattle.ty.specs.Bytes.{Ty}
-use Rattle.typing.proofs.Length.{type-short}
-use Rattle.typing.proofs.Tables.{symbols-fit}
 use Rattle.typing.specs.Judge.{Given, Judged, done, closed, judge}
 
 -- ---- what a call of the node judge is asked
@@ -103,8 +104,7 @@ below e h = omega arith
 -- ---- a child that is judged, from where its parent was
 pub record ChildIs (t : List ℕ) (H : Header) (s : State) (own : ℕ) (a a₁ l l₁ b b₁ : List ℕ) (r : State) (c : Node) : Type 0 where
   pub reached : Reached s (s .at + own + bytes c) (numberAfter c (suc (s .node))) (judge (symbolsOf t) H c (suc (s .node)) .typed) (judge (symbolsOf t) H c (suc (s .node)) .diags) b b₁ r
-  pub top : SlotHolds a₁ l₁ (s .node + 1) (judge (symbolsOf t) H c (suc (s .node)) .ty)
-  pub under : (m : ℕ) (u : Ty) → m < s .node → SlotHolds a l m u → SlotHolds a₁ l₁ m u
+  pub filled : AreaFilled a a₁ l l₁ (judge (symbolsOf t) H c (suc (s .node)) .typed)
   pub few : length (judge (symbolsOf t) H c (suc (s .node)) .diags) ≤ mostAtNode * size c
 
 pub child : {t : List ℕ} {H : Header} {s s₁ : State} (own : ℕ) {a a₁ l l₁ b b₁ : List ℕ} {r : State} {c : Node} → s₁ ≡ insideOf s own
@@ -113,16 +113,14 @@ child {t} {H} {s} {s₁} own {a} {a₁} {l} {l₁} {b} {b₁} {r} {c} e z =
     let w : NodeIs t H (insideOf s own) a a₁ l l₁ b b₁ r c = rw e at z in
     record {
       reached = record { result = w .reached .result; buffer = w .reached .buffer };
-      top = rw add-one (w .top);
-      under = λ m u h v. w .under m u (omega arith) v;
+      filled = w .filled;
       few = w .few;
     }
 
 -- the same of a tree behind what was judged since
 pub record LaterIs (t : List ℕ) (H : Header) (s : State) (p n : ℕ) (g : List Given) (d : List Diag) (a a₁ l l₁ b b₁ : List ℕ) (r : State) (c : Node) : Type 0 where
   pub reached : Reached s (p + bytes c) (numberAfter c n) (g ++ judge (symbolsOf t) H c n .typed) (d ++ judge (symbolsOf t) H c n .diags) b b₁ r
-  pub top : SlotHolds a₁ l₁ n (judge (symbolsOf t) H c n .ty)
-  pub under : (m : ℕ) (u : Ty) → m < n → SlotHolds a l m u → SlotHolds a₁ l₁ m u
+  pub filled : AreaFilled a a₁ l l₁ (judge (symbolsOf t) H c n .typed)
   pub few : length (judge (symbolsOf t) H c n .diags) ≤ mostAtNode * size c
 
 pub later : {t : List ℕ} {H : Header} {s r : State} {p n : ℕ} {g : List Given} {d : List Diag} {a a₁ l l₁ b b₁ b₂ : List ℕ} {r₂ : State} {c : Node}
@@ -134,29 +132,19 @@ later {t} {H} {r = r} {p = p} {n = n} {c = c} w z =
       reached = reached-join w
           (reached-as (ap (λ (k : ℕ). k + bytes c) at) (ap (λ (k : ℕ). numberAfter c k) node) (ap (λ (k : ℕ). judge (symbolsOf t) H c k .typed) node)
           (ap (λ (k : ℕ). judge (symbolsOf t) H c k .diags) node) (z .reached));
-      top = rw node at (z .top);
-      under = rw node at (z .under);
+      filled = rw node at (z .filled);
       few = rw node at (z .few);
     }
 
 -- ---- what a return leaves
 module _ {t : List ℕ} {index : List ℕ} (ok : IndexedTable t index) (H : Header) {q : List ℕ} {s : State} (x : NodeAsked q s) where
   pub type-fits : length (judge (symbolsOf t) H (x .tree) (s .node) .ty) ≤ 256
-  type-fits =
-      omega (arith, type-short (symbolsOf t) (symbols-fit t (ok .clean)) H (x .tree) (s .node) (at-fits q (x .tree) (s .at) (x .stands)), x .room, slots-few (length q))
+  type-fits = tree-fits ok H q (x .tree) (s .node) (s .at) (x .stands) (omega (arith, x .room))
 
-  pub node-is : (j : Judged) → judge (symbolsOf t) H (x .tree) (s .node) ≡ j → {at node : ℕ} {a a₁ a′ l l₁ l′ b b′ : List ℕ} {r : State}
+  pub node-is : (j : Judged) → judge (symbolsOf t) H (x .tree) (s .node) ≡ j → {at node : ℕ} {a a′ l l′ b b′ : List ℕ} {r : State}
       → Reached s at node (j .typed) (j .diags) b b′ r → at ≡ s .at + bytes (x .tree) → node ≡ numberAfter (x .tree) (s .node)
-      → Stored a₁ a′ l₁ l′ (s .node) (j .ty) → Space q a₁ l₁ → ((m : ℕ) (u : Ty) → m < s .node → SlotHolds a l m u → SlotHolds a₁ l₁ m u)
-      → length (j .diags) ≤ mostAtNode * size (x .tree) → NodeIs t H s a a′ l l′ b b′ r (x .tree)
-  node-is j e {a₁ = a₁} {a′ = a′} {l₁ = l₁} {l′ = l′} re ea en st lent under few =
-      let short : length (j .ty) ≤ 256 = rw e at type-fits in
-      record {
-        reached = rw e (reached-as ea en refl refl re);
-        top = rw e (held-stored a₁ a′ l₁ l′ (s .node) (j .ty) st (lent .lent) (slot-room x lent) short);
-        under = λ m u h v. under-stored a₁ a′ l₁ l′ (s .node) (j .ty) st m u h (under m u h v);
-        few = rw e few;
-      }
+      → AreaFilled a a′ l l′ (j .typed) → length (j .diags) ≤ mostAtNode * size (x .tree) → NodeIs t H s a a′ l l′ b b′ r (x .tree)
+  node-is j e re ea en fill few = record { reached = rw e (reached-as ea en refl refl re); filled = rw e fill; few = rw e few }
 
   pub ret-bad : {a l b : List ℕ} {r : State} → nodeAt q (s .at) ≡ Bad → NodeIs t H s a a l l b b r (x .tree)
   ret-bad h = absurd (is-bad q (s .at) (x .tree) (x .stands) h)
@@ -166,26 +154,26 @@ module _ {t : List ℕ} {index : List ℕ} (ok : IndexedTable t index) (H : Head
 
   -- by the finished node behind its children, which reported at most so many
   pub close : (j : Judged) → judge (symbolsOf t) H (x .tree) (s .node) ≡ j → {p m : ℕ} {g : List Given} {d ds : List Diag} {a a₁ a′ l l₁ l′ b b₁ b′ : List ℕ} {r₁ r : State}
-      → Reached s p m g d b b₁ r₁ → Finished r₁ (s .node) (j .ty) ds a₁ a′ l₁ l′ b₁ b′ r → g ++ (record { node = s .node; ty = j .ty } ∷ []) ≡ j .typed → d ++ ds ≡ j .diags
-      → p ≡ s .at + bytes (x .tree) → m ≡ numberAfter (x .tree) (s .node) → Space q a₁ l₁ → ((m : ℕ) (u : Ty) → m < s .node → SlotHolds a l m u → SlotHolds a₁ l₁ m u)
+      → Reached s p m g d b b₁ r₁ → AreaFilled a a₁ l l₁ g → Finished r₁ (s .node) (j .ty) ds a₁ a′ l₁ l′ b₁ b′ r → g ++ (record { node = s .node; ty = j .ty } ∷ []) ≡ j .typed → d ++ ds ≡ j .diags
+      → p ≡ s .at + bytes (x .tree) → m ≡ numberAfter (x .tree) (s .node)
       → length d + mostAtNode ≤ mostAtNode * size (x .tree) + 2 → NodeIs t H s a a′ l l′ b b′ r (x .tree)
-  close j e {p} {m} {d = d} {ds = ds} {r₁ = r₁} w f eg ed ep em lent under few =
+  close j e {p} {m} {d = d} {ds = ds} {r₁ = r₁} w fill f eg ed ep em few =
       let at : r₁ .at ≡ p = ap (λ (z : State). z .at) (w .result) in
       let node : r₁ .node ≡ m = ap (λ (z : State). z .node) (w .result) in
       let len : length (j .diags) ≡ length d + length ds = ap (λ (z : List Diag). length z) (sym ed) ∙ length-append d ds in
-      node-is j e (reached-as at node eg ed (reached-join w (f .reached))) ep em (f .stored) lent under (omega (arith, f .few))
+      node-is j e (reached-as at node eg ed (reached-join w (f .reached))) ep em (filled-as eg (filled-join fill (filled-one (f .stored)))) (omega (arith, f .few))
 
-  pub ret-leaf : (len top : ℕ) → nodeAt q (s .at) ≡ Leaf len top → {a a′ l l′ : List ℕ} {r : State} → Space q a l
+  pub ret-leaf : (len top : ℕ) → nodeAt q (s .at) ≡ Leaf len top → {a a′ l l′ : List ℕ} {r : State}
       → ((b : List ℕ) → Finished (insideOf s (len + 1)) (s .node) (take len (drop (s .at + 1) q)) [] a a′ l l′ b b r)
       → (b : List ℕ) → NodeIs t H s a a′ l l′ b b r (x .tree)
   unfolding judge size bytes numberAfter
-  ret-leaf len top h lent f b =
+  ret-leaf len top h f b =
       let (e, k) = is-leaf q (s .at) (x .tree) len top (x .stands) h in
       let by : bytes (x .tree) ≡ 1 + length (take len (drop (s .at + 1) q)) = ap bytes e in
       let num : numberAfter (x .tree) (s .node) ≡ suc (s .node) = ap (λ (z : Node). numberAfter z (s .node)) e in
       let sz : size (x .tree) ≡ 1 = ap size e in
       close (done (s .node) (take len (drop (s .at + 1) q)) [] []) (ap (λ (z : Node). judge (symbolsOf t) H z (s .node)) e)
-      (reached-inside (len + 1) refl (reached-here (insideOf s (len + 1)) b)) (f b) refl refl (omega arith) (sym num) lent (λ m u h v. v) (omega arith)
+      (reached-inside (len + 1) refl (reached-here (insideOf s (len + 1)) b)) (filled-none _ _) (f b) refl refl (omega arith) (sym num) (omega arith)
 
   -- ---- one child
   module _ (own : ℕ) {s₁ : State} (i : s₁ ≡ insideOf s own) (c : Node) (st : TreeStands q c (s .at + own)) (lg : Legal (x .names) c) (sz : size (x .tree) ≡ suc (size c))
@@ -197,8 +185,11 @@ module _ {t : List ℕ} {index : List ℕ} (ok : IndexedTable t index) (H : Head
     unfolding only-asked asked-inside
     only-child = child own i (is only-asked)
 
+    only-top : SlotHolds a₁ l₁ (s .node + 1) (judge (symbolsOf t) H c (suc (s .node)) .ty)
+    only-top = rw add-one (tree-held ok H q c (suc (s .node)) (s .at + own) st (omega (arith, x .room)) (only-child .filled) lent)
+
     pub only-slot : Slot l₁ (s .node) (s .node + 1)
-    only-slot = held-slot a₁ l₁ (s .node) (s .node + 1) _ (omega arith) (only-child .top)
+    only-slot = held-slot a₁ l₁ (s .node) (s .node + 1) _ (omega arith) only-top
 
     pub only-few : r₁ .count + 2 ≤ countLimit
     only-few =
@@ -209,7 +200,7 @@ module _ {t : List ℕ} {index : List ℕ} (ok : IndexedTable t index) (H : Head
         → RuleAsked a₁ l₁ (s .node) (s .node + 1) r₁ (o (slotOf a₁ l₁ (s .node + 1)))
     only-rule o e =
         let short : length (o (judge (symbolsOf t) H c (suc (s .node)) .ty) .ty) ≤ 256 = rw e at type-fits in
-        record { lent = lent .lent; left = only-slot; right = only-slot; short = rw (only-child .top .is) short; few = only-few }
+        record { lent = lent .lent; left = only-slot; right = only-slot; short = rw (only-top .is) short; few = only-few }
 
     pub only-ruled : (o : Ty → Out) → {a′ l′ b′ : List ℕ} {r : State}
         → judge (symbolsOf t) H (x .tree) (s .node) ≡ closed (s .node) (o (judge (symbolsOf t) H c (suc (s .node)) .ty)) (judge (symbolsOf t) H c (suc (s .node)) .typed) (judge (symbolsOf t) H c (suc (s .node)) .diags)
@@ -217,14 +208,14 @@ module _ {t : List ℕ} {index : List ℕ} (ok : IndexedTable t index) (H : Head
         → Finished r₁ (s .node) (o (slotOf a₁ l₁ (s .node + 1)) .ty) (atNode (s .node) (o (slotOf a₁ l₁ (s .node + 1)) .reports)) a₁ a′ l₁ l′ b₁ b′ r
         → NodeIs t H s a a′ l l′ b b′ r (x .tree)
     only-ruled o e eb en f =
-        close _ e (only-child .reached) (rw (only-child .top .is) at f) refl refl (omega arith) (sym en) lent (only-child .under) (omega (arith, only-child .few))
+        close _ e (only-child .reached) (only-child .filled) (rw (only-top .is) at f) refl refl (omega arith) (sym en) (omega (arith, only-child .few))
 
     pub only-named : {a′ l′ : List ℕ} {r : State}
         → judge (symbolsOf t) H (x .tree) (s .node) ≡ done (s .node) (judge (symbolsOf t) H c (suc (s .node)) .ty) (judge (symbolsOf t) H c (suc (s .node)) .typed) (judge (symbolsOf t) H c (suc (s .node)) .diags)
         → bytes (x .tree) ≡ own + bytes c → numberAfter (x .tree) (s .node) ≡ numberAfter c (suc (s .node))
         → ((b : List ℕ) → Finished r₁ (s .node) (slotOf a₁ l₁ (s .node + 1)) [] a₁ a′ l₁ l′ b b r) → NodeIs t H s a a′ l l′ b b₁ r (x .tree)
     only-named e eb en f =
-        close _ e (only-child .reached) (rw (only-child .top .is) at (f b₁)) refl (append-nil (judge (symbolsOf t) H c (suc (s .node)) .diags)) (omega arith) (sym en) lent (only-child .under) (omega (arith, only-child .few))
+        close _ e (only-child .reached) (only-child .filled) (rw (only-top .is) at (f b₁)) refl (append-nil (judge (symbolsOf t) H c (suc (s .node)) .diags)) (omega arith) (sym en) (omega (arith, only-child .few))
 
   -- ---- a unary operator, a named argument, a member: one child
   module _ (op : ℕ) (h : nodeAt q (s .at) ≡ Unary op) {s₁ : State} (i : s₁ ≡ insideOf s 2) where
@@ -341,12 +332,21 @@ module _ {t : List ℕ} {index : List ℕ} (ok : IndexedTable t index) (H : Head
         right-child = later (left-child .reached) (js asked-right)
 
         left-held : let c = is-binary q (s .at) (x .tree) op (x .stands) h .0 in SlotHolds a₂ l₂ (s .node + 1) (judge (symbolsOf t) H c (suc (s .node)) .ty)
+        unfolding size
         left-held =
             let (c, o, e, st, su) = is-binary q (s .at) (x .tree) op (x .stands) h in
-            right-child .under (s .node + 1) _ (omega (arith, after-size c (suc (s .node)), some-size c)) (left-child .top)
+            let sz : size (x .tree) ≡ suc (size c + size o) = ap size e in
+            let top = tree-held ok H q c (suc (s .node)) (s .at + 2) st (omega (arith, x .room)) (left-child .filled) (space-before (right-child .filled) lent) in
+            node-under t H o (numberAfter c (suc (s .node))) (right-child .filled) (s .node + 1) _ (omega (arith, after-size c (suc (s .node)), some-size c)) (rw add-one top)
 
         right-held : let (c, o, e, st, su) = is-binary q (s .at) (x .tree) op (x .stands) h in SlotHolds a₂ l₂ (r₁ .node) (judge (symbolsOf t) H o (numberAfter c (suc (s .node))) .ty)
-        right-held = rw (ap (λ (z : State). z .node) (left-child .reached .result)) (right-child .top)
+        unfolding size
+        right-held =
+            let (c, o, e, st, su) = is-binary q (s .at) (x .tree) op (x .stands) h in
+            let sz : size (x .tree) ≡ suc (size c + size o) = ap size e in
+            let k = after-size c (suc (s .node)) in
+            rw (ap (λ (z : State). z .node) (left-child .reached .result))
+            (tree-held ok H q o (numberAfter c (suc (s .node))) (s .at + 2 + bytes c) su (omega (arith, x .room)) (right-child .filled) lent)
 
         pub binary-ready : RuleAsked a₂ l₂ (s .node) (r₁ .node) r₂ (binaryOut (symbolsOf t) op (slotOf a₂ l₂ (s .node + 1)) (slotOf a₂ l₂ (r₁ .node)))
         unfolding judge size
@@ -378,5 +378,5 @@ module _ {t : List ℕ} {index : List ℕ} (ok : IndexedTable t index) (H : Head
             let by : bytes (x .tree) ≡ 2 + bytes c + bytes o = ap bytes e in
             let num : numberAfter (x .tree) (s .node) ≡ numberAfter o (numberAfter c n) = ap (λ (z : Node). numberAfter z (s .node)) e in
             let len = length-append (judge (symbolsOf t) H c n .diags) (judge (symbolsOf t) H o (numberAfter c n) .diags) in
-            close _ (ap (λ (z : Node). judge (symbolsOf t) H z (s .node)) e) (right-child .reached) (rw (left-held .is, right-held .is) at f) refl refl (omega arith) (sym num) lent
-            (λ m u k v. right-child .under m u (omega (arith, after-size c n)) (left-child .under m u k v)) (omega (arith, left-child .few, right-child .few))
+            close _ (ap (λ (z : Node). judge (symbolsOf t) H z (s .node)) e) (right-child .reached) (filled-join (left-child .filled) (right-child .filled)) (rw (left-held .is, right-held .is) at f) refl refl (omega arith) (sym num)
+            (omega (arith, left-child .few, right-child .few))

@@ -1,6 +1,6 @@
 -- The last class record of an id, from a byte on and from a later one.
 use Prim.Native.Nat.{ℕ, zero, suc, _+_, _-_, _≤_, _<_}
-use borrow.Author.Tests.{eqb-true, eq-eqb, lt-ltb, le-ltb}
+use borrow.Author.Tests.{eqb-true, eq-eqb, lt-ltb, le-ltb, ltb-true, ltb-false}
 use lib.Dec.{eqb, ltb}
 use lib.ListN.{length, getD, set, drop, length-set}
 use lib.Seq.{getD-set-same, getD-set-other}
@@ -8,19 +8,19 @@ use mathlib.Core.Bool.{Bool, true, false, _&&_, _||_, true≢false}
 use mathlib.Core.List.{List, [], _∷_}
 use mathlib.Core.Path.{_≡_, refl, sym, ap, _∙_, subst}
 use native.Mathlib.Omega.{arith, not-le}
-use Rattle.ty.specs.Choose.{choose}
 use Rattle.index.proofs.Chains.{behind-before}
-use Rattle.index.proofs.ListSearch.{sits-cons, sits-next, sits-later, sits-length}
+use Rattle.index.proofs.ListSearch.{sits-cons, sits-own, sits-next, sits-later, sits-inside, sits-length}
+use Rattle.index.specs.Inside.Ahead.{orElse, lastClass, Ahead, marked, allMarked, markedFrom, Looked}
 use Rattle.record.proofs.Records.{at-next, records-end}
-use Rattle.index.specs.Inside.Ahead.{orElse, lastClass, Ahead, marked, Looked}
 use Rattle.record.specs.Inside.Front.{headOf}
-use Rattle.record.specs.Inside.HeadFault.{isClass, hasClass}
 use Rattle.record.specs.Inside.FrontRecord.{frontRecord}
-use Rattle.record.specs.Table.{Record, recordsOf}
+use Rattle.record.specs.Inside.HeadFault.{isClass, hasClass}
 use Rattle.record.specs.Inside.Walk.{CursorAt, Sits, StepIs, recordAt, behind}
+use Rattle.record.specs.Table.{Record, recordsOf}
 use Rattle.record.specs.declared.front.Head.{Head}
 use Rattle.record.specs.declared.walk.Cursor.{Cursor}
 use Rattle.record.specs.declared.walk.Step.{Step}
+use Rattle.ty.specs.Choose.{choose}
 
 -- ---- one record or another
 or-nested : (u v w : ℕ) → orElse (orElse u v) w ≡ orElse u (orElse v w)
@@ -109,13 +109,13 @@ ahead-class t late e p id a w l i =
     ∙ last-later t id p w (p - e) e (omega arith) (a .sits) l
     ∙ last-from id p (recordsOf (drop p t)))
 
--- ---- the loop: the entries hold the last class records from e on before the cursor
-pub record Looking (t late : List ℕ) (e : ℕ) (c : Cursor) : Type 0 where
+-- ---- the entries hold the last class records from e on before the cursor
+record Looking (t late : List ℕ) (e : ℕ) (c : Cursor) : Type 0 where
   pub sits : Sits t e
   pub at : CursorAt t c
   pub last : (id : ℕ) → id < length late → lastFrom t id e ≡ orElse (lastFrom t id (c .at)) (getD late id 0)
 
-pub looking-start : (t late : List ℕ) (c : Cursor) → CursorAt t c → ((i : ℕ) → getD late i 0 ≡ 0) → Looking t late (c .at) c
+looking-start : (t late : List ℕ) (c : Cursor) → CursorAt t c → ((i : ℕ) → getD late i 0 ≡ 0) → Looking t late (c .at) c
 looking-start t late c a blank =
     record {
       sits = record { index = c .index; at = a };
@@ -148,8 +148,12 @@ marked-entry h p late id i = go (eqb (h .kind) 2) (eqb (h .one) id) refl
     go true false e =
         getD-set-other late (h .one) id (suc p) 0 (λ z. true≢false (sym (eq-eqb (h .one) id (sym z)) ∙ e))
 
+-- where a step leads
+next-is : (t : List ℕ) (c : Cursor) (s : Step) → StepIs t c s → behind t (c .at) ≡ s .next .at
+next-is t c s st = sym (st .next ∙ ap (λ (h : Head). c .at + h .len) (st .head))
+
 module _ (t late : List ℕ) (e : ℕ) (c : Cursor) (g : Looking t late e c) where
-  pub looking-done : length t ≤ c .at → Ahead t late e
+  looking-done : length t ≤ c .at → Ahead t late e
   unfolding lastClass orElse
   looking-done end =
       record {
@@ -157,12 +161,12 @@ module _ (t late : List ℕ) (e : ℕ) (c : Cursor) (g : Looking t late e c) whe
         last = λ id i. sym (g .last id i ∙ ap (λ (rs : List Record). orElse (lastClass id (c .at) rs) (getD late id 0)) (records-end t (c .at) end));
       }
 
-  pub looking-next : (s : Step) → StepIs t c s → c .at < length t → (late′ : List ℕ) → late′ ≡ marked (s .head .kind) (s .head .one) (c .at) late
+  looking-next : (s : Step) → StepIs t c s → c .at < length t → (late′ : List ℕ) → late′ ≡ marked (s .head .kind) (s .head .one) (c .at) late
       → Looking t late′ e (s .next)
   looking-next s st some late′ is = subst (λ (z : List ℕ). Looking t z e (s .next)) (sym is) next
     where
       next-at : behind t (c .at) ≡ s .next .at
-      next-at = sym (st .next ∙ ap (λ (h : Head). c .at + h .len) (st .head))
+      next-at = next-is t c s st
 
       here : (id : ℕ) → lastFrom t id (c .at) ≡ orElse (lastFrom t id (s .next .at)) (choose (isClass id (s .head)) (suc (c .at)) 0)
       here id =
@@ -182,6 +186,73 @@ module _ (t late : List ℕ) (e : ℕ) (c : Cursor) (g : Looking t late e c) whe
                 ∙ or-nested (lastFrom t id (s .next .at)) (choose (isClass id (s .head)) (suc (c .at)) 0) (getD late id 0)
                 ∙ ap (orElse (lastFrom t id (s .next .at))) (sym (marked-entry (s .head) (c .at) late id j));
           }
+
+-- ---- the records from a cursor on come into the entries
+module _ (t late : List ℕ) (c : Cursor) (a : CursorAt t c) where
+  pub marked-end : length t ≤ c .at → late ≡ markedFrom t (c .at) late
+  unfolding allMarked
+  marked-end end = ap (λ (rs : List Record). allMarked (c .at) rs late) (sym (records-end t (c .at) end))
+
+  pub marked-next : (s : Step) → StepIs t c s → c .at < length t → (late′ : List ℕ) → late′ ≡ marked (s .head .kind) (s .head .one) (c .at) late
+      → markedFrom t (s .next .at) late′ ≡ markedFrom t (c .at) late
+  unfolding allMarked
+  marked-next s st some late′ is =
+      ap (markedFrom t (s .next .at)) (is ∙ ap (λ (h : Head). marked (h .kind) (h .one) (c .at) late) (st .own))
+      ∙ ap (λ (k : ℕ). allMarked k (recordsOf (drop (s .next .at) t)) here) next-at
+      ∙ ap (λ (k : ℕ). allMarked (c .at + length (recordAt t c)) (recordsOf (drop k t)) here) (sym (next-is t c s st))
+      ∙ ap (λ (rs : List Record). allMarked (c .at) rs late) (sym (sits-cons t (c .at) w some))
+    where
+      w : Sits t (c .at)
+      w = record { index = c .index; at = a }
+
+      here : List ℕ
+      here = marked (headOf (recordAt t c) .kind) (headOf (recordAt t c) .one) (c .at) late
+
+      next-at : s .next .at ≡ c .at + length (recordAt t c)
+      next-at = sym (sits-length t (c .at) w some ∙ next-is t c s st)
+
+-- and so they have the last class records
+abbrev stepHere : List ℕ → Cursor → Step
+stepHere t c = record { head = headOf (drop (c .at) t); next = record { at = behind t (c .at); index = c .index + 1 } }
+
+step-here : (t : List ℕ) (c : Cursor) → CursorAt t c → c .at < length t → StepIs t c (stepHere t c)
+step-here t c a some =
+    let w : Sits t (c .at) = record { index = c .index; at = a } in
+    record {
+      head = refl;
+      own = sym (sits-own t (c .at) w some);
+      next = refl;
+      index = refl;
+      low = sits-later t (c .at) w some;
+      high = sits-inside t (c .at) w some;
+    }
+
+module _ (t : List ℕ) (e : ℕ) where
+  made-end : (late : List ℕ) (c : Cursor) → Looking t late e c → length t ≤ c .at → Ahead t (markedFrom t (c .at) late) e
+  made-end late c g end = subst (λ (z : List ℕ). Ahead t z e) (marked-end t late c (g .at) end) (looking-done t late e c g end)
+
+  abbrev markedHere : List ℕ → Cursor → List ℕ
+  markedHere late c = marked (headOf (drop (c .at) t) .kind) (headOf (drop (c .at) t) .one) (c .at) late
+
+  made : (m : ℕ) (late : List ℕ) (c : Cursor) → length t - c .at ≤ m → Looking t late e c → Ahead t (markedFrom t (c .at) late) e
+  made zero late c h g = made-end late c g (omega arith)
+  made (suc m) late c h g =
+      go (ltb (c .at) (length t)) refl
+      (λ some.
+      let st = step-here t c (g .at) some in
+      made m (markedHere late c) (stepHere t c .next) (omega (arith, st .low)) (looking-next t late e c g (stepHere t c) st some _ refl))
+    where
+      go : (u : Bool) → ltb (c .at) (length t) ≡ u → (c .at < length t → Ahead t (markedFrom t (behind t (c .at)) (markedHere late c)) e)
+          → Ahead t (markedFrom t (c .at) late) e
+      go false q ih = made-end late c g (ltb-false (c .at) (length t) q)
+      go true q ih =
+          let some = ltb-true (c .at) (length t) q in
+          subst (λ (z : List ℕ). Ahead t z e) (marked-next t late c (g .at) (stepHere t c) (step-here t c (g .at) some) some _ refl) (ih some)
+
+pub ahead-made : (t late : List ℕ) (c : Cursor) → CursorAt t c → ((i : ℕ) → getD late i 0 ≡ 0) → (made : List ℕ) → made ≡ markedFrom t (c .at) late
+    → Ahead t made (c .at)
+ahead-made t late c a blank z e =
+    subst (λ (y : List ℕ). Ahead t y (c .at)) (sym e) (made t (c .at) (length t) late c (omega arith) (looking-start t late c a blank))
 
 -- entries that were made at a byte or before it serve later records
 pub looked-on : (t late : List ℕ) (p q : ℕ) → p ≤ q → (looked : Bool) → Looked t late p looked → Looked t late q looked

@@ -1,9 +1,12 @@
 pub mod Buckets
 pub mod ListSearch
+pub mod Firsts
+pub mod ListWalks
 pub mod Chains
 pub mod SearchTrees
 pub mod Paths
 pub mod Searches
+pub mod TreeWalks
 pub mod Earlier
 pub mod Single
 pub mod Aheads

@@ -8,36 +8,45 @@ use mathlib.Core.Bool.{Bool, true, false, _&&_, _||_, false≢true}
 use mathlib.Core.List.{List, [], _∷_}
 use mathlib.Core.Path.{_≡_, refl, sym, ap, _∙_, subst}
 use native.Mathlib.Omega.{arith, not-le}
-use Rattle.ty.proofs.Choice.{and-left, and-right, choose-yes}
-use Rattle.ty.specs.Bytes.{idAt}
-use Rattle.ty.specs.Choose.{choose}
+use Rattle.index.proofs.Buckets.{list-below, list-kind-of}
+use Rattle.index.specs.Inside.Bucket.{keyBucket, bucketOf}
+use Rattle.index.specs.Inside.Found.{firstIn, firstFrom, HereIs, FunctionAt}
+use Rattle.index.specs.Inside.Index.{listCount, listIn, firstAt, nextIn, nextFrom, nextAt}
+use Rattle.index.specs.Inside.IndexedTable.{IndexedTable}
+use Rattle.index.specs.Inside.Searched.{Searched, withAt}
+use Rattle.index.specs.declared.index.Place.{Place}
 use Rattle.record.proofs.Accepts.{CleanFrom, clean-at, with-no}
 use Rattle.record.proofs.Agree.{same-size, same-error}
 use Rattle.record.proofs.Bounds.{head-bounded}
-use Rattle.index.proofs.Buckets.{list-below, list-kind-of}
-use Rattle.record.proofs.NoFault.{Clean}
 use Rattle.record.proofs.Laid.{same-kind, kind-byte, function-key}
-use Rattle.record.proofs.Records.{at-start, at-next, records-here, records-end, record-byte, record-part}
+use Rattle.record.proofs.NoFault.{Clean}
 use Rattle.record.proofs.Own.{head-own}
 use Rattle.record.proofs.RecordSizes.{Fits, head-fits, head-kind, head-ids}
-use Rattle.index.specs.Inside.IndexedTable.{IndexedTable}
-use Rattle.index.specs.Inside.Found.{HereIs, FunctionAt}
-use Rattle.index.specs.Inside.Bucket.{keyBucket, bucketOf}
+use Rattle.record.proofs.Records.{at-start, at-next, records-here, records-end, record-byte, record-part}
 use Rattle.record.specs.Inside.Front.{headOf}
-use Rattle.record.specs.Inside.Keyed.{isOf, recordsWith}
 use Rattle.record.specs.Inside.FrontRecord.{frontRecord}
-use Rattle.record.specs.TableRefused.{tableFault}
-use Rattle.record.specs.Table.{Record, firstRecord, recordsOf, keyOf}
-use Rattle.index.specs.Inside.Index.{listCount, listIn, firstAt, nextIn, nextFrom, nextAt}
-use Rattle.index.specs.Inside.Searched.{Searched, withAt}
+use Rattle.record.specs.Inside.Keyed.{isOf, recordsWith}
 use Rattle.record.specs.Inside.Walk.{CursorAt, Sits, behind, before}
+use Rattle.record.specs.Table.{Record, firstRecord, recordsOf, keyOf}
+use Rattle.record.specs.TableRefused.{tableFault}
 use Rattle.record.specs.declared.front.Head.{Head}
-use Rattle.index.specs.declared.index.Place.{Place}
 use Rattle.record.specs.declared.walk.Cursor.{Cursor}
+use Rattle.ty.proofs.Choice.{and-left, and-right, choose-yes, choose-no}
+use Rattle.ty.specs.Bytes.{idAt}
+use Rattle.ty.specs.Choose.{choose}
 
 with-yes : (k a b : ℕ) (r : Record) (rs : List Record) → isOf k a b (headOf r) ≡ true → recordsWith k a b (r ∷ rs) ≡ r ∷ recordsWith k a b rs
 unfolding recordsWith choose
 with-yes k a b r rs h = rw h
+
+-- ---- the first record with a key
+pub first-yes : (k a b p : ℕ) (r : Record) (rs : List Record) → isOf k a b (headOf r) ≡ true → firstIn k a b p (r ∷ rs) ≡ suc p
+unfolding firstIn
+first-yes k a b p r rs h = choose-yes _ _ _ h
+
+pub first-no : (k a b p : ℕ) (r : Record) (rs : List Record) → isOf k a b (headOf r) ≡ false → firstIn k a b p (r ∷ rs) ≡ firstIn k a b (p + length r) rs
+unfolding firstIn
+first-no k a b p r rs h = choose-no _ _ _ h
 
 -- ---- records with one key have one bucket
 pub key-bucket : (k a b : ℕ) (r : Record) → 2 ≤ k → isOf k a b (headOf r) ≡ true → bucketOf r ≡ keyBucket k a b
@@ -150,6 +159,16 @@ module _ (t : List ℕ) (n b a c : ℕ) (is : keyBucket 4 a c % listCount n ≡ 
       go true h q ih = absurd (omega (arith, rw h at q))
       go false h q ih = with-no 4 a c r rs (other r h) ∙ ih (rw h at q)
 
+  pub none-first : (p : ℕ) (rs : List Record) → nextIn n b p rs ≡ 0 → firstIn 4 a c p rs ≡ 0
+  unfolding nextIn choose
+  none-first p [] e = unfold firstIn in refl
+  none-first p (r ∷ rs) e = go (eqb (listIn n r) b) refl e (none-first (p + length r) rs)
+    where
+      go : (v : Bool) → eqb (listIn n r) b ≡ v → choose (eqb (listIn n r) b) (suc p) (nextIn n b (p + length r) rs) ≡ 0
+          → (nextIn n b (p + length r) rs ≡ 0 → firstIn 4 a c (p + length r) rs ≡ 0) → firstIn 4 a c p (r ∷ rs) ≡ 0
+      go true h q ih = absurd (omega (arith, rw h at q))
+      go false h q ih = first-no 4 a c p r rs (other r h) ∙ ih (rw h at q)
+
 -- it begins at byte q, and the records before it have other buckets
 pub record Reached (t : List ℕ) (b p q : ℕ) : Type 0 where
   pub sits : Sits t q
@@ -158,6 +177,8 @@ pub record Reached (t : List ℕ) (b p q : ℕ) : Type 0 where
   pub later : p ≤ q
   pub same : (a c : ℕ) → keyBucket 4 a c % listCount (length t) ≡ b
       → recordsWith 4 a c (recordsOf (drop p t)) ≡ recordsWith 4 a c (recordsOf (drop q t))
+  pub first : (a c : ℕ) → keyBucket 4 a c % listCount (length t) ≡ b
+      → firstIn 4 a c p (recordsOf (drop p t)) ≡ firstIn 4 a c q (recordsOf (drop q t))
 
 module _ (t : List ℕ) (b q p : ℕ) (w : Sits t p) (e : nextFrom t b p ≡ suc q) where
   reach-end : length t ≤ p → Reached t b p q
@@ -172,7 +193,7 @@ module _ (t : List ℕ) (b q p : ℕ) (w : Sits t p) (e : nextFrom t b p ≡ suc
         let f : suc p ≡ suc q = sym d ∙ e in
         let g : p ≡ q = omega arith in
         subst (λ (z : ℕ). Reached t b p z) g
-        (record { sits = w; some = some; own = eqb-true _ _ u; later = omega arith; same = λ a c i. refl })
+        (record { sits = w; some = some; own = eqb-true _ _ u; later = omega arith; same = λ a c i. refl; first = λ a c i. refl })
 
     module _ (u : eqb (listIn (length t) (frontRecord (drop p t))) b ≡ false) where
       reach-next : nextFrom t b (behind t p) ≡ suc q
@@ -191,6 +212,11 @@ module _ (t : List ℕ) (b q p : ℕ) (w : Sits t p) (e : nextFrom t b p ≡ suc
             later = omega (arith, r .later, sits-later t p w some);
             same = λ a c i.
                 ap (recordsWith 4 a c) (sits-cons t p w some) ∙ with-no 4 a c _ _ (other t (length t) b a c i (frontRecord (drop p t)) u) ∙ r .same a c i;
+            first = λ a c i.
+                ap (firstIn 4 a c p) (sits-cons t p w some)
+                ∙ first-no 4 a c p (frontRecord (drop p t)) _ (other t (length t) b a c i (frontRecord (drop p t)) u)
+                ∙ ap (λ (z : ℕ). firstIn 4 a c z (recordsOf (drop (behind t p) t))) (sits-length t p w some)
+                ∙ r .first a c i;
           }
 
 pub reach : (t : List ℕ) (b q m p : ℕ) → length t - p ≤ m → Sits t p → nextFrom t b p ≡ suc q → Reached t b p q
@@ -254,12 +280,15 @@ module _ (t x : List ℕ) (ok : IndexedTable t x) (a b v : ℕ) (s : Searched t 
     tested : test ≡ isOf 4 a b (headOf (frontRecord (drop p t)))
     tested = raw-test t p (searched-at .sits) (searched-at .some) (sits-whole t p (searched-at .sits) (searched-at .some) (ok .clean)) 4 a b (omega arith)
 
-    cons : withAt t v a b ≡ recordsWith 4 a b (frontRecord (drop p t) ∷ recordsOf (drop (behind t p) t))
-    cons = ap (λ (z : ℕ). withAt t z a b) e ∙ ap (recordsWith 4 a b) (sits-cons t p (searched-at .sits) (searched-at .some))
+    cons : firstFrom t 4 a b v ≡ firstIn 4 a b p (frontRecord (drop p t) ∷ recordsOf (drop (behind t p) t))
+    cons = ap (firstFrom t 4 a b) e ∙ ap (firstIn 4 a b p) (sits-cons t p (searched-at .sits) (searched-at .some))
 
-    pub searched-here : test ≡ true → HereIs t (withAt t v a b) 4 a b (record { at = p })
-    searched-here h =
-        here-is t p (searched-at .sits) (searched-at .some) (ok .clean) 4 a b (sym tested ∙ h) (withAt t v a b) (ap (λ (z : ℕ). withAt t z a b) e)
+    pub searched-first : test ≡ true → firstFrom t 4 a b v ≡ v
+    searched-first h =
+        ap (firstFrom t 4 a b) e
+        ∙ ap (firstIn 4 a b p) (sits-cons t p (searched-at .sits) (searched-at .some))
+        ∙ first-yes 4 a b p _ _ (sym tested ∙ h)
+        ∙ sym e
 
     pub searched-kind : headOf (drop p t) .kind ≡ 4
     searched-kind = list-kind t p (searched-at .sits) (searched-at .some) bucket (list-below (keyBucket 4 a b) (length t)) (searched-at .own)
@@ -286,12 +315,20 @@ searched-all t a b zero s = sym (none-left t (length t) _ a b refl (s .from) _ (
 searched-all t a b (suc p) s =
     sym (reach t (keyBucket 4 a b % listCount (length t)) p (length t - s .from) (s .from) (omega arith) (s .sits) (sym (s .is)) .same a b refl)
 
+-- and so is the first of them
+pub searched-from : (t : List ℕ) (a b v : ℕ) (s : Searched t v a b) → firstFrom t 4 a b v ≡ firstIn 4 a b (s .from) (recordsOf (drop (s .from) t))
+searched-from t a b zero s = sym (none-first t (length t) _ a b refl (s .from) _ (sym (s .is)))
+searched-from t a b (suc p) s =
+    sym (reach t (keyBucket 4 a b % listCount (length t)) p (length t - s .from) (s .from) (omega arith) (s .sits) (sym (s .is)) .first a b refl)
+
 module _ (t x : List ℕ) (ok : IndexedTable t x) (a b v p v′ : ℕ) (s : Searched t v a b) (e : v ≡ suc p) (next : v′ ≡ getD x (nextAt (length t) p) 0) where
-  pub searched-same : (eqb (getD t p 0) 4 && (eqb (idAt t (p + 1)) a && eqb (idAt t (p + 3)) b)) ≡ false → withAt t v′ a b ≡ withAt t v a b
+  pub searched-same : (eqb (getD t p 0) 4 && (eqb (idAt t (p + 1)) a && eqb (idAt t (p + 3)) b)) ≡ false → firstFrom t 4 a b v′ ≡ firstFrom t 4 a b v
   unfolding searched-on
   searched-same h =
-      searched-all t a b v′ (searched-on t x ok a b v s p e v′ next)
-      ∙ sym (cons t x ok a b v s p e ∙ with-no 4 a b _ _ (sym (tested t x ok a b v s p e) ∙ h))
+      let at = searched-at t x ok a b v s p e in
+      searched-from t a b v′ (searched-on t x ok a b v s p e v′ next)
+      ∙ ap (λ (z : ℕ). firstIn 4 a b z (recordsOf (drop (behind t p) t))) (sym (sits-length t p (at .sits) (at .some)))
+      ∙ sym (cons t x ok a b v s p e ∙ first-no 4 a b p (frontRecord (drop p t)) _ (sym (tested t x ok a b v s p e) ∙ h))
 
 -- ---- a function at a place: its head and its key
 module _ (t : List ℕ) (p : Place) (f : FunctionAt t p) where

@@ -7,4 +7,6 @@ pub mod SearchKey
 pub mod Spot
 pub mod Entered
 pub mod Searched
+pub mod ListWalk
+pub mod TreeWalk
 pub mod Ahead

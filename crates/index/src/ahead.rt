@@ -4,10 +4,10 @@ use crate::index::number;
 use crate::index::put;
 use record::walk::Cursor;
 ghost use mathlib.Core.Path.{_≡_};
-ghost use Prim.Native.Nat.{ℕ, _≤_, _<_};
+ghost use Prim.Native.Nat.{_≤_, _<_};
 ghost use lib.Dec.{ltb};
 ghost use lib.ListN.{length, getD};
-ghost use Rattle.index.specs.Inside.Ahead.{Ahead, marked};
+ghost use Rattle.index.specs.Inside.Ahead.{marked, markedFrom};
 ghost use Rattle.record.specs.Inside.Walk.{CursorAt};
 
 // The record at p, of a kind and a first id, comes into the entries if it is a class whose id has one.
@@ -25,10 +25,10 @@ fn mark(late: &mut [u16], kind: u8, one: u16, p: usize)
     put(late, i, (p + 1) as u16);
 }
 
-// Finds the last class record of each id from me on. The entries are those of the ids below their number.
+// The records from me on come into the entries, so that each id has its last class record. The entries are those of the ids below their number.
 pub fn look_ahead(t: &[u8], me: Cursor, late: &mut [u16])
-    requires { ⌜ CursorAt (now t) me × (length (now t) ≤ 60000) × ((i : ℕ) → getD (now late) i 0 ≡ 0) ⌝ }
-    ensures { λ _. ⌜ Ahead (now (t .entry)) (now (late .exit)) (me .at) ⌝ }
+    requires { ⌜ CursorAt (now t) me × (length (now t) ≤ 60000) ⌝ }
+    ensures { λ _. ⌜ now (late .exit) ≡ markedFrom (now (t .entry)) (me .at) (now (late .entry)) ⌝ }
 {
     let mut c = me;
     while c.at < t.len() {

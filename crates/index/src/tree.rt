@@ -17,15 +17,13 @@ ghost use lib.Dec.{ltb, eqb};
 ghost use lib.ListN.{length, drop, take};
 ghost use Rattle.ty.specs.Choose.{choose};
 ghost use Rattle.index.specs.Inside.IndexedTable.{IndexedTable};
-ghost use Rattle.index.specs.Inside.Found.{FoundIs};
+ghost use Rattle.index.specs.Inside.Found.{firstWith, foundAt};
 ghost use Rattle.index.specs.Inside.Bucket.{hashOf, wordAt, roundOf, digestOf};
 ghost use Rattle.record.specs.Inside.Walk.{WholeRecordAt};
 ghost use Rattle.index.specs.Inside.SearchKey.{treeFor, digitsFor, digitFor, keyMatches, KeyIn, Single};
-ghost use Rattle.record.specs.Inside.Keyed.{recordsWith};
 ghost use Rattle.record.specs.Inside.FrontRecord.{frontRecord};
-ghost use Rattle.record.specs.Table.{recordsOf};
-ghost use Rattle.index.specs.Inside.Spot.{Open, SpotIs};
-ghost use Rattle.index.specs.Inside.SearchTree.{Tree};
+ghost use Rattle.index.specs.Inside.Spot.{Open};
+ghost use Rattle.index.specs.Inside.TreeWalk.{treeStart, spotAt, TreeStepAsked, treeStep, searchOf};
 
 // What a search looks for: the name of the record at a place, or a kind from 2 on with its ids.
 pub enum Key {
@@ -195,32 +193,75 @@ fn has(t: &[u8], p: usize, key: Key) -> bool
     }
 }
 
+// A place in the tree of a key: an entry of the index, the record here by its first byte, counted from 1 (0 where the entry is empty), how many records are
+// above it, and the number that the last digit was taken from.
+pub struct TreeCursor {
+    pub entry: usize,
+    pub here: usize,
+    pub depth: usize,
+    pub digits: usize,
+}
+
+impl TreeCursor {
+    // At the root of tree b.
+    pub fn new(x: &[u16], b: usize) -> TreeCursor
+        requires { ⌜ b < 16384 ⌝ }
+        ensures { λ r. ⌜ r ≡ treeStart (now (x .entry)) b ⌝ }
+    {
+        let entry = 1 + b;
+        TreeCursor {
+            entry,
+            here: entry_at(x, entry),
+            depth: 0,
+            digits: 0,
+        }
+    }
+
+    // The record here, or the empty entry.
+    pub fn spot(self) -> Spot
+        ensures { λ r. ⌜ r ≡ spotAt self ⌝ }
+    {
+        if self.here == 0 {
+            return Spot::Free(self.entry);
+        }
+        Spot::Taken(Place { at: self.here - 1 })
+    }
+
+    // One record down, as the key's next digit says.
+    pub fn step(self, t: &[u8], x: &[u16], key: Key) -> TreeCursor
+        requires { ⌜ TreeStepAsked (now t) key self ⌝ }
+        ensures { λ r. ⌜ r ≡ treeStep (now (t .entry)) (now (x .entry)) key self ⌝ }
+    {
+        let h = digits(t, key, self.digits, self.depth);
+        let entry = child_at(t.len(), self.here - 1, digit(t, key, h, self.depth));
+        TreeCursor {
+            entry,
+            here: entry_at(x, entry),
+            depth: self.depth + 1,
+            digits: h,
+        }
+    }
+}
+
 // Searches for a key in its tree b.
 pub fn search(t: &[u8], x: &[u16], key: Key, b: usize) -> Spot
     requires { ⌜ Open (now t) (now x) × KeyIn (now t) key × (b ≡ treeFor (now t) key) ⌝ }
-    ensures { λ r. ⌜ ((e : ℕ) → Tree (now (t .entry)) (now (x .entry)) e → SpotIs (now (t .entry)) (now (x .entry)) e key r) ⌝ }
+    ensures { λ r. ⌜ r ≡ searchOf (now (t .entry)) (now (x .entry)) key ⌝ }
 {
-    let mut at = 1 + b;
-    let mut d: usize = 0;
-    let mut v = entry_at(x, at);
-    let mut h: usize = 0;
-    while v != 0 {
-        let p = v - 1;
-        if has(t, p, key) {
-            return Spot::Taken(Place { at: p });
+    let mut c = TreeCursor::new(x, b);
+    while c.here != 0 {
+        if has(t, c.here - 1, key) {
+            return c.spot();
         }
-        h = digits(t, key, h, d);
-        at = child_at(t.len(), p, digit(t, key, h, d));
-        v = entry_at(x, at);
-        d += 1;
+        c = c.step(t, x, key);
     }
-    Spot::Free(at)
+    c.spot()
 }
 
 // The only record of a kind, from 2 on and not 4, with a key.
 pub fn seek(t: &[u8], x: &[u16], kind: u8, one: u16, two: u16) -> Found
     requires { ⌜ IndexedTable (now t) (now x) × Single kind ⌝ }
-    ensures { λ r. ⌜ FoundIs (now (t .entry)) (recordsWith kind one two (recordsOf (now (t .entry)))) kind one two r ⌝ }
+    ensures { λ r. ⌜ r ≡ foundAt (firstWith (now (t .entry)) kind one two) ⌝ }
 {
     let key = Key::Ids { kind, one, two };
     let spot = search(t, x, key, tree_of(t, key));

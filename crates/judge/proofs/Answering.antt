@@ -14,7 +14,10 @@ use Rattle.area.specs.Diagnostic.{Diag, recordLength, records, putAll}
 use Rattle.cycle.proofs.Spaces.{tree-room}
 use Rattle.judge.specs.Answered.{outcomeIs, Answered, AcceptedDemand3}
 use Rattle.judge.specs.Inside.Root.{markIs, rootNumber, rootAnswer, RootIs}
-use Rattle.cycle.specs.Inside.Contract.{NodeAsked, NodeIs}
+use Rattle.cycle.proofs.Holding.{space-behind, tree-held}
+use Rattle.cycle.specs.Inside.Contract.{Space, NodeAsked, NodeIs}
+use Rattle.index.specs.Inside.IndexedTable.{IndexedTable}
+use Rattle.nodes.specs.Inside.AreaFilled.{AreaFilled}
 use Rattle.area.specs.Padding.{paddedTo}
 use Rattle.area.specs.Inside.Slot.{SlotHolds, slotOf}
 use Rattle.judge.specs.declared.Outcome.{Outcome}
@@ -202,24 +205,33 @@ module _ (t q : List ℕ) (lent : ℕ) where
       unfolding root-asked
       root-node = rw (head, clear) at (is root-asked)
 
+      pub root-filled : AreaFilled a₀ a l₀ l (judgementOf t q .typed)
+      root-filled = root-node .filled
+
       pub root-few : s .count ≤ 4294967296
       root-few =
           let w = accepted (namesOf t) q fine in
           let cnt : s .count ≡ 0 + length (judgementOf t q .diags) = ap (λ (z : State). z .count) (root-node .reached .result) in
           omega (arith, root-node .few, w .tree .few)
 
-      pub ret-judged : {b′ : List ℕ} {r : of.Answer} → RootIs s a l b b′ r → Answered t q lent r b′
+      root-held : {index : List ℕ} → IndexedTable t index → Space q a₀ l₀ → SlotHolds a l 0 (judgementOf t q .ty)
+      root-held ok room =
+          let k = accepted (namesOf t) q fine .tree in
+          tree-held ok (headerOf q) q (treeOf q) 0 5 (k .stands) (omega (arith, tree-room q (treeOf q) 5 (k .stands) (k .ends) (k .few))) root-filled (space-behind root-filled room)
+
+      pub ret-judged : {index : List ℕ} → IndexedTable t index → Space q a₀ l₀ → {b′ : List ℕ} {r : of.Answer} → RootIs s a l b b′ r → Answered t q lent r b′
       unfolding bufferOf
-      ret-judged {b′} {r} w =
+      ret-judged ok room {b′} {r} w =
+          let top : SlotHolds a l 0 (judgementOf t q .ty) = root-held ok room in
           let j : Judged = judgementOf t q in
           let zero : 0 + length (j .diags) ≡ length (j .diags) = omega arith in
           let cnt : s .count ≡ length (j .diags) = ap (λ (z : State). z .count) (root-node .reached .result) ∙ zero in
-          let ok : s .fine ≡ noError (j .typed) = ap (λ (z : State). z .fine) (root-node .reached .result) in
-          let root = root-is lent s j a l b (root-node .top) cnt ok (root-node .reached .buffer) in
+          let mark : s .fine ≡ noError (j .typed) = ap (λ (z : State). z .fine) (root-node .reached .result) in
+          let root = root-is lent s j a l b top cnt mark (root-node .reached .buffer) in
           let ans : answerOf t q lent ≡ answered lent j = answer-judged t q lent (no-fault t q lent clean fine) in
           record {
             answer = w .answer ∙ root ∙ sym ans;
-            buffer = w .buffer ∙ buffer-is lent s j a l b (root-node .top) cnt ok (root-node .reached .buffer)
+            buffer = w .buffer ∙ buffer-is lent s j a l b top cnt mark (root-node .reached .buffer)
                 ∙ ap (λ (z : of.Answer). choose (eqb (z .number) 0) (paddedTo lent (records (j .diags))) (zeros lent)) (sym ans);
           }
 

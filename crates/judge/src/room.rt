@@ -18,7 +18,7 @@ ghost use Rattle.index.specs.Inside.Index.{shortTable, middleTable};
 ghost use Rattle.index.specs.Inside.IndexedTable.{IndexedTable, IndexRoom};
 ghost use Rattle.record.specs.Table.{recordsOf, nameCount};
 ghost use Rattle.judge.specs.Answered.{AnsweredInto};
-ghost use Rattle.judge.specs.Inside.Room.{Clear, Ready};
+ghost use Rattle.judge.specs.Inside.Room.{Clear, Ready, JudgedIn, IndexedIn};
 
 // A question of so many bytes has at most 8 nodes.
 const SHORT_QUESTION: usize = 21;
@@ -89,6 +89,7 @@ fn judge_with(
 ) -> Outcome
     requires { ⌜ Clear (now diagnostics) (now ty) × IndexRoom (now table) (now index) ⌝ }
     ensures { λ r. ⌜ AnsweredInto table question diagnostics ty r ⌝ }
+    ensures { λ _. ⌜ IndexedIn table index ⌝ }
 {
     let checked = check_table(table, index);
     if checked.number != 0 {
@@ -220,6 +221,7 @@ fn judge_in(
 ) -> Outcome
     requires { ⌜ Ready (now table) (now index) (now question) (now diagnostics) (now ty) × Space (now question) (now area) (now lens) ⌝ }
     ensures { λ r. ⌜ AnsweredInto table question diagnostics ty r ⌝ }
+    ensures { λ _. ⌜ JudgedIn table question area lens ⌝ }
 {
     let header = read_header(question);
     let start = State {

@@ -1,10 +1,8 @@
 -- Laws of the work at one node, on plain values.
 use Prim.Native.Nat.{ℕ, zero, suc, _+_, _≤_, _<_}
-use lib.Dec.{eqb}
 use lib.ListN.{length, take, drop, length-append, length-take}
-use mathlib.Core.Bool.{Bool, true, false, not, _&&_}
+use mathlib.Core.Bool.{Bool, true, not, _&&_}
 use mathlib.Core.List.{List, [], _∷_, _++_}
-use mathlib.Core.Option.{none, some}
 use mathlib.Core.Path.{_≡_, refl, sym, ap, _∙_}
 use native.Mathlib.Nat.{add-zero}
 use native.Mathlib.Omega.{arith}
@@ -17,38 +15,28 @@ use Rattle.area.specs.Source.{typeFrom}
 use Rattle.area.specs.Inside.Storable.{Reads, Storable}
 use Rattle.area.specs.declared.Source.the-variants.{Kind, First}
 use Rattle.nodes.proofs.Reaching.{and-true, state-path}
-use Rattle.nodes.specs.Inside.Call.{ownerIs, ListIs, NoList, BegunIs, CallAsked}
+use Rattle.nodes.specs.Inside.Call.{CallAsked}
 use Rattle.nodes.specs.Inside.Progress.{insideOf, passedOver, finishedAs, Finished}
 use Rattle.nodes.specs.Inside.Rule.{LeafAsked, RuleAsked}
-use Rattle.nodes.specs.declared.calls.Begun.{Begun}
-use Rattle.nodes.specs.declared.calls.Owner.{Owner}
 use Rattle.nodes.specs.declared.calls.RowJudged.{RowJudged}
 use Rattle.nodes.specs.declared.progress.State.{State}
 use Rattle.scoring.specs.Arg.{Verdict}
-use Rattle.overload.specs.Before.{suspendAllowed, suspendReport, callReports, methodReports}
 use Rattle.overload.specs.Inside.Reported.{Reported}
-use Rattle.overload.specs.Inside.Tally.{mostDiagnostics, CalledIs}
+use Rattle.overload.proofs.CallAnswers.{CalledIs}
+use Rattle.overload.specs.Inside.Tally.{mostDiagnostics}
 use Rattle.overload.specs.declared.calls.Called.{Called}
 use Rattle.question.specs.Inside.Skip.{skipAt}
-use Rattle.question.specs.declared.Header.{Header}
 use Rattle.question.specs.declared.node.Skipped.{Skipped}
-use Rattle.rules.specs.Access.{accessReport}
 use Rattle.operators.specs.Diag.{diag, reportedAt as atNode}
-use Rattle.operators.specs.DiagnosticKind.{suspendDiag}
-use Rattle.operators.specs.Out.{Report, Out, errorTy, report, unless}
+use Rattle.operators.specs.Out.{Report, Out, errorTy}
 use Rattle.operators.specs.Inside.Ruled.{reportOf, outOf}
 use Rattle.operators.specs.declared.ruled.Ruled.{Ruled}
 use Rattle.symbol.specs.Inside.LookupAnswer.{FunctionIs, FunctionFound}
-use Rattle.symbol.specs.Symbols.{Overload, Symbols}
+use Rattle.symbol.specs.Symbols.{Overload}
 use Rattle.index.specs.declared.index.Found.the-variants.{Nothing, Here}
 use Rattle.index.specs.declared.index.Found.{Found}
 use Rattle.index.specs.declared.index.Place.{Place}
-use Rattle.ty.proofs.Choice.{by-choice}
-use Rattle.ty.specs.Bytes.{Ty, plainTy, sameBytes, kindOf, nameOf, nonNull}
-use Rattle.ty.specs.Choose.{choose}
-use Rattle.ty.specs.Kind.{namedKind}
-use Rattle.ty.specs.Name.{noId}
-use Rattle.typing.specs.Callee.{baseName, callIn, callOf, methodIn, methodBy, methodOf}
+use Rattle.ty.specs.Bytes.{Ty, plainTy, sameBytes}
 use Rattle.typing.specs.Mark.{noError}
 
 -- ---- what is reported at a node
@@ -191,78 +179,6 @@ pub finished-as : {s r : State} {n : ℕ} {o p : Out} {a a′ l l′ b b′ : Li
 finished-as e x = rw (← e) x
 
 -- ---- calls
--- the owner of a method, by what its object's slot was read as
-pub owner-by : (k n : ℕ) (v u t : Ty) → k ≡ kindOf v → n ≡ nameOf v → v ≡ nonNull u → u ≡ t → choose (eqb k namedKind) (some n) none ≡ baseName t
-unfolding baseName
-owner-by k n v u t e f g h = rw (e, f, g, h)
-
-unless-few : (ok : Bool) (r : Report) → length (unless ok r) ≤ 1
-unfolding unless
-unless-few ok r = by-choice (λ (rs : List Report). length rs ≤ 1) _ (λ _. omega arith) (λ _. omega arith)
-
-access-few : (S : Symbols) (H : Header) (vis owner : ℕ) → length (accessReport S H vis owner) ≤ 1
-unfolding accessReport
-access-few S H vis owner = by-choice (λ (rs : List Report). length rs ≤ 1) _ (λ _. omega arith) (λ _. omega arith)
-
-module _ {s : State} {r : Begun} where
-  no-list : {b : List ℕ} → r ≡ record { listed = false; owner = noId; state = s } → NoList s b b r
-  no-list e = record { listed = ap (λ (z : Begun). z .listed) e; state = ap (λ (z : Begun). z .state) e; buffer = refl }
-
-  list-is : (S : Symbols) (id node owner : ℕ) {b b′ : List ℕ} {count : ℕ} (rs : List Report) (os : List Overload) → S .functionsOf owner id ≡ os → length rs ≤ 2 → Reported b (s .count) b′ count (atNode node rs)
-      → r ≡ record { listed = true; owner = owner; state = record { at = s .at; node = s .node; count = count; fine = s .fine } }
-      → ListIs S id node (record { before = rs; overloads = os }) s b b′ r
-  unfolding noError
-  list-is S id node owner rs os e few x f =
-      record {
-        listed = ap (λ (z : Begun). z .listed) f;
-        list = ap (λ (z : Begun). S .functionsOf (z .owner) id) f ∙ e;
-        reached = record { result = ap (λ (z : Begun). z .state) f ∙ state-path _ _ refl refl (x .count) (sym (and-true (s .fine))); buffer = x .buffer };
-        few = few;
-      }
-
-module _ (S : Symbols) (H : Header) (id node : ℕ) (s : State) (r : Begun) where
-  pub call-none : (b : List ℕ) → S .functionsOf noId id ≡ [] → r ≡ record { listed = false; owner = noId; state = s } → BegunIs S id node (callOf S H id) s b b r
-  unfolding BegunIs callIn
-  call-none b e f = rw e (no-list f)
-
-  pub call-some : {b b′ : List ℕ} {o : Overload} {os : List Overload} {count : ℕ} → S .functionsOf noId id ≡ o ∷ os → Reported b (s .count) b′ count (atNode node (callReports S H id))
-      → r ≡ record { listed = true; owner = noId; state = record { at = s .at; node = s .node; count = count; fine = s .fine } }
-      → BegunIs S id node (callOf S H id) s b b′ r
-  unfolding BegunIs callIn suspendReport
-  call-some {o = o} {os = os} e x f =
-      let few : length (callReports S H id) ≤ 2 = omega (arith, unless-few (suspendAllowed S H noId id) (report suspendDiag 0)) in
-      rw e (list-is S id node noId (callReports S H id) (o ∷ os) e few x f)
-
-  pub method-none : (b : List ℕ) (owner : ℕ) → S .functionsOf owner id ≡ [] → r ≡ record { listed = false; owner = noId; state = s }
-      → BegunIs S id node (methodIn S H owner id (S .functionsOf owner id)) s b b r
-  unfolding BegunIs methodIn
-  method-none b owner e f = rw e (no-list f)
-
-  pub method-some : {b b′ : List ℕ} (owner vis : ℕ) {o : Overload} {os : List Overload} {count : ℕ} → S .functionsOf owner id ≡ o ∷ os → vis ≡ o .visibility
-      → Reported b (s .count) b′ count (atNode node (methodReports S H vis owner id))
-      → r ≡ record { listed = true; owner = owner; state = record { at = s .at; node = s .node; count = count; fine = s .fine } }
-      → BegunIs S id node (methodIn S H owner id (S .functionsOf owner id)) s b b′ r
-  unfolding BegunIs methodIn suspendReport
-  method-some owner vis {o = o} {os = os} e v x f =
-      let one : List Report = accessReport S H (o .visibility) owner in
-      let other : List Report = suspendReport S H owner id in
-      let few : length (methodReports S H (o .visibility) owner id) ≤ 2
-      = omega (arith, length-append one other, access-few S H (o .visibility) owner, unless-few (suspendAllowed S H owner id) (report suspendDiag 0)) in
-      rw e (list-is S id node owner (methodReports S H (o .visibility) owner id) (o ∷ os) e few (rw v at x) f)
-
-  pub owner-none : (b : List ℕ) (t : Ty) (o : Owner) → ownerIs o ≡ baseName t → o .named ≡ false → r ≡ record { listed = false; owner = noId; state = s } → BegunIs S id node (methodOf S H id t) s b b r
-  unfolding BegunIs methodBy choose
-  owner-none b t o e n f =
-      let k : baseName t ≡ none = sym e ∙ rw n in
-      rw k (no-list f)
-
-  pub owner-some : (b b′ : List ℕ) (t : Ty) (o : Owner) → ownerIs o ≡ baseName t → o .named ≡ true
-      → BegunIs S id node (methodIn S H (o .id) id (S .functionsOf (o .id) id)) s b b′ r → BegunIs S id node (methodOf S H id t) s b b′ r
-  unfolding methodBy choose
-  owner-some b b′ t o e n x =
-      let k : baseName t ≡ some (o .id) = sym e ∙ rw n in
-      rw k x
-
 module _ {table a l : List ℕ} {node : ℕ} {row : RowJudged} {v : Verdict} {b b₁ : List ℕ} {called : Called} where
   pub call-store : Lent a l → CallAsked l node row v → CalledIs table b (row .state .count) b₁ v called → Lent a l × Storable table a l node node node (called .source)
   call-store lent x y =

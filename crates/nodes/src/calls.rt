@@ -23,8 +23,8 @@ ghost use Rattle.scoring.specs.Inside.Args.{argsIn};
 ghost use Rattle.area.specs.Inside.Slot.{Lent, slotOf, slotCount};
 ghost use Rattle.index.specs.Inside.IndexedTable.{IndexedTable};
 ghost use Rattle.ty.specs.Bytes.{plainTy};
-ghost use Rattle.typing.specs.Callee.{baseName};
-ghost use Rattle.nodes.specs.Inside.Call.{noListAt, listAt, ownerIs, calleeAt, ownedAt, methodAt, Begins, verdictAt, CallReady, FinishesCall};
+ghost use Rattle.ty.specs.Name.{noId};
+ghost use Rattle.nodes.specs.Inside.Call.{noListAt, listAt, ownerOf, calleeAt, ownedAt, Begins, BeginsMethod, verdictAt, CallReady, FinishesCall};
 ghost use Rattle.nodes.specs.Inside.Progress.{FinishesSilently, passedOver};
 ghost use Rattle.nodes.specs.Inside.Slices.{slotAt};
 
@@ -86,7 +86,7 @@ pub fn begin_call(
     buf: &mut [u8],
 ) -> Begun
     requires { ⌜ IndexedTable (now table) (now index) × (s .count < countLimit) ⌝ }
-    ensures { λ r. ⌜ Begins table id node (calleeAt (table .entry) header id) s buf r ⌝ }
+    ensures { λ r. ⌜ Begins noId node (calleeAt (table .entry) header id) s buf r ⌝ }
 {
     let found = first_function(table, index, NameId::NONE, id);
     match found {
@@ -100,7 +100,7 @@ pub fn begin_call(
 
 // The owner of a method of the object in a slot.
 fn owner_of(area: &[u8], lens: &[usize], m: usize) -> Owner
-    ensures { λ r. ⌜ ownerIs r ≡ baseName (slotAt (area .entry) (lens .entry) m) ⌝ }
+    ensures { λ r. ⌜ r ≡ ownerOf (slotAt (area .entry) (lens .entry) m) ⌝ }
 {
     let base = ty::non_null(slot(area, lens, m));
     Owner {
@@ -121,7 +121,7 @@ fn begin_owned(
     buf: &mut [u8],
 ) -> Begun
     requires { ⌜ IndexedTable (now table) (now index) × (s .count + 2 ≤ countLimit) ⌝ }
-    ensures { λ r. ⌜ Begins table id node (ownedAt (table .entry) header owner id) s buf r ⌝ }
+    ensures { λ r. ⌜ Begins owner node (ownedAt (table .entry) header owner id) s buf r ⌝ }
 {
     let found = first_function(table, index, owner, id);
     match found {
@@ -157,7 +157,7 @@ pub fn begin_method(
     buf: &mut [u8],
 ) -> Begun
     requires { ⌜ IndexedTable (now table) (now index) × (node < slotCount) × (s .count + 2 ≤ countLimit) ⌝ }
-    ensures { λ r. ⌜ Begins table id node (methodAt (table .entry) header id (slotAt (area .entry) (lens .entry) (node + 1))) s buf r ⌝ }
+    ensures { λ r. ⌜ BeginsMethod table header id node (slotAt (area .entry) (lens .entry) (node + 1)) s buf r ⌝ }
 {
     let owner = owner_of(area, lens, node + 1);
     if owner.named {

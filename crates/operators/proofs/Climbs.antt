@@ -1,24 +1,26 @@
 -- The climb's fuel is enough where superclasses stand earlier, as in an accepted table, and a loop climbs along.
 use Prim.Native.Nat.{ℕ, zero, suc, _+_, _≤_, _<_}
-use mathlib.Core.Path.{_≡_, refl, ap, _∙_}
+use borrow.Author.Tests.{eqb-true, eqb-false, ne-eqb}
+use lib.Dec.{eqb}
 use mathlib.Core.Bool.{Bool, true, false}
 use mathlib.Core.List.{List}
-use mathlib.Core.Option.{Option, none, some}
+use mathlib.Core.Option.{Option, none}
+use mathlib.Core.Path.{_≡_, refl, ap, _∙_}
 use native.Mathlib.Nat.{not-suc-le-zero}
 use native.Mathlib.Omega.{arith}
-use lib.Dec.{eqb}
-use borrow.Author.Tests.{eqb-true, eqb-false, ne-eqb}
-use Rattle.ty.specs.Choose.{choose}
-use Rattle.ty.specs.Name.{noId}
-use Rattle.ty.specs.Bytes.{Ty}
+use Rattle.operators.specs.Inside.MethodPlace.{firstResultPlace, classPlace, climbPlace, climbPlaceFrom}
+use Rattle.operators.specs.OperatorMethod.{methodId, hasOperator, atClass, climb, climbFrom}
+use Rattle.operators.specs.declared.method.Method.the-variants as method
+use Rattle.record.specs.TableRefused.{tableFault}
 use Rattle.symbol.proofs.Ranks.{rankOf, class-rank, super-lower, height, height-low, some-height, super-below}
-use Rattle.symbol.specs.declared.lookups.Mask.{Mask}
-use Rattle.symbol.specs.declared.lookups.Mask.the-variants as mask
 use Rattle.symbol.specs.Inside.LookupAnswer.{maskOf}
 use Rattle.symbol.specs.Lookup.{symbolsOf}
-use Rattle.record.specs.TableRefused.{tableFault}
 use Rattle.symbol.specs.Symbols.{Symbols}
-use Rattle.operators.specs.OperatorMethod.{methodId, hasOperator, firstResult, atClass, climb, climbFrom}
+use Rattle.symbol.specs.declared.lookups.Mask.the-variants as mask
+use Rattle.symbol.specs.declared.lookups.Mask.{Mask}
+use Rattle.ty.specs.Bytes.{Ty}
+use Rattle.ty.specs.Choose.{choose}
+use Rattle.ty.specs.Name.{noId}
 
 -- each class has a rank of at most the number of class records, and its superclass, if there is one, a lower one
 pub record Ranked (S : Symbols) : Type 0 where
@@ -60,11 +62,12 @@ module _ (S : Symbols) (R : Ranked S) where
 pub ranked : (t : List ℕ) → tableFault t ≡ 0 → Ranked (symbolsOf t)
 ranked t e = record { rank = rankOf t; low = class-rank t; falls = super-lower t e }
 
+-- ---- the place of an operator method
 -- the climb from `class` goes on at class c, with so many steps left
 pub record Going (t : List ℕ) (op class c : ℕ) : Type 0 where
   pub fuel : ℕ
   pub left : height t c ≤ fuel
-  pub same : climbFrom (symbolsOf t) op class ≡ climb (symbolsOf t) fuel op c
+  pub same : climbPlaceFrom t op class ≡ climbPlace t fuel op c
 
 module _ (t : List ℕ) (op class : ℕ) where
   pub going-first : Going t op class class
@@ -77,38 +80,37 @@ module _ (t : List ℕ) (op class : ℕ) where
 
   -- one class of the climb
   climb-at : (f c : ℕ) → (c ≡ noId → ⊥)
-      → climb (symbolsOf t) (suc f) op c ≡ atClass (symbolsOf t) op c (symbolsOf t .operatorsOf c) (climb (symbolsOf t) f op (symbolsOf t .superOf c))
-  unfolding climb choose
+      → climbPlace t (suc f) op c ≡ classPlace t op c (symbolsOf t .operatorsOf c) (climbPlace t f op (symbolsOf t .superOf c))
+  unfolding climbPlace choose
   climb-at f c n = rw (ne-eqb c noId n)
 
-  climb-end : (f c : ℕ) → c ≡ noId → climb (symbolsOf t) f op c ≡ none
-  unfolding climb choose
+  climb-end : (f c : ℕ) → c ≡ noId → climbPlace t f op c ≡ method.Nothing
+  unfolding climbPlace choose
   climb-end zero c e = refl
   climb-end (suc f) c e = rw e
 
-  pub going-end : (c : ℕ) → Going t op class c → c ≡ noId → climbFrom (symbolsOf t) op class ≡ none
+  pub going-end : (c : ℕ) → Going t op class c → c ≡ noId → climbPlaceFrom t op class ≡ method.Nothing
   going-end c g e = g .same ∙ climb-end (g .fuel) c e
 
   module _ (c : ℕ) (n : c ≡ noId → ⊥) where
     -- the climb with a step taken
-    stepped : (f : ℕ) → height t c ≤ f → climbFrom (symbolsOf t) op class ≡ climb (symbolsOf t) f op c
-        → (g : ℕ) × (f ≡ suc g) × (climbFrom (symbolsOf t) op class ≡ atClass (symbolsOf t) op c (symbolsOf t .operatorsOf c) (climb (symbolsOf t) g op (symbolsOf t .superOf c)))
+    stepped : (f : ℕ) → height t c ≤ f → climbPlaceFrom t op class ≡ climbPlace t f op c
+        → (g : ℕ) × (f ≡ suc g) × (climbPlaceFrom t op class ≡ classPlace t op c (symbolsOf t .operatorsOf c) (climbPlace t g op (symbolsOf t .superOf c)))
     stepped zero l s = absurd (omega (arith, some-height t c n))
     stepped (suc f) l s = (f, refl, s ∙ climb-at f c n)
 
     pub no-set : Going t op class c → (r : Mask) → maskOf r ≡ symbolsOf t .operatorsOf c → r ≡ mask.Nothing
-        → climbFrom (symbolsOf t) op class ≡ none
-    unfolding atClass
+        → climbPlaceFrom t op class ≡ method.Nothing
+    unfolding classPlace
     no-set g r h e = stepped (g .fuel) (g .left) (g .same) .2 ∙ rw (← h, e)
 
     module _ (g : Going t op class c) (r : Mask) (m : ℕ) (h : maskOf r ≡ symbolsOf t .operatorsOf c) (e : r ≡ mask.Is m) where
-      pub has-method : hasOperator m op ≡ true
-          → climbFrom (symbolsOf t) op class ≡ some (firstResult (symbolsOf t .functionsOf c (methodId op)))
-      unfolding atClass choose
+      pub has-method : hasOperator m op ≡ true → climbPlaceFrom t op class ≡ firstResultPlace t c (methodId op)
+      unfolding classPlace choose
       has-method b = stepped (g .fuel) (g .left) (g .same) .2 ∙ rw (← h, e, b)
 
       pub going-up : tableFault t ≡ 0 → hasOperator m op ≡ false → Going t op class (symbolsOf t .superOf c)
-      unfolding atClass choose
+      unfolding classPlace choose
       going-up a b =
           let s = stepped (g .fuel) (g .left) (g .same) in
           record { fuel = s .0; left = omega (arith, super-below t a c n, s .1, g .left); same = s .2 ∙ rw (← h, e, b) }

@@ -1,4 +1,6 @@
 pub mod Arm
 pub mod Assigns
 pub mod Climbs
+pub mod Each
 pub mod MethodLookups
+pub mod Ruling

@@ -1,46 +1,57 @@
--- What the answers of the lookups say of operator methods.
-use Prim.Native.Nat.{ℕ}
-use mathlib.Core.Path.{_≡_, subst}
-use mathlib.Core.List.{List, []}
-use mathlib.Core.Option.{Option}
-use lib.ListN.{take, drop}
-use Rattle.ty.specs.Bytes.{Ty}
-use Rattle.symbol.specs.Symbols.{Overload}
-use Rattle.index.specs.declared.index.Found.{Found}
+-- The type that lies at the place of an operator method.
+use Prim.Native.Nat.{ℕ, zero, suc}
+use mathlib.Core.List.{List}
+use mathlib.Core.Option.{Option, none, some}
+use mathlib.Core.Path.{_≡_, refl, subst}
 use Rattle.index.specs.declared.index.Found.the-variants as found
+use Rattle.index.specs.declared.index.Found.{Found}
 use Rattle.index.specs.declared.index.Place.{Place}
-use Rattle.symbol.specs.declared.functions.Function.{Function}
-use Rattle.symbol.specs.Inside.LookupAnswer.{FunctionFound, FunctionIs, FunctionRead, overloadAt}
-use Rattle.operators.specs.Out.{Out, anyTy, clean, found as foundOut}
-use Rattle.operators.specs.OperatorMethod.{firstResult}
+use Rattle.operators.proofs.Each.{each}
 use Rattle.operators.specs.Inside.Looked.{methodTy}
-use Rattle.operators.specs.declared.method.Method.{Method}
+use Rattle.operators.specs.Inside.MethodPlace.{resultPlace, firstResultPlace, classPlace, climbPlace, operatorPlace}
+use Rattle.operators.specs.OperatorMethod.{methodId, firstResult, atClass, climb, operatorReturn}
 use Rattle.operators.specs.declared.method.Method.the-variants as method
+use Rattle.operators.specs.declared.method.Method.{Method}
+use Rattle.record.specs.TableRefused.{tableFault}
+use Rattle.symbol.proofs.FunctionLists.{first-listed}
+use Rattle.symbol.proofs.FunctionsRead.{function-at-read}
+use Rattle.symbol.specs.Inside.LookupAnswer.{FunctionFound, FunctionIs}
+use Rattle.symbol.specs.Inside.Places.{firstPlace, functionPlaces}
+use Rattle.symbol.specs.Lookup.{symbolsOf}
+use Rattle.symbol.specs.Symbols.{Overload}
+use Rattle.ty.specs.Bytes.{Ty}
 
 -- ---- a list's first function
-module _ (t : List ℕ) (all : List Overload) where
-  pub none-found : (r : Found) → FunctionFound t all r → r ≡ found.Nothing → all ≡ []
-  none-found r h e = subst (λ (q : Found). FunctionFound t all q) e h
+module _ (t : List ℕ) (clean : tableFault t ≡ 0) where
+  -- the first function of an owner and a name, where there is one
+  pub first-here : (owner name : ℕ) (r : Found) (p : Place) → r ≡ firstPlace (functionPlaces t owner name) → r ≡ found.Here p
+      → FunctionIs t (symbolsOf t .functionsOf owner name) p
+  first-here owner name r p h e =
+      subst (λ (q : Found). FunctionFound t (symbolsOf t .functionsOf owner name) q) e (first-listed t clean owner name r h)
 
-  pub first-found : (r : Found) (p : Place) → FunctionFound t all r → r ≡ found.Here p → FunctionIs t all p
-  first-found r p h e = subst (λ (q : Found). FunctionFound t all q) e h
-
-  -- its result, once it is read
-  pub first-result : (p : Place) (f : Function) → FunctionIs t all p → FunctionRead t (overloadAt t p) f
-      → firstResult all ≡ take (f .len) (drop (f .start) t)
+  result-found : (all : List Overload) (f : Found) → FunctionFound t all f → methodTy t (resultPlace t f) ≡ some (firstResult all)
   unfolding firstResult
-  first-result p f h r = rw (h .first, ← r .same)
+  result-found all found.Nothing h = rw h
+  result-found all (found.Here p) h = rw (h .first, ← function-at-read t p (h .here) .same)
 
--- ---- an operator method
-pub no-method : (t : List ℕ) (F : Option Ty) (o : Out) (r : Method) → methodTy t r ≡ F → r ≡ method.Nothing → foundOut F o ≡ o
-unfolding foundOut
-no-method t F o r h e = rw (← h, e)
+  first-result-placed : (class name : ℕ) → methodTy t (firstResultPlace t class name) ≡ some (firstResult (symbolsOf t .functionsOf class name))
+  unfolding firstResultPlace
+  first-result-placed class name =
+      result-found (symbolsOf t .functionsOf class name) (firstPlace (functionPlaces t class name)) (first-listed t clean class name _ refl)
 
-pub any-method : (t : List ℕ) (F : Option Ty) (o : Out) (r : Method) → methodTy t r ≡ F → r ≡ method.Any → foundOut F o ≡ clean anyTy
-unfolding foundOut
-any-method t F o r h e = rw (← h, e)
+  -- ---- an operator method
+  class-placed : (op c : ℕ) (F : Option ℕ) (m : Method) (up : Option Ty) → methodTy t m ≡ up
+      → methodTy t (classPlace t op c F m) ≡ atClass (symbolsOf t) op c F up
+  unfolding classPlace atClass
+  class-placed op c none m up h = refl
+  class-placed op c (some mask) m up h = each (methodTy t) _ (first-result-placed c (methodId op)) h
 
-pub method-at : (t : List ℕ) (F : Option Ty) (o : Out) (r : Method) (a n : ℕ) → methodTy t r ≡ F → r ≡ method.At a n
-    → foundOut F o ≡ clean (take n (drop a t))
-unfolding foundOut
-method-at t F o r a n h e = rw (← h, e)
+  climb-placed : (f op c : ℕ) → methodTy t (climbPlace t f op c) ≡ climb (symbolsOf t) f op c
+  unfolding climbPlace climb
+  climb-placed zero op c = refl
+  climb-placed (suc f) op c = each (methodTy t) _ refl (class-placed op c _ _ _ (climb-placed f op (symbolsOf t .superOf c)))
+
+  -- THE TYPE AT THE PLACE OF AN OPERATOR METHOD
+  pub operator-placed : (op : ℕ) (l : Ty) → methodTy t (operatorPlace t op l) ≡ operatorReturn (symbolsOf t) op l
+  unfolding operatorPlace operatorReturn
+  operator-placed op l = each (methodTy t) _ (climb-placed _ op _) refl

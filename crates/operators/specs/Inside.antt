@@ -1,3 +1,7 @@
 -- What code and proofs of the operators hand each other.
-pub mod Ruled
 pub mod Looked
+pub mod MethodPlace
+pub mod Ruled
+pub mod RuledParts
+pub mod BinaryRule
+pub mod UnaryRule

@@ -19,10 +19,10 @@ use area::Source;
 use ty::Kind;
 use ty::NameId;
 ghost use mathlib.Core.Path.{_≡_};
-ghost use Rattle.symbol.specs.Symbols.{Symbols};
 ghost use Rattle.index.specs.Inside.IndexedTable.{IndexedTable};
-ghost use Rattle.operators.specs.Binary.{fractional as fractionalOf, addOut, arithmeticOut, equalityOut, orderOut, logicalOut, bitwiseOut, takesNullable};
-ghost use Rattle.operators.specs.Inside.Ruled.{Gives, BinaryGives, LogicalRuled, OperatorRuled, BuiltinRuled, BinaryRuled};
+ghost use Rattle.operators.specs.Binary.{fractional as fractionalOf, takesNullable};
+ghost use Rattle.operators.specs.Inside.BinaryRule.{addRuled, arithmeticRuled, equalityRuled, orderRuled, logicalRuled, bitwiseRuled};
+ghost use Rattle.operators.specs.Inside.BinaryRule.{operatorRuled, builtinRuled, binaryRuled};
 
 // The numbers of the binary operators.
 pub struct BinOp(pub u8);
@@ -84,7 +84,7 @@ fn fractional(lt: &[u8], rt: &[u8]) -> bool
 
 // Add.
 fn add(lt: &[u8], rt: &[u8]) -> OneReport
-    ensures { λ r. ⌜ Gives r (addOut (now (lt .entry)) (now (rt .entry))) ⌝ }
+    ensures { λ r. ⌜ r ≡ addRuled (now (lt .entry)) (now (rt .entry)) ⌝ }
 {
     if ty::is_string(lt) & (ty::is_string(rt) | (ty::kind_of(rt) == Kind::ANY)) {
         return plain(Kind::STRING);
@@ -103,7 +103,7 @@ fn add(lt: &[u8], rt: &[u8]) -> OneReport
 
 // Sub, Mul, Div, Mod.
 fn arithmetic(lt: &[u8], rt: &[u8]) -> OneReport
-    ensures { λ r. ⌜ Gives r (arithmeticOut (now (lt .entry)) (now (rt .entry))) ⌝ }
+    ensures { λ r. ⌜ r ≡ arithmeticRuled (now (lt .entry)) (now (rt .entry)) ⌝ }
 {
     if numbers(lt, rt) {
         if fractional(lt, rt) {
@@ -119,7 +119,7 @@ fn arithmetic(lt: &[u8], rt: &[u8]) -> OneReport
 
 // Eq, Ne. The table has no say in assignability.
 fn equality(lt: &[u8], rt: &[u8]) -> OneReport
-    ensures { λ r. ⌜ ((S : Symbols) → Gives r (equalityOut S (now (lt .entry)) (now (rt .entry)))) ⌝ }
+    ensures { λ r. ⌜ r ≡ equalityRuled (now (lt .entry)) (now (rt .entry)) ⌝ }
 {
     checked(
         (can_assign_to(lt, rt) | can_assign_to(rt, lt))
@@ -131,7 +131,7 @@ fn equality(lt: &[u8], rt: &[u8]) -> OneReport
 
 // Lt, Gt, Le, Ge.
 fn order(lt: &[u8], rt: &[u8]) -> OneReport
-    ensures { λ r. ⌜ Gives r (orderOut (now (lt .entry)) (now (rt .entry))) ⌝ }
+    ensures { λ r. ⌜ r ≡ orderRuled (now (lt .entry)) (now (rt .entry)) ⌝ }
 {
     checked(
         numbers(lt, rt)
@@ -143,7 +143,7 @@ fn order(lt: &[u8], rt: &[u8]) -> OneReport
 
 // And, Or: each operand is checked.
 fn logical(lt: &[u8], rt: &[u8]) -> Ruled
-    ensures { λ r. ⌜ LogicalRuled (now (lt .entry)) (now (rt .entry)) r ⌝ }
+    ensures { λ r. ⌜ r ≡ logicalRuled (now (lt .entry)) (now (rt .entry)) ⌝ }
 {
     Ruled {
         source: Source::Kind(Kind::BOOLEAN),
@@ -154,7 +154,7 @@ fn logical(lt: &[u8], rt: &[u8]) -> Ruled
 
 // BitAnd, BitOr, BitXor, Shl, Shr, UShr: the left type, reported or not.
 fn bitwise(lt: &[u8], rt: &[u8]) -> OneReport
-    ensures { λ r. ⌜ BinaryGives (now (lt .entry)) (now (rt .entry)) r (bitwiseOut (now (lt .entry)) (now (rt .entry))) ⌝ }
+    ensures { λ r. ⌜ r ≡ bitwiseRuled (now (lt .entry)) (now (rt .entry)) ⌝ }
 {
     checked(
         (ty::is_integer(lt) & ty::is_integer(rt)) | either(Kind::ANY, lt, rt),
@@ -172,7 +172,7 @@ fn takes_nullable(op: u8) -> bool
 
 // The operator's own check.
 fn operator(op: u8, lt: &[u8], rt: &[u8]) -> Ruled
-    ensures { λ r. ⌜ OperatorRuled op (now (lt .entry)) (now (rt .entry)) r ⌝ }
+    ensures { λ r. ⌜ r ≡ operatorRuled op (now (lt .entry)) (now (rt .entry)) ⌝ }
 {
     if op == BinOp::ADD {
         return alone(add(lt, rt));
@@ -205,7 +205,7 @@ fn operator(op: u8, lt: &[u8], rt: &[u8]) -> Ruled
 }
 
 fn builtin_binary(op: u8, lt: &[u8], rt: &[u8]) -> Ruled
-    ensures { λ r. ⌜ BuiltinRuled op (now (lt .entry)) (now (rt .entry)) r ⌝ }
+    ensures { λ r. ⌜ r ≡ builtinRuled op (now (lt .entry)) (now (rt .entry)) ⌝ }
 {
     if (!takes_nullable(op)) & either(Kind::NULLABLE, lt, rt) {
         return alone(fails(Diagnostic::NULLABLE_OPERANDS));
@@ -217,7 +217,7 @@ fn builtin_binary(op: u8, lt: &[u8], rt: &[u8]) -> Ruled
 // operators.
 pub fn check_binary(table: &[u8], index: &[u16], op: u8, lt: &[u8], rt: &[u8]) -> Ruled
     requires { ⌜ IndexedTable (now table) (now index) ⌝ }
-    ensures { λ r. ⌜ BinaryRuled (now (table .entry)) op (now (lt .entry)) (now (rt .entry)) r ⌝ }
+    ensures { λ r. ⌜ r ≡ binaryRuled (now (table .entry)) op (now (lt .entry)) (now (rt .entry)) ⌝ }
 {
     if either(Kind::ERROR, lt, rt) {
         return alone(plain(Kind::ERROR));

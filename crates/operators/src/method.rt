@@ -9,12 +9,10 @@ use symbol::lookups::superclass_of;
 use ty::Kind;
 use ty::NameId;
 ghost use mathlib.Core.Path.{_≡_};
-ghost use mathlib.Core.Option.{some};
 ghost use Prim.Native.Nat.{_≤_};
 ghost use Rattle.index.specs.Inside.IndexedTable.{IndexedTable};
-ghost use Rattle.symbol.specs.Lookup.{symbolsOf};
-ghost use Rattle.operators.specs.OperatorMethod.{hasOperator, firstResult, climbFrom, operatorReturn};
-ghost use Rattle.operators.specs.Inside.Looked.{methodTy};
+ghost use Rattle.operators.specs.OperatorMethod.{hasOperator};
+ghost use Rattle.operators.specs.Inside.MethodPlace.{firstResultPlace, climbPlaceFrom, operatorPlace};
 
 // The type that an operator method gives: there is no such method, it is Any, or a part of the table.
 pub enum Method {
@@ -34,7 +32,7 @@ fn has_operator(mask: u16, op: u8) -> bool
 // The result of the first function of a class and a name, and Any where there is none.
 fn first_result(table: &[u8], index: &[u16], class: u16, name: u16) -> Method
     requires { ⌜ IndexedTable (now table) (now index) ⌝ }
-    ensures { λ r. ⌜ methodTy (now (table .entry)) r ≡ some (firstResult (symbolsOf (now (table .entry)) .functionsOf class name)) ⌝ }
+    ensures { λ r. ⌜ r ≡ firstResultPlace (now (table .entry)) class name ⌝ }
 {
     let found = first_function(table, index, class, name);
     match found {
@@ -52,7 +50,7 @@ fn first_result(table: &[u8], index: &[u16], class: u16, name: u16) -> Method
 // The climb from a class, as long as there are operator sets.
 fn climb(table: &[u8], index: &[u16], op: u8, class: u16) -> Method
     requires { ⌜ IndexedTable (now table) (now index) × (op ≤ 10) ⌝ }
-    ensures { λ r. ⌜ methodTy (now (table .entry)) r ≡ climbFrom (symbolsOf (now (table .entry))) op class ⌝ }
+    ensures { λ r. ⌜ r ≡ climbPlaceFrom (now (table .entry)) op class ⌝ }
 {
     let mut at = class;
     while at != NameId::NONE {
@@ -74,7 +72,7 @@ fn climb(table: &[u8], index: &[u16], op: u8, class: u16) -> Method
 
 pub fn operator_overload_return(table: &[u8], index: &[u16], op: u8, lt: &[u8]) -> Method
     requires { ⌜ IndexedTable (now table) (now index) ⌝ }
-    ensures { λ r. ⌜ methodTy (now (table .entry)) r ≡ operatorReturn (symbolsOf (now (table .entry))) op (now (lt .entry)) ⌝ }
+    ensures { λ r. ⌜ r ≡ operatorPlace (now (table .entry)) op (now (lt .entry)) ⌝ }
 {
     if (op <= BinOp::GE) & (ty::kind_of(lt) == Kind::NAMED) {
         return climb(table, index, op, ty::name_of(lt));

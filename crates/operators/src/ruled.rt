@@ -1,13 +1,8 @@
 // What a rule answers.
 use area::Source;
 use ty::Kind;
-ghost use Prim.Native.Nat.{ℕ};
 ghost use mathlib.Core.Path.{_≡_};
-ghost use mathlib.Core.List.{List, []};
-ghost use Rattle.ty.specs.Choose.{choose};
-ghost use Rattle.area.specs.Source.{typeFrom};
-ghost use Rattle.operators.specs.Out.{clean as cleanOut, plain as plainOut, reportsBefore};
-ghost use Rattle.operators.specs.Inside.Ruled.{reportOf, reportsOf, outOf, oneOut, failsBy, checkedBy, Gives};
+ghost use Rattle.operators.specs.Inside.RuledParts.{noReport, reportUnless, cleanOne, plainOne, failsOne, checkedOne, ruledBefore, ruledAlone};
 
 // A diagnostic at the node itself: its kind, 0 for none, and its number.
 pub struct Diagnostic {
@@ -80,7 +75,7 @@ pub struct OneReport {
 
 // A type, and nothing is reported.
 pub fn clean(source: Source) -> OneReport
-    ensures { λ r. ⌜ ((table x y : List ℕ) → oneOut table x y r ≡ cleanOut (typeFrom table x y source)) ⌝ }
+    ensures { λ r. ⌜ r ≡ cleanOne source ⌝ }
 {
     OneReport {
         source,
@@ -90,14 +85,14 @@ pub fn clean(source: Source) -> OneReport
 
 // The type of a kind without body, and nothing is reported.
 pub fn plain(kind: u8) -> OneReport
-    ensures { λ r. ⌜ Gives r (plainOut kind) ⌝ }
+    ensures { λ r. ⌜ r ≡ plainOne kind ⌝ }
 {
     clean(Source::Kind(kind))
 }
 
 // Error, and a report.
 pub fn fails(kind: u8) -> OneReport
-    ensures { λ r. ⌜ Gives r (failsBy kind) ⌝ }
+    ensures { λ r. ⌜ r ≡ failsOne kind ⌝ }
 {
     OneReport {
         source: Source::Kind(Kind::ERROR),
@@ -107,7 +102,7 @@ pub fn fails(kind: u8) -> OneReport
 
 // A type, and a report unless a test holds.
 pub fn checked(ok: bool, source: Source, kind: u8) -> OneReport
-    ensures { λ r. ⌜ ((table x y : List ℕ) → oneOut table x y r ≡ checkedBy ok (typeFrom table x y source) kind) ⌝ }
+    ensures { λ r. ⌜ r ≡ checkedOne ok source kind ⌝ }
 {
     if ok {
         return clean(source);
@@ -116,17 +111,17 @@ pub fn checked(ok: bool, source: Source, kind: u8) -> OneReport
 }
 
 pub fn no_report() -> Diagnostic
-    ensures { λ r. ⌜ reportsOf r ≡ [] ⌝ }
+    ensures { λ r. ⌜ r ≡ noReport ⌝ }
 {
     Diagnostic {
         kind: Diagnostic::NONE,
-        number: 0,
+        number: 0, // nothing is reported
     }
 }
 
 // A report unless a test holds.
 pub fn unless(ok: bool, kind: u8, number: u8) -> Diagnostic
-    ensures { λ r. ⌜ reportsOf r ≡ choose ok [] (reportOf kind number) ⌝ }
+    ensures { λ r. ⌜ r ≡ reportUnless ok kind number ⌝ }
 {
     if ok {
         return no_report();
@@ -136,7 +131,7 @@ pub fn unless(ok: bool, kind: u8, number: u8) -> Diagnostic
 
 // An answer with a diagnostic that comes before its own, if there is one.
 pub fn report_before(first: Diagnostic, rest: OneReport) -> Ruled
-    ensures { λ r. ⌜ ((table x y : List ℕ) → outOf table x y r ≡ reportsBefore (reportsOf first) (oneOut table x y rest)) ⌝ }
+    ensures { λ r. ⌜ r ≡ ruledBefore first rest ⌝ }
 {
     let source = rest.source;
     Ruled {
@@ -151,7 +146,7 @@ pub fn report_before(first: Diagnostic, rest: OneReport) -> Ruled
 
 // An answer with its own diagnostic alone.
 pub fn alone(rest: OneReport) -> Ruled
-    ensures { λ r. ⌜ ((table x y : List ℕ) → outOf table x y r ≡ oneOut table x y rest) ⌝ }
+    ensures { λ r. ⌜ r ≡ ruledAlone rest ⌝ }
 {
     report_before(no_report(), rest)
 }

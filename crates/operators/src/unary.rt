@@ -10,8 +10,8 @@ use crate::ruled::clean;
 use crate::ruled::fails;
 use area::Source;
 use ty::Kind;
-ghost use Rattle.operators.specs.Unary.{unaryOut};
-ghost use Rattle.operators.specs.Inside.Ruled.{UnaryGives, UnaryRuled};
+ghost use mathlib.Core.Path.{_≡_};
+ghost use Rattle.operators.specs.Inside.UnaryRule.{unaryOne, unaryRuled};
 
 // The numbers of the unary operators.
 pub struct UnOp(pub u8);
@@ -33,7 +33,7 @@ impl UnOp {
 }
 
 fn unary(op: u8, t: &[u8]) -> OneReport
-    ensures { λ r. ⌜ UnaryGives (now (t .entry)) r (unaryOut op (now (t .entry))) ⌝ }
+    ensures { λ r. ⌜ r ≡ unaryOne op (now (t .entry)) ⌝ }
 {
     let kind = ty::kind_of(t);
     if kind == Kind::NULLABLE {
@@ -62,7 +62,7 @@ fn unary(op: u8, t: &[u8]) -> OneReport
 
 // The type of an operator on an operand of the type t, and what is reported.
 pub fn check_unary(op: u8, t: &[u8]) -> Ruled
-    ensures { λ r. ⌜ UnaryRuled op (now (t .entry)) r ⌝ }
+    ensures { λ r. ⌜ r ≡ unaryRuled op (now (t .entry)) ⌝ }
 {
     alone(unary(op, t))
 }

@@ -6,7 +6,7 @@ use mathlib.Core.Path.{sym, subst}
 use native.Mathlib.Omega.{arith}
 use Rattle.area.specs.Diagnostic.{Diag}
 use Rattle.overload.proofs.FunctionListWalk.{functions-few}
-use Rattle.overload.proofs.OverloadFold.{picked-few, picked-usable}
+use Rattle.overload.proofs.OverloadFold.{usable-few}
 use Rattle.overload.proofs.Reporting.{all-unknown-few, mismatches-few}
 use Rattle.overload.proofs.SingleReports.{access-few, at-append}
 use Rattle.scoring.specs.Arg.{Arg}
@@ -46,8 +46,7 @@ module _ (S : Symbols) (xs : List Arg) (short : length xs ≤ 16) where
   pub resolve-few : (os : List Overload) (n : ℕ) → length (resolve S os n xs .diags) ≤ 16 * length os + 16
   unfolding resolve resolveIn noneFits
   resolve-few os n =
-      go (fitting (length xs) (usable os))
-      (subst (λ (vs : List Overload). length vs ≤ length os) (picked-usable (length xs) os) (picked-few (anyOwn os) (length xs) os))
+      go (fitting (length xs) (usable os)) (usable-few (length xs) os)
     where
       go : (vs : List Overload) → length vs ≤ length os → length (resolveIn S (anyOwn os) n xs vs .diags) ≤ 16 * length os + 16
       go [] h =

@@ -8,12 +8,13 @@ use mathlib.Core.Option.{Option}
 use mathlib.Core.Path.{_≡_, refl, sym, ap, _∙_}
 use native.Mathlib.Omega.{arith}
 use Rattle.area.specs.Diagnostic.{Diag}
+use Rattle.scoring.proofs.ParamSearch.{NamedPlaceIs}
 use Rattle.scoring.proofs.Scores.{name-none, name-some, param-there, param-missing}
 use Rattle.scoring.specs.Arg.{Arg}
 use Rattle.overload.specs.Before.{suspendAllowed, suspendReport}
 use Rattle.overload.specs.ByIndex.{absent, unknownOne, passesByIndex, mismatchOne}
 use Rattle.scoring.specs.Inside.Args.{nameIn}
-use Rattle.scoring.specs.Inside.Params.{paramsIn, paramIn, NamedPlaceIs}
+use Rattle.scoring.specs.Inside.Params.{paramsIn, paramIn}
 use Rattle.overload.specs.Resolve.{tieReport}
 use Rattle.question.specs.declared.Header.{Header}
 use Rattle.rules.specs.Access.{blocked, accessReport}

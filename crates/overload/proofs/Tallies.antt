@@ -1,89 +1,102 @@
 -- What the walk over a function list keeps, one function at a time.
 use Prim.Native.Nat.{ℕ, _+_, _≤_}
-use lib.ListN.{length, length-append}
+use lib.ListN.{length, length-append, length-map}
 use mathlib.Core.Bool.{false}
-use mathlib.Core.List.{List, [], _∷_, _++_, append-nil}
+use mathlib.Core.List.{List, [], _∷_, _++_, map, append-assoc, append-nil}
 use mathlib.Core.Option.{Option}
-use mathlib.Core.Path.{_≡_, refl, sym, ap, _∙_, subst}
+use mathlib.Core.Path.{_≡_, refl, sym, ap, _∙_}
+use native.Mathlib.Nat.{add-zero}
 use native.Mathlib.Omega.{arith}
-use Rattle.area.specs.Diagnostic.{countLimit}
-use Rattle.overload.proofs.OverloadFold.{chosen-snoc, unknown-snoc}
-use Rattle.overload.proofs.Reporting.{reported-none, reported-as, reported-append, all-unknown-few}
+use Rattle.area.proofs.Diagnostics.{putAll-none}
+use Rattle.area.specs.Diagnostic.{Diag, countLimit, putAll}
+use Rattle.overload.proofs.OverloadFold.{higher-best, chosen-snoc, chosen-few, unknown-append, unknown-one}
+use Rattle.overload.proofs.Reporting.{all-unknown-few}
 use Rattle.scoring.specs.Arg.{Arg}
-use Rattle.overload.specs.Best.{Best, nobody, better, chosen}
 use Rattle.overload.specs.ByIndex.{unknowns, allUnknown}
+use Rattle.overload.specs.Inside.BestPlace.{BestPlace, nowhere, chosenFrom, chosenAt}
 use Rattle.scoring.specs.Inside.Params.{paramsIn}
-use Rattle.overload.specs.Inside.Reported.{Reported}
 use Rattle.scoring.specs.Score.{score}
-use Rattle.overload.specs.Inside.Tally.{firstOf, mostDiagnostics, Room, ReadAt, HighestIs, HigherWith, FirstIs, FirstAt, TallyIs}
+use Rattle.overload.specs.Inside.Tally.{highestAt, higherWith, firstOf, unknownsAt, allUnknownAt, tallyWith, tallyMore, tallyOf, mostDiagnostics, Room}
 use Rattle.overload.specs.declared.calls.Highest.{Highest}
 use Rattle.overload.specs.declared.calls.Tally.{Tally}
-use Rattle.index.specs.Inside.Found.{FunctionAt}
-use Rattle.symbol.specs.Inside.LookupAnswer.{overloadAt, overloadIn}
-use Rattle.symbol.specs.Symbols.{Overload, Symbols}
-use Rattle.symbol.specs.declared.functions.Function.{Function}
-use Rattle.index.specs.declared.index.Found.the-variants.{Nothing, Here}
+use Rattle.index.specs.declared.index.Found.the-variants.{Nothing}
 use Rattle.index.specs.declared.index.Found.{Found}
 use Rattle.index.specs.declared.index.Place.{Place}
+use Rattle.symbol.specs.Inside.FunctionFields.{functionAt}
+use Rattle.symbol.specs.Inside.LookupAnswer.{overloadAt, overloadIn}
+use Rattle.symbol.specs.Inside.Places.{firstPlace}
+use Rattle.symbol.specs.Lookup.{symbolsOf}
+use Rattle.symbol.specs.Symbols.{Overload}
+use Rattle.symbol.specs.declared.functions.Function.{Function}
 
-module _ (t : List ℕ) (p : Place) where
-  first-more : (vs : List Overload) (f : Found) → FirstIs t vs f → FirstIs t (vs ++ (overloadAt t p ∷ [])) (firstOf f p)
-  first-more [] Nothing w = refl
-  first-more [] (Here q) w = absurd w
-  first-more (v ∷ vs) Nothing w = absurd w
-  first-more (v ∷ vs) (Here q) w = w
+module _ (t : List ℕ) (xs : List Arg) where
+  -- ---- one overload that fits, at the place p, which was read as f
+  pub tally-taken : (w : Tally) (p : Place) (f : Function) → f ≡ functionAt t p → overloadIn t f ≡ overloadAt t p → (q : Found) (s : Option ℕ) (h : Highest) (n : ℕ)
+      → q ≡ firstOf (w .first) p → s ≡ score (symbolsOf t) (overloadIn t f) xs → h ≡ higherWith (f .start) (f .len) s (w .highest)
+      → n ≡ w .count + length (unknowns (paramsIn t (f .params)) 1 xs)
+      → _≡_ {A = Tally} (record { first = q; fitting = w .fitting + 1; highest = h; count = n }) (tallyWith t xs w p)
+  tally-taken w p f e same q s h n first scored higher told =
+      let high : h ≡ higherWith (functionAt t p .start) (functionAt t p .len) (score (symbolsOf t) (overloadAt t p) xs) (w .highest)
+      = higher ∙ ap (λ (z : Option ℕ). higherWith (f .start) (f .len) z (w .highest)) (scored ∙ ap (λ (o : Overload). score (symbolsOf t) o xs) same)
+      ∙ ap (λ (g : Function). higherWith (g .start) (g .len) (score (symbolsOf t) (overloadAt t p) xs) (w .highest)) e in
+      let count : n ≡ w .count + length (unknownsAt t p xs) = told ∙ ap (λ (o : Overload). w .count + length (unknowns (o .params) 1 xs)) same in
+      λ i. record { first = first i; fitting = w .fitting + 1; highest = high i; count = count i }
 
-  first-stands : (f : Found) → FunctionAt t p → FirstAt t f → FirstAt t (firstOf f p)
-  first-stands Nothing h w = h
-  first-stands (Here q) h w = w
+  -- none or one of them, at the places us
+  module _ (w : Tally) (us : List Place) (b : List ℕ) where
+    pub tally-none : us ≡ [] → (w ≡ tallyMore t xs w us) × (b ≡ putAll b (w .count) (allUnknownAt t us xs))
+    unfolding tallyMore allUnknown
+    tally-none e = (
+      sym (ap (λ (z : List Place). tallyMore t xs w z) e),
+      sym (ap (λ (z : List Place). putAll b (w .count) (allUnknownAt t z xs)) e ∙ putAll-none b (w .count)),
+    )
 
-module _ (t : List ℕ) (S : Symbols) (xs : List Arg) (b₀ : List ℕ) (n₀ : ℕ) where
-  -- nothing taken
-  pub tally-start : TallyIs t S xs b₀ n₀ b₀ []
-      (record { first = Nothing; fitting = 0; highest = record { matched = false; score = 0; many = 0; start = 0; len = 0 }; count = n₀ })
-  unfolding chosen allUnknown
-  tally-start =
-      record { first = tt; stands = tt; fitting = refl; highest = refl; few = omega arith; reported = reported-none b₀ n₀ }
+    pub tally-one : (p : Place) (r : Tally) (b′ : List ℕ) → us ≡ p ∷ [] → r ≡ tallyWith t xs w p → b′ ≡ putAll b (w .count) (unknownsAt t p xs)
+        → (r ≡ tallyMore t xs w us) × (b′ ≡ putAll b (w .count) (allUnknownAt t us xs))
+    unfolding tallyMore
+    tally-one p r b′ e f g = (
+      f ∙ sym (ap (λ (z : List Place). tallyMore t xs w z) e),
+      g ∙ sym (ap (λ (z : List Place). putAll b (w .count) (allUnknownAt t z xs)) e ∙ ap (λ (ds : List Diag). putAll b (w .count) ds) (unknown-one t p xs)),
+    )
 
-  module _ (b : List ℕ) (vs : List Overload) (w : Tally) (is : TallyIs t S xs b₀ n₀ b vs w) where
-    -- one more, at the place p, which was read as f
-    module _ (p : Place) (f : Function) (stands : FunctionAt t p) (read : ReadAt t p f) where
-      pub tally-more : (q : Found) (s : Option ℕ) (h : Highest) (b₁ : List ℕ) (n₁ : ℕ) → q ≡ firstOf (w .first) p → s ≡ score S (overloadIn t f) xs
-          → HigherWith (f .start) (f .len) s (w .highest) h → Reported b (w .count) b₁ n₁ (unknowns (paramsIn t (f .params)) 1 xs)
-          → TallyIs t S xs b₀ n₀ b₁ (vs ++ (overloadAt t p ∷ [])) (record { first = q; fitting = w .fitting + 1; highest = h; count = n₁ })
-      tally-more q s h b₁ n₁ first scored higher told =
-          record {
-            first = subst (λ (z : Found). FirstIs t (vs ++ (overloadAt t p ∷ [])) z) (sym first) (first-more t p vs (w .first) (is .first));
-            stands = subst (λ (z : Found). FirstAt t z) (sym first) (first-stands t p (w .first) stands (is .stands));
-            fitting = omega (arith, length-append vs (overloadAt t p ∷ []), is .fitting);
-            highest = subst (λ (z : Best). HighestIs t z h) chosen-more
-                (higher .highest t (chosen S nobody vs xs) (overloadAt t p) (is .highest) (ap (λ (o : Overload). o .result) (read .same)));
-            few = omega (arith, length-append vs (overloadAt t p ∷ []), is .few, higher .few);
-            reported = reported-as (sym (unknown-snoc vs (overloadAt t p) xs))
-                (reported-append (is .reported) (reported-as (ap (λ (o : Overload). unknowns (o .params) 1 xs) (read .same)) told));
-          }
-        where
-          chosen-more : better (chosen S nobody vs xs) (overloadAt t p) s ≡ chosen S nobody (vs ++ (overloadAt t p ∷ [])) xs
-          chosen-more =
-              ap (λ (z : Option ℕ). better (chosen S nobody vs xs) (overloadAt t p) z) (scored ∙ ap (λ (o : Overload). score S o xs) (read .same))
-              ∙ sym (chosen-snoc S nobody vs (overloadAt t p) xs)
+  -- ---- the tally of some overloads
+  module _ (n : ℕ) where
+    pub tally-start : record { first = Nothing; fitting = 0; highest = record { matched = false; score = 0; many = 0; start = 0; len = 0 }; count = n } ≡ tallyOf t xs n []
+    unfolding firstPlace highestAt chosenFrom allUnknown
+    tally-start = ap (λ (k : ℕ). record { first = Nothing; fitting = 0; highest = highestAt t nowhere; count = k }) (sym (add-zero n))
+
+    first-snoc : (ps : List Place) (p : Place) → firstOf (firstPlace ps) p ≡ firstPlace (ps ++ (p ∷ []))
+    unfolding firstPlace
+    first-snoc [] p = refl
+    first-snoc (q ∷ ps) p = refl
+
+    tally-snoc : (ps : List Place) (p : Place) → tallyWith t xs (tallyOf t xs n ps) p ≡ tallyOf t xs n (ps ++ (p ∷ []))
+    tally-snoc ps p =
+        let fit : length ps + 1 ≡ length (ps ++ (p ∷ [])) = omega (arith, length-append ps (p ∷ [])) in
+        let high = higher-best t (chosenAt t ps xs) p (score (symbolsOf t) (overloadAt t p) xs) ∙ ap (λ (b : BestPlace). highestAt t b) (sym (chosen-snoc t nowhere ps p xs)) in
+        let all : allUnknownAt t (ps ++ (p ∷ [])) xs ≡ allUnknownAt t ps xs ++ unknownsAt t p xs
+        = unknown-append t ps (p ∷ []) xs ∙ ap (λ (ds : List Diag). allUnknownAt t ps xs ++ ds) (unknown-one t p xs) in
+        let few : length (allUnknownAt t (ps ++ (p ∷ [])) xs) ≡ length (allUnknownAt t ps xs ++ unknownsAt t p xs) = ap (λ (ds : List Diag). length ds) all in
+        let count : n + length (allUnknownAt t ps xs) + length (unknownsAt t p xs) ≡ n + length (allUnknownAt t (ps ++ (p ∷ [])) xs)
+        = omega (arith, length-append (allUnknownAt t ps xs) (unknownsAt t p xs)) in
+        λ i. record { first = first-snoc ps p i; fitting = fit i; highest = high i; count = count i }
+
+    pub tally-more : (ps us : List Place) → tallyMore t xs (tallyOf t xs n ps) us ≡ tallyOf t xs n (ps ++ us)
+    unfolding tallyMore
+    tally-more ps [] = ap (λ (z : List Place). tallyOf t xs n z) (sym (append-nil ps))
+    tally-more ps (u ∷ us) =
+        ap (λ (w : Tally). tallyMore t xs w us) (tally-snoc ps u) ∙ tally-more (ps ++ (u ∷ [])) us
+        ∙ ap (λ (z : List Place). tallyOf t xs n z) (append-assoc ps (u ∷ []) us)
 
     -- no count wraps
-    pub tally-room : length vs ≤ 60000 → length xs ≤ 16 → n₀ + mostDiagnostics ≤ countLimit → Room w
-    tally-room few short room =
-        let u = all-unknown-few vs xs short in
+    pub tally-room : (w : Tally) (ps : List Place) → w ≡ tallyOf t xs n ps → length ps ≤ 60000 → length xs ≤ 16 → n + mostDiagnostics ≤ countLimit → Room w
+    unfolding highestAt
+    tally-room w ps e few short room =
+        let fit : w .fitting ≡ length ps = ap (λ (z : Tally). z .fitting) e in
+        let many : w .highest .many ≡ highestAt t (chosenAt t ps xs) .many = ap (λ (z : Tally). z .highest .many) e in
+        let count : w .count ≡ n + length (allUnknownAt t ps xs) = ap (λ (z : Tally). z .count) e in
         record {
-          fitting = omega (arith, is .fitting);
-          many = omega (arith, is .few);
-          count = omega (arith, is .reported .count);
+          fitting = omega arith;
+          many = omega (arith, chosen-few t nowhere ps xs);
+          count = omega (arith, all-unknown-few (map (overloadAt t) ps) xs short, length-map ps (overloadAt t));
         }
-
-    pub tally-place : (p : Place) → w .first ≡ Here p → FunctionAt t p
-    tally-place p e = subst (λ (f : Found). FirstAt t f) e (is .stands)
-
-    -- the same overloads, said otherwise
-    pub tally-as : (us : List Overload) → vs ≡ us → TallyIs t S xs b₀ n₀ b us w
-    tally-as us e = subst (λ (z : List Overload). TallyIs t S xs b₀ n₀ b z w) e is
-
-    pub tally-same : (us : List Overload) → us ≡ [] → TallyIs t S xs b₀ n₀ b (vs ++ us) w
-    tally-same us e = tally-as (vs ++ us) (sym (ap (λ (z : List Overload). vs ++ z) e ∙ append-nil vs))

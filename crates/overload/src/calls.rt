@@ -13,24 +13,23 @@ use scoring::score::score_function;
 use symbol::functions::Function;
 use symbol::functions::is_builtin_function;
 use symbol::functions::read_function;
-use symbol::lookups::first_function;
-use symbol::lookups::next_function;
+use symbol::lookups::Functions;
 use ty::Kind;
-ghost use Prim.Native.Nat.{ℕ, _+_, _≤_, _<_};
+ghost use Prim.Native.Nat.{_+_, _≤_, _<_};
 ghost use mathlib.Core.Path.{_≡_};
-ghost use mathlib.Core.List.{List, [], _∷_};
 ghost use Rattle.area.specs.Diagnostic.{countLimit};
 ghost use Rattle.index.specs.Inside.IndexedTable.{IndexedTable};
-ghost use Rattle.symbol.specs.Lookup.{symbolsOf};
 ghost use Rattle.index.specs.Inside.Found.{FunctionAt};
-ghost use Rattle.symbol.specs.Inside.LookupAnswer.{overloadAt};
+ghost use Rattle.symbol.specs.Lookup.{symbolsOf};
+ghost use Rattle.symbol.specs.Inside.FunctionFields.{functionAt};
 ghost use Rattle.scoring.specs.Arity.{anyOwn};
-ghost use Rattle.overload.specs.Resolve.{noneFits, tieReport};
-ghost use Rattle.scoring.specs.Inside.Args.{argsIn};
-ghost use Rattle.overload.specs.Inside.Reported.{Reported};
 ghost use Rattle.scoring.specs.Inside.Scored.{scoreOf};
-ghost use Rattle.overload.specs.Inside.Tally.{taken, pickedIn, firstOf, mostDiagnostics, callAt};
-ghost use Rattle.overload.specs.Inside.Tally.{ReadAt, HigherWith, Room, TallyIn, Takes, Settles, CalledIs};
+ghost use Rattle.overload.specs.Resolve.{noneFits, tieReport};
+ghost use Rattle.overload.specs.Inside.Reported.{Reported};
+ghost use Rattle.overload.specs.Inside.Picked.{taken, pickedIn};
+ghost use Rattle.overload.specs.Inside.BestPlace.{errorSource};
+ghost use Rattle.overload.specs.Inside.Tally.{higherWith, firstOf, mostDiagnostics, Room};
+ghost use Rattle.overload.specs.Inside.CallSource.{argsLent, TakesOne, TakesSome, TalliesAll, AnswersCall, SettlesCall, CallsAt};
 
 // The highest score so far: whether anything matches, the score, how many have it, and where the result of the first of them lies in the table.
 pub struct Highest {
@@ -60,22 +59,23 @@ fn any_own(table: &[u8], index: &[u16], owner: u16, id: u16) -> bool
     requires { ⌜ IndexedTable (now table) (now index) ⌝ }
     ensures { λ r. ⌜ r ≡ anyOwn (symbolsOf (now (table .entry)) .functionsOf owner id) ⌝ }
 {
-    let mut found = first_function(table, index, owner, id);
+    let mut c = Functions::first(table, index, owner, id);
     loop {
+        let found = c.found();
         let Found::Here(p) = found else {
             return false;
         };
         if !is_builtin_function(table, p) {
             return true;
         }
-        found = next_function(table, index, p);
+        c = c.next(table, index);
     }
 }
 
 // The highest score once one more overload has its score. Its result lies in the table from start on.
 fn higher(h: Highest, start: usize, len: usize, s: Score) -> Highest
     requires { ⌜ h .many ≤ 60000 ⌝ }
-    ensures { λ r. ⌜ HigherWith start len (scoreOf s) h r ⌝ }
+    ensures { λ r. ⌜ r ≡ higherWith start len (scoreOf s) h ⌝ }
 {
     if !s.matched {
         return h;
@@ -127,9 +127,8 @@ fn take_one(
     w: Tally,
     buf: &mut [u8],
 ) -> Tally
-    requires { ⌜ IndexedTable (now table) (now index) × FunctionAt (now table) p × ReadAt (now table) p f × (args .count ≤ 16) × Room w ⌝ }
-    ensures { λ r. ⌜ Takes (now (table .entry)) (argsIn (now (area .entry)) (now (lens .entry)) args)
-        (overloadAt (now (table .entry)) p ∷ []) (now (buf .entry)) w (now (buf .exit)) r ⌝ }
+    requires { ⌜ IndexedTable (now table) (now index) × FunctionAt (now table) p × (f ≡ functionAt (now table) p) × (args .count ≤ 16) × Room w ⌝ }
+    ensures { λ r. ⌜ TakesOne table (argsLent area lens args) p buf w r ⌝ }
 {
     let params = f.params;
     let found = w.first;
@@ -159,8 +158,7 @@ fn turn(
     buf: &mut [u8],
 ) -> Tally
     requires { ⌜ IndexedTable (now table) (now index) × FunctionAt (now table) p × (args .count ≤ 16) × Room w ⌝ }
-    ensures { λ r. ⌜ Takes (now (table .entry)) (argsIn (now (area .entry)) (now (lens .entry)) args)
-        (taken own (args .count) (overloadAt (now (table .entry)) p)) (now (buf .entry)) w (now (buf .exit)) r ⌝ }
+    ensures { λ r. ⌜ TakesSome table (argsLent area lens args) (taken (now (table .entry)) own (args .count) p) buf w r ⌝ }
 {
     let f = read_function(table, p);
     if own & f.builtin {
@@ -186,10 +184,9 @@ fn walk(
     count: usize,
 ) -> Tally
     requires { ⌜ IndexedTable (now table) (now index) × (args .count ≤ 16) × (count + mostDiagnostics ≤ countLimit) ⌝ }
-    ensures { λ r. ⌜ TallyIn (now (table .entry)) (argsIn (now (area .entry)) (now (lens .entry)) args) (now (buf .entry)) count (now (buf .exit))
-        (pickedIn (now (table .entry)) own (args .count) owner id) r ⌝ }
+    ensures { λ r. ⌜ TalliesAll table (argsLent area lens args) (pickedIn (now (table .entry)) own (args .count) owner id) count buf r ⌝ }
 {
-    let mut found = first_function(table, index, owner, id);
+    let mut c = Functions::first(table, index, owner, id);
     let mut w = Tally {
         first: Found::Nothing,
         fitting: 0,
@@ -203,18 +200,19 @@ fn walk(
         count,
     };
     loop {
+        let found = c.found();
         let Found::Here(p) = found else {
             return w;
         };
         w = turn(table, index, own, p, area, lens, args, w, buf);
-        found = next_function(table, index, p);
+        c = c.next(table, index);
     }
 }
 
 // A call of functions of which none fits in number.
 fn none_fits(own: bool, node: usize, n: usize, buf: &mut [u8], count: usize) -> Called
     requires { ⌜ count < countLimit ⌝ }
-    ensures { λ r. ⌜ ((t : List ℕ) → CalledIs t (now (buf .entry)) count (now (buf .exit)) (noneFits own node n) r) ⌝ }
+    ensures { λ r. ⌜ AnswersCall errorSource count (noneFits own node n .diags) buf r ⌝ }
 {
     if own {
         let more = report(buf, count, Diagnostic::ARGUMENT_COUNT, node, n);
@@ -253,7 +251,7 @@ fn settle(
     buf: &mut [u8],
 ) -> Called
     requires { ⌜ IndexedTable (now table) (now index) × FunctionAt (now table) p × (args .count ≤ 16) × Room w ⌝ }
-    ensures { λ r. ⌜ Settles (now (table .entry)) p node (argsIn (now (area .entry)) (now (lens .entry)) args) (now (buf .entry)) w (now (buf .exit)) r ⌝ }
+    ensures { λ r. ⌜ SettlesCall table (argsLent area lens args) p node buf w r ⌝ }
 {
     let h = w.highest;
     if h.matched {
@@ -300,8 +298,7 @@ pub fn check_call_args(
     count: usize,
 ) -> Called
     requires { ⌜ IndexedTable (now table) (now index) × (args .count ≤ 16) × (count + mostDiagnostics ≤ countLimit) ⌝ }
-    ensures { λ r. ⌜ CalledIs (now (table .entry)) (now (buf .entry)) count (now (buf .exit))
-        (callAt (now (table .entry)) owner id node (now (area .entry)) (now (lens .entry)) args) r ⌝ }
+    ensures { λ r. ⌜ CallsAt table owner id node area lens args buf count r ⌝ }
 {
     let own = any_own(table, index, owner, id);
     let w = walk(table, index, own, owner, id, area, lens, args, buf, count);

@@ -1,8 +1,13 @@
 // Runs the stored answers through the judge. Standard input has, for each case, table, question and the text that the program prints, each behind its length in
 // 2 bytes, low byte first. Prints how many cases agree; at the first that does not it stops and says which that is, counted from 0.
 ghost use Prim.Native.Nat.{_≤_};
-ghost use Rattle.console.specs.Buffer.{Counts};
-ghost use Rattle.replay.specs.Agreement.{Agreement};
+ghost use lib.ListN.{length};
+ghost use mathlib.Core.Path.{_≡_};
+ghost use Rattle.console.specs.Buffer.{holding};
+ghost use Rattle.judge_text.specs.ProgramText.{answerText};
+ghost use Rattle.replay.specs.Agreement.{agreement, Agreement};
+ghost use Rattle.replay.specs.Inside.CaseRead.{ReadTo, CaseRead};
+ghost use Rattle.typing.specs.Answer.{bufferOf};
 use judge_text::answer_text;
 use ty::id_at;
 use ty::same_bytes;
@@ -25,7 +30,12 @@ fn agrees(
     diagnostics: &mut [u8],
     out: &mut [u8],
 ) -> bool
-    ensures { λ r. ⌜ Agreement (now (table .entry)) (now (question .entry)) (now (expected .entry)) (now (diagnostics .entry)) (now (out .entry)) r ⌝ }
+    ensures answer { λ r. ⌜ r ≡ agreement (now (table .entry)) (now (question .entry)) (now (expected .entry))
+        (length (now (diagnostics .entry))) (length (now (out .entry))) ⌝ }
+    ensures whole { λ r. ⌜ Agreement (now (table .entry)) (now (question .entry)) (now (expected .entry)) (now (diagnostics .entry)) (now (out .entry)) r ⌝ }
+    ensures text { λ _. ⌜ now (out .exit)
+        ≡ holding (length (now (out .entry))) (answerText (now (table .entry)) (now (question .entry)) (length (now (diagnostics .entry)))) ⌝ }
+    ensures buffer { λ _. ⌜ now (diagnostics .exit) ≡ bufferOf (now (table .entry)) (now (question .entry)) (length (now (diagnostics .entry))) ⌝ }
 {
     let n = answer_text(table, question, diagnostics, out);
     same_bytes(&out[..n], expected)
@@ -44,7 +54,7 @@ fn read_length() -> usize
 
 // Reads a length and as many bytes to the front of `space`; 65,536 where they are not all there or do not fit.
 fn read_part(space: &mut [u8]) -> usize
-    ensures { λ r. ⌜ (r ≤ 65535 → Counts r (now (space .exit))) ⌝ }
+    ensures { λ r. ⌜ (r ≤ 65536) × (r ≤ 65535 → ReadTo space r) ⌝ }
 {
     let len = read_length();
     if 65535 < len {
@@ -66,7 +76,9 @@ fn read_case(
     expected: &mut [u8],
     diagnostics: &mut [u8],
     out: &mut [u8],
-) -> u8 {
+) -> u8
+    ensures { λ r. ⌜ CaseRead table question expected diagnostics out r ⌝ }
+{
     let t = read_part(table);
     if 65535 < t {
         return END;
@@ -105,7 +117,10 @@ fn tell(agree: u64, last: u8) {
     io::write_all(1, b"\n");
 }
 
-fn next() -> u8 {
+// The same in slices of its own.
+fn next() -> u8
+    ensures { λ r. ⌜ r ≤ 3 ⌝ }
+{
     let mut table = [0u8; 65535];
     let mut question = [0u8; 65535];
     let mut expected = [0u8; 65535];

@@ -1,2 +1,3 @@
 pub mod MemberLookups
+pub mod MemberRuling
 pub mod Bases

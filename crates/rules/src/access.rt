@@ -8,8 +8,8 @@ use ty::NameId;
 ghost use mathlib.Core.Path.{_≡_};
 ghost use Rattle.index.specs.Inside.IndexedTable.{IndexedTable};
 ghost use Rattle.symbol.specs.Lookup.{symbolsOf};
-ghost use Rattle.rules.specs.Access.{otherPackage, blocked, accessReport};
-ghost use Rattle.operators.specs.Inside.Ruled.{reportsOf};
+ghost use Rattle.rules.specs.Access.{otherPackage, blocked};
+ghost use Rattle.rules.specs.Inside.AccessRule.{accessRuled};
 
 // The numbers of the visibilities.
 pub struct Vis(pub u8);
@@ -56,7 +56,7 @@ pub fn check_access(table: &[u8], index: &[u16], header: Header, vis: u8, owner:
 // What is reported of such a member.
 pub fn access_report(table: &[u8], index: &[u16], header: Header, vis: u8, owner: u16) -> Diagnostic
     requires { ⌜ IndexedTable (now table) (now index) ⌝ }
-    ensures { λ r. ⌜ reportsOf r ≡ accessReport (symbolsOf (now (table .entry))) header vis owner ⌝ }
+    ensures { λ r. ⌜ r ≡ accessRuled (symbolsOf (now (table .entry))) header vis owner ⌝ }
 {
     if check_access(table, index, header, vis, owner) {
         return Diagnostic {

@@ -23,17 +23,14 @@ use symbol::lookups::is_variant;
 use symbol::lookups::visibility_of;
 use ty::Kind;
 use ty::NameId;
-ghost use Prim.Native.Nat.{ℕ};
 ghost use mathlib.Core.Path.{_≡_};
-ghost use mathlib.Core.List.{List};
-ghost use Rattle.ty.specs.Bytes.{innerOf};
 ghost use Rattle.index.specs.Inside.IndexedTable.{IndexedTable};
 ghost use Rattle.symbol.specs.Lookup.{symbolsOf};
-ghost use Rattle.rules.specs.Member.{variableMember, pairMember, collectionMember, stringMember, elementMember, mapMember, firstFunction, lookupVar};
-ghost use Rattle.rules.specs.Member.{classMember, namedMember, ownerReport, memberReport, isNullableObject};
-ghost use Rattle.operators.specs.Inside.Ruled.{reportsOf, oneOut, Gives, TableGives};
-ghost use Rattle.rules.specs.Inside.MemberRuled.{KindMemberGives, MemberRuled};
-ghost use Rattle.rules.specs.Inside.Variable.{variableTy};
+ghost use Rattle.rules.specs.Member.{isNullableObject};
+ghost use Rattle.rules.specs.Inside.AccessRule.{ownerRuled, baseRuled};
+ghost use Rattle.rules.specs.Inside.MemberRule.{variableRuled, pairRuled, collectionRuled, stringRuled, elementRuled, mapRuled};
+ghost use Rattle.rules.specs.Inside.MemberRule.{classRuled, namedRuled, kindRuled, memberRuled};
+ghost use Rattle.rules.specs.Inside.Variable.{functionPlace, variablePlace};
 
 // What a name of a class stands for: nothing, a field or a function, by the part of the table where its type or its result type lies.
 pub enum Variable {
@@ -44,7 +41,7 @@ pub enum Variable {
 
 // A type variable's members.
 fn variable_member(id: u16) -> OneReport
-    ensures { λ r. ⌜ Gives r (variableMember id) ⌝ }
+    ensures { λ r. ⌜ r ≡ variableRuled id ⌝ }
 {
     if id == NameId::TO_STRING {
         return plain(Kind::STRING);
@@ -60,7 +57,7 @@ fn variable_member(id: u16) -> OneReport
 
 // Pair's.
 fn pair_member(id: u16) -> OneReport
-    ensures { λ r. ⌜ Gives r (pairMember id) ⌝ }
+    ensures { λ r. ⌜ r ≡ pairRuled id ⌝ }
 {
     if (id == NameId::FIRST) | (id == NameId::SECOND) {
         return plain(Kind::ANY);
@@ -73,7 +70,7 @@ fn pair_member(id: u16) -> OneReport
 
 // Those of the classes List, ArrayList, MutableList, Array and Set, as names.
 fn collection_member(id: u16) -> OneReport
-    ensures { λ r. ⌜ Gives r (collectionMember id) ⌝ }
+    ensures { λ r. ⌜ r ≡ collectionRuled id ⌝ }
 {
     if (id == NameId::SIZE) | (id == NameId::COUNT) {
         return plain(Kind::INT);
@@ -102,7 +99,7 @@ fn collection_member(id: u16) -> OneReport
 
 // String's.
 fn string_member(id: u16) -> OneReport
-    ensures { λ r. ⌜ Gives r (stringMember id) ⌝ }
+    ensures { λ r. ⌜ r ≡ stringRuled id ⌝ }
 {
     if (id == NameId::LENGTH) | (id == NameId::SIZE) {
         return plain(Kind::INT);
@@ -118,7 +115,7 @@ fn string_member(id: u16) -> OneReport
 
 // A List's or an Array's.
 fn element_member(id: u16) -> OneReport
-    ensures { λ r. ⌜ ((table x y : List ℕ) → oneOut table x y r ≡ elementMember (innerOf x) id) ⌝ }
+    ensures { λ r. ⌜ r ≡ elementRuled id ⌝ }
 {
     if (id == NameId::SIZE) | (id == NameId::COUNT) {
         return plain(Kind::INT);
@@ -139,7 +136,7 @@ fn element_member(id: u16) -> OneReport
 
 // A Map's.
 fn map_member(id: u16) -> OneReport
-    ensures { λ r. ⌜ Gives r (mapMember id) ⌝ }
+    ensures { λ r. ⌜ r ≡ mapRuled id ⌝ }
 {
     if id == NameId::SIZE {
         return plain(Kind::INT);
@@ -153,7 +150,7 @@ fn map_member(id: u16) -> OneReport
 // A class's function of a name.
 fn lookup_function(table: &[u8], index: &[u16], owner: u16, id: u16) -> Variable
     requires { ⌜ IndexedTable (now table) (now index) ⌝ }
-    ensures { λ r. ⌜ variableTy (now (table .entry)) r ≡ firstFunction (symbolsOf (now (table .entry)) .functionsOf owner id) ⌝ }
+    ensures { λ r. ⌜ r ≡ functionPlace (now (table .entry)) owner id ⌝ }
 {
     let found = first_function(table, index, owner, id);
     match found {
@@ -171,7 +168,7 @@ fn lookup_function(table: &[u8], index: &[u16], owner: u16, id: u16) -> Variable
 // A class's field of a name, or else its function.
 fn lookup_var_ty(table: &[u8], index: &[u16], owner: u16, id: u16) -> Variable
     requires { ⌜ IndexedTable (now table) (now index) ⌝ }
-    ensures { λ r. ⌜ variableTy (now (table .entry)) r ≡ lookupVar (symbolsOf (now (table .entry))) owner id ⌝ }
+    ensures { λ r. ⌜ r ≡ variablePlace (now (table .entry)) owner id ⌝ }
 {
     let field = field_of(table, index, owner, id);
     match field {
@@ -184,7 +181,7 @@ fn lookup_var_ty(table: &[u8], index: &[u16], owner: u16, id: u16) -> Variable
 // is in `types`, and Error without a report where it is not.
 fn class_member(table: &[u8], index: &[u16], owner: u16, id: u16) -> OneReport
     requires { ⌜ IndexedTable (now table) (now index) ⌝ }
-    ensures { λ r. ⌜ TableGives (now (table .entry)) r (classMember (symbolsOf (now (table .entry))) owner id) ⌝ }
+    ensures { λ r. ⌜ r ≡ classRuled (now (table .entry)) owner id ⌝ }
 {
     let variable = lookup_var_ty(table, index, owner, id);
     match variable {
@@ -205,7 +202,7 @@ fn class_member(table: &[u8], index: &[u16], owner: u16, id: u16) -> OneReport
 // A Named base's, by its name.
 fn named_member(table: &[u8], index: &[u16], owner: u16, id: u16) -> OneReport
     requires { ⌜ IndexedTable (now table) (now index) ⌝ }
-    ensures { λ r. ⌜ TableGives (now (table .entry)) r (namedMember (symbolsOf (now (table .entry))) owner id) ⌝ }
+    ensures { λ r. ⌜ r ≡ namedRuled (now (table .entry)) owner id ⌝ }
 {
     if is_variable_name(table, index, owner) {
         return variable_member(id);
@@ -222,7 +219,7 @@ fn named_member(table: &[u8], index: &[u16], owner: u16, id: u16) -> OneReport
 // A base's, by its kind. What the elements of a List or an Array are is read off the object.
 fn kind_member(table: &[u8], index: &[u16], base: &[u8], id: u16) -> OneReport
     requires { ⌜ IndexedTable (now table) (now index) ⌝ }
-    ensures { λ r. ⌜ KindMemberGives (now (table .entry)) (now (base .entry)) id r ⌝ }
+    ensures { λ r. ⌜ r ≡ kindRuled (now (table .entry)) (now (base .entry)) id ⌝ }
 {
     let kind = ty::kind_of(base);
     if kind == Kind::NAMED {
@@ -246,7 +243,7 @@ fn kind_member(table: &[u8], index: &[u16], base: &[u8], id: u16) -> OneReport
 // The access check of a member that has a visibility.
 fn visibility_report(table: &[u8], index: &[u16], header: Header, owner: u16, id: u16) -> Diagnostic
     requires { ⌜ IndexedTable (now table) (now index) ⌝ }
-    ensures { λ r. ⌜ reportsOf r ≡ ownerReport (symbolsOf (now (table .entry))) header owner id ⌝ }
+    ensures { λ r. ⌜ r ≡ ownerRuled (symbolsOf (now (table .entry))) header owner id ⌝ }
 {
     let visibility = visibility_of(table, index, owner, id);
     match visibility {
@@ -257,7 +254,7 @@ fn visibility_report(table: &[u8], index: &[u16], header: Header, owner: u16, id
 
 fn member_report(table: &[u8], index: &[u16], header: Header, base: &[u8], id: u16) -> Diagnostic
     requires { ⌜ IndexedTable (now table) (now index) ⌝ }
-    ensures { λ r. ⌜ reportsOf r ≡ memberReport (symbolsOf (now (table .entry))) header (now (base .entry)) id ⌝ }
+    ensures { λ r. ⌜ r ≡ baseRuled (symbolsOf (now (table .entry))) header (now (base .entry)) id ⌝ }
 {
     if ty::kind_of(base) == Kind::NAMED {
         return visibility_report(table, index, header, ty::name_of(base), id);
@@ -276,7 +273,7 @@ fn is_nullable_object(t: &[u8]) -> bool
 // The type of a member of an object, and what is reported.
 pub fn check_member(table: &[u8], index: &[u16], header: Header, id: u16, object: &[u8]) -> Ruled
     requires { ⌜ IndexedTable (now table) (now index) ⌝ }
-    ensures { λ r. ⌜ MemberRuled (now (table .entry)) header id (now (object .entry)) r ⌝ }
+    ensures { λ r. ⌜ r ≡ memberRuled (now (table .entry)) header id (now (object .entry)) ⌝ }
 {
     if is_nullable_object(object) {
         return alone(fails(Diagnostic::NULLABLE_MEMBER));

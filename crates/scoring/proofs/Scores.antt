@@ -1,44 +1,42 @@
 -- Scores in numbers: sums of them, and the two passes one argument at a time.
-use Prim.Native.Nat.{ℕ, _+_, _≤_, _<_}
+use Prim.Native.Nat.{ℕ, _+_, _*_, _≤_, _<_}
 use borrow.Author.Tests.{eq-eqb, ne-eqb, lt-ltb, le-ltb, not-true, not-false}
-use lib.ListN.{getD, set}
-use mathlib.Core.Bool.{Bool, true, false, not, _&&_}
-use mathlib.Core.List.{List}
+use lib.ListN.{getD, set, length}
+use mathlib.Core.Bool.{Bool, true, false, not, _&&_, false≢true}
+use mathlib.Core.List.{List, [], _∷_}
 use mathlib.Core.Option.{Option, none, some}
 use mathlib.Core.Path.{_≡_, refl, sym, ap, _∙_}
 use native.Mathlib.Omega.{arith}
 use Rattle.scoring.proofs.ParamsAndArgsLeft.{argsLeft, args-all, args-next, args-none}
+use Rattle.scoring.proofs.ParamSearch.{placeIn, NamedPlaceIs}
 use Rattle.scoring.proofs.ScoreSums.{plus-zero, plus-assoc}
 use Rattle.area.specs.Inside.Slot.{slotOf}
 use Rattle.scoring.specs.Arg.{Arg}
 use Rattle.scoring.specs.Inside.Args.{nameIn, argsIn}
-use Rattle.scoring.specs.Inside.Params.{paramsIn, paramIn, placeIn, NamedPlaceIs}
-use Rattle.scoring.specs.Inside.Scored.{scoreOf}
-use Rattle.scoring.specs.Score.{plus, compared, comparedWith, markAt, markOne, marksFrom, marksOf, noMarks, namedOne, namedScore, unnamedOne, unnamedScore, positionalScore, score}
+use Rattle.scoring.specs.Inside.Params.{paramsIn, paramIn}
+use Rattle.scoring.specs.Inside.Scored.{scoreOf, asScore}
+use Rattle.scoring.specs.Score.{paramNamed, plus, compared, comparedWith, markAt, markOne, marksFrom, marksOf, noMarks, namedOne, namedScore, unnamedOne, unnamedScore, positionalScore, score}
 use Rattle.scoring.specs.declared.args.Args.{Args}
+use Rattle.scoring.specs.declared.score.NamedPass.{NamedPass}
 use Rattle.scoring.specs.declared.score.Score.{Score}
 use Rattle.rules.specs.Accept.{paramAccepts}
 use Rattle.symbol.specs.Inside.LookupAnswer.{paramAt}
 use Rattle.symbol.specs.Symbols.{Param, Overload, Symbols}
 use Rattle.symbol.specs.declared.functions.Params.{Params}
-use Rattle.ty.proofs.Choice.{choose-yes, choose-no}
+use Rattle.ty.proofs.Choice.{by-choice, choose-yes, choose-no}
 use Rattle.ty.specs.Bytes.{Ty, sameBytes}
 use Rattle.ty.specs.Choose.{choose}
 use Rattle.ty.specs.Name.{noId}
 
-abbrev pub scored : ℕ → Score
-scored n = record { matched = true; points = n }
+-- ---- a score and what it says
+pub score-of : (r : Score) (s : Option ℕ) → r ≡ asScore s → scoreOf r ≡ s
+unfolding scoreOf asScore choose
+score-of r none e = ap (λ (z : Score). scoreOf z) e
+score-of r (some n) e = ap (λ (z : Score). scoreOf z) e
 
-abbrev pub unscored : Score
-unscored = record { matched = false; points = 0 }
-
-pub score-some : (n : ℕ) → scoreOf (scored n) ≡ some n
-unfolding scoreOf choose
-score-some n = refl
-
-pub score-none : scoreOf unscored ≡ none
-unfolding scoreOf choose
-score-none = refl
+-- it says all of itself where it is made of what it says
+pub score-whole : (r : Score) (s : Option ℕ) → r ≡ asScore s → r ≡ asScore (scoreOf r)
+score-whole r s e = e ∙ ap (λ (z : Option ℕ). asScore z) (sym (score-of r s e))
 
 pub matched-none : (s : Score) → not (s .matched) ≡ true → scoreOf s ≡ none
 unfolding scoreOf
@@ -48,15 +46,27 @@ pub matched-some : (s : Score) → not (s .matched) ≡ false → scoreOf s ≡ 
 unfolding scoreOf
 matched-some s e = choose-yes _ _ _ (not-false (s .matched) e)
 
-pub add-scores : (a b : Score) → scoreOf (record { matched = a .matched && b .matched; points = a .points + b .points }) ≡ plus (scoreOf a) (scoreOf b)
-unfolding scoreOf choose plus
-add-scores a b = go (a .matched) (b .matched)
-  where
-    go : (m n : Bool) → choose (m && n) (some (a .points + b .points)) none ≡ plus (choose m (some (a .points)) none) (choose n (some (b .points)) none)
-    go true true = refl
-    go true false = refl
-    go false true = refl
-    go false false = refl
+-- ---- a sum of two
+module _ (a b : Score) where
+  pub add-both : (a .matched && b .matched) ≡ true → record { matched = true; points = a .points + b .points } ≡ asScore (plus (scoreOf a) (scoreOf b))
+  unfolding scoreOf asScore choose plus
+  add-both = go (a .matched) (b .matched)
+    where
+      go : (m n : Bool) → (m && n) ≡ true
+          → record { matched = true; points = a .points + b .points } ≡ asScore (plus (choose m (some (a .points)) none) (choose n (some (b .points)) none))
+      go true true e = refl
+      go true false e = absurd (false≢true e)
+      go false n e = absurd (false≢true e)
+
+  pub add-not : (a .matched && b .matched) ≡ false → record { matched = false; points = 0 } ≡ asScore (plus (scoreOf a) (scoreOf b))
+  unfolding scoreOf asScore choose plus
+  add-not = go (a .matched) (b .matched)
+    where
+      go : (m n : Bool) → (m && n) ≡ false
+          → record { matched = false; points = 0 } ≡ asScore (plus (choose m (some (a .points)) none) (choose n (some (b .points)) none))
+      go true true e = absurd (false≢true (sym e))
+      go true false e = refl
+      go false n e = refl
 
 pub plus-none-more : (a : Option ℕ) → plus a (some 0) ≡ a
 unfolding plus
@@ -92,17 +102,70 @@ module _ (t : List ℕ) (p : Params) (j : ℕ) where
 
 -- ---- an argument against a parameter
 module _ (S : Symbols) (p : Param) (x : Ty) where
-  pub compared-same : sameBytes x (p .ty) ≡ true → scoreOf (scored 2) ≡ compared S p x
-  unfolding compared
-  compared-same e = score-some 2 ∙ sym (choose-yes _ _ _ e)
+  pub compared-same : sameBytes x (p .ty) ≡ true → record { matched = true; points = 2 } ≡ asScore (compared S p x)
+  unfolding compared asScore
+  compared-same e = sym (ap (λ (s : Option ℕ). asScore s) (choose-yes _ _ _ e))
 
-  pub compared-taken : sameBytes x (p .ty) ≡ false → paramAccepts S (p .ty) x (p .vararg) ≡ true → scoreOf (scored 1) ≡ compared S p x
-  unfolding compared
-  compared-taken e f = score-some 1 ∙ sym (choose-no _ _ _ e ∙ choose-yes _ _ _ f)
+  pub compared-taken : sameBytes x (p .ty) ≡ false → paramAccepts S (p .ty) x (p .vararg) ≡ true → record { matched = true; points = 1 } ≡ asScore (compared S p x)
+  unfolding compared asScore
+  compared-taken e f = sym (ap (λ (s : Option ℕ). asScore s) (choose-no _ _ _ e ∙ choose-yes _ _ _ f))
 
-  pub compared-not : sameBytes x (p .ty) ≡ false → paramAccepts S (p .ty) x (p .vararg) ≡ false → scoreOf unscored ≡ compared S p x
-  unfolding compared
-  compared-not e f = score-none ∙ sym (choose-no _ _ _ e ∙ choose-no _ _ _ f)
+  pub compared-not : sameBytes x (p .ty) ≡ false → paramAccepts S (p .ty) x (p .vararg) ≡ false → record { matched = false; points = 0 } ≡ asScore (compared S p x)
+  unfolding compared asScore
+  compared-not e f = sym (ap (λ (s : Option ℕ). asScore s) (choose-no _ _ _ e ∙ choose-no _ _ _ f))
+
+-- ---- at most two points for an argument
+module _ (S : Symbols) where
+  compared-few : (p : Param) (x : Ty) → asScore (compared S p x) .points ≤ 2
+  unfolding compared asScore
+  compared-few p x =
+      by-choice (λ (s : Option ℕ). asScore s .points ≤ 2) _ (λ _. omega arith) λ _.
+      by-choice (λ (s : Option ℕ). asScore s .points ≤ 2) _ (λ _. omega arith) (λ _. omega arith)
+
+  with-few : (o : Option Param) (x : Ty) → asScore (comparedWith S o x) .points ≤ 2
+  unfolding comparedWith asScore
+  with-few none x = omega arith
+  with-few (some p) x = compared-few p x
+
+  pub named-few : (ps : List Param) (m : Option ℕ) (x : Ty) → asScore (namedOne S ps m x) .points ≤ 2
+  unfolding namedOne asScore
+  named-few ps none x = omega arith
+  named-few ps (some id) x = with-few (paramNamed id ps) x
+
+  pub unnamed-few : (f : Option Param) (v : Bool) (m : Option ℕ) (x : Ty) → asScore (unnamedOne S f v m x) .points ≤ 2
+  unfolding unnamedOne asScore
+  unnamed-few f v (some id) x = omega arith
+  unnamed-few (some p) v none x = compared-few p x
+  unnamed-few none true none x = omega arith
+  unnamed-few none false none x = omega arith
+
+-- a score's points, where it is known what it says
+pub points-few : (r : Score) (s : Option ℕ) (n : ℕ) → r ≡ asScore s → asScore s .points ≤ n → r .points ≤ n
+points-few r s n e h = let f : r .points ≡ asScore s .points = ap (λ (z : Score). z .points) e in omega arith
+
+plus-few : (a b : Option ℕ) → asScore (plus a b) .points ≤ asScore a .points + asScore b .points
+unfolding plus asScore
+plus-few none b = omega arith
+plus-few (some a) none = omega arith
+plus-few (some a) (some b) = omega arith
+
+-- the score s of i arguments
+pub record ScoreOfSome (s : Score) (i : ℕ) : Type 0 where
+  pub few : s .points ≤ 2 * i
+  pub whole : s ≡ asScore (scoreOf s)
+
+abbrev pub noPoints : Score
+noPoints = record { matched = true; points = 0 }
+
+pub some-start : ScoreOfSome noPoints 0
+unfolding scoreOf asScore choose
+some-start = record { few = omega arith; whole = refl }
+
+pub some-turn : (s r : Score) (one : Option ℕ) (i : ℕ) → ScoreOfSome s i → r ≡ asScore (plus (scoreOf s) one) → asScore one .points ≤ 2 → ScoreOfSome r (i + 1)
+some-turn s r one i w e h =
+    let f : r .points ≡ asScore (plus (scoreOf s) one) .points = ap (λ (z : Score). z .points) e in
+    let g : s .points ≡ asScore (scoreOf s) .points = ap (λ (z : Score). z .points) (w .whole) in
+    record { few = omega (arith, plus-few (scoreOf s) one, w .few); whole = score-whole r _ e }
 
 -- ---- marks
 module _ (t : List ℕ) (p : Params) (id : ℕ) (marks : List Bool) where
@@ -141,12 +204,12 @@ module _ (S : Symbols) (ps : List Param) (a l : List ℕ) (x : Args) where
     pub score : plus s (namedScore S ps (argsLeft a l x i (x .count))) ≡ namedScore S ps (argsIn a l x)
     pub marked : marksFrom ps marks (argsLeft a l x i (x .count)) ≡ marksOf ps (argsIn a l x)
 
-  pub named-start : NamedFrom (scoreOf (scored 0)) noMarks 0
+  pub named-start : NamedFrom (scoreOf noPoints) noMarks 0
+  unfolding scoreOf choose
   named-start =
       let e = args-all a l x (x .count) in
       record {
-        score = ap (λ (s : Option ℕ). plus s (namedScore S ps (argsLeft a l x 0 (x .count)))) (score-some 0)
-            ∙ plus-zero (namedScore S ps (argsLeft a l x 0 (x .count))) ∙ ap (λ (xs : List Arg). namedScore S ps xs) e;
+        score = plus-zero (namedScore S ps (argsLeft a l x 0 (x .count))) ∙ ap (λ (xs : List Arg). namedScore S ps xs) e;
         marked = ap (λ (xs : List Arg). marksFrom ps noMarks xs) e;
       }
 
@@ -169,6 +232,10 @@ module _ (S : Symbols) (ps : List Param) (a l : List ℕ) (x : Args) where
     pub named-marks : x .count ≤ i → marks ≡ marksOf ps (argsIn a l x)
     unfolding marksFrom
     named-marks h = sym (ap (λ (xs : List Arg). marksFrom ps marks xs) (args-none a l x i (x .count) h)) ∙ w .marked
+
+-- what the pass hands on
+pub pass-is : {s s′ : Score} {m m′ : List Bool} → s ≡ s′ → m ≡ m′ → _≡_ {A = NamedPass} (record { score = s; marks = m }) (record { score = s′; marks = m′ })
+pass-is {s} {s′} {m} {m′} e f = ap (λ (z : Score). record { score = z; marks = m }) e ∙ ap (λ (z : List Bool). record { score = s′; marks = z }) f
 
 -- ---- the positional pass
 module _ (S : Symbols) (t : List ℕ) (p : Params) (j : ℕ) (v : Bool) (id : ℕ) (x : Ty) where
@@ -199,10 +266,10 @@ module _ (S : Symbols) (t : List ℕ) (p : Params) (j : ℕ) (v : Bool) (id : �
         ∙ ap (λ (o : Option Param). unnamedOne S o v none x) (param-missing t p j h) ∙ ap (λ (b : Bool). unnamedOne S none b none x) d)
 
 module _ (S : Symbols) (f : Option Param) (v : Bool) (a l : List ℕ) (x : Args) where
-  pub unnamed-start : plus (scoreOf (scored 0)) (unnamedScore S f v (argsLeft a l x 0 (x .count))) ≡ unnamedScore S f v (argsIn a l x)
+  pub unnamed-start : plus (scoreOf noPoints) (unnamedScore S f v (argsLeft a l x 0 (x .count))) ≡ unnamedScore S f v (argsIn a l x)
+  unfolding scoreOf choose
   unnamed-start =
-      ap (λ (s : Option ℕ). plus s (unnamedScore S f v (argsLeft a l x 0 (x .count)))) (score-some 0)
-      ∙ plus-zero (unnamedScore S f v (argsLeft a l x 0 (x .count))) ∙ ap (λ (xs : List Arg). unnamedScore S f v xs) (args-all a l x (x .count))
+      plus-zero (unnamedScore S f v (argsLeft a l x 0 (x .count))) ∙ ap (λ (xs : List Arg). unnamedScore S f v xs) (args-all a l x (x .count))
 
   module _ (s : Option ℕ) (i : ℕ) (w : plus s (unnamedScore S f v (argsLeft a l x i (x .count))) ≡ unnamedScore S f v (argsIn a l x)) where
     pub unnamed-turn : (s′ : Option ℕ) → i < x .count → s′ ≡ plus s (unnamedOne S f v (nameIn (getD (x .names) i 0)) (slotOf a l (getD (x .nodes) i 0)))
@@ -215,10 +282,33 @@ module _ (S : Symbols) (f : Option Param) (v : Bool) (a l : List ℕ) (x : Args)
     unnamed-done h = sum-done (ap (λ (xs : List Arg). unnamedScore S f v xs) (args-none a l x i (x .count) h)) w
 
 -- ---- both
-pub score-is : (S : Symbols) (o : Overload) (xs : List Arg) (r a b : Option ℕ) (marks : List Bool) → r ≡ plus a b → a ≡ namedScore S (o .params) xs
-    → marks ≡ marksOf (o .params) xs → b ≡ positionalScore S (o .params) marks xs → r ≡ score S o xs
+module _ (S : Symbols) where
+  named-sum-few : (ps : List Param) (xs : List Arg) → asScore (namedScore S ps xs) .points ≤ 2 * length xs
+  unfolding namedScore asScore
+  named-sum-few ps [] = omega arith
+  named-sum-few ps (a ∷ xs) =
+      omega
+      (arith, plus-few (namedOne S ps (a .name) (a .ty)) (namedScore S ps xs), named-few S ps (a .name) (a .ty), named-sum-few ps xs)
+
+  unnamed-sum-few : (f : Option Param) (v : Bool) (xs : List Arg) → asScore (unnamedScore S f v xs) .points ≤ 2 * length xs
+  unfolding unnamedScore asScore
+  unnamed-sum-few f v [] = omega arith
+  unnamed-sum-few f v (a ∷ xs) =
+      omega
+      (arith, plus-few (unnamedOne S f v (a .name) (a .ty)) (unnamedScore S f v xs), unnamed-few S f v (a .name) (a .ty), unnamed-sum-few f v xs)
+
+  module _ (r : Score) (xs : List Arg) (h : length xs ≤ 16) where
+    pub named-total : (ps : List Param) → r ≡ asScore (namedScore S ps xs) → r .points ≤ 64
+    named-total ps e = points-few r _ 64 e (omega (arith, named-sum-few ps xs))
+
+    pub unnamed-total : (f : Option Param) (v : Bool) → r ≡ asScore (unnamedScore S f v xs) → r .points ≤ 64
+    unnamed-total f v e = points-few r _ 64 e (omega (arith, unnamed-sum-few f v xs))
+
+pub score-is : (S : Symbols) (o : Overload) (xs : List Arg) (r n s : Score) (marks : List Bool) → r ≡ asScore (plus (scoreOf n) (scoreOf s))
+    → n ≡ asScore (namedScore S (o .params) xs) → marks ≡ marksOf (o .params) xs → s ≡ asScore (positionalScore S (o .params) marks xs)
+    → r ≡ asScore (score S o xs)
 unfolding score
-score-is S o xs r a b marks e f g h =
-    e ∙ ap (λ (z : Option ℕ). plus z b) f
-    ∙ ap (λ (z : Option ℕ). plus (namedScore S (o .params) xs) z)
-    (h ∙ ap (λ (m : List Bool). positionalScore S (o .params) m xs) g)
+score-is S o xs r n s marks e f g h =
+    e ∙ ap (λ (z : Option ℕ). asScore (plus z (scoreOf s))) (score-of n _ f)
+    ∙ ap (λ (z : Option ℕ). asScore (plus (namedScore S (o .params) xs) z))
+    (score-of s _ h ∙ ap (λ (m : List Bool). positionalScore S (o .params) m xs) g)

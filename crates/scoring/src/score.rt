@@ -5,18 +5,18 @@ use rules::accept::param_accepts;
 use symbol::functions::Function;
 use symbol::functions::Params;
 use ty::NameId;
-ghost use Prim.Native.Nat.{ℕ, _+_, _≤_, _<_};
+ghost use Prim.Native.Nat.{ℕ, _≤_, _<_};
 ghost use mathlib.Core.Path.{_≡_};
 ghost use mathlib.Core.List.{List};
 ghost use Rattle.index.specs.Inside.IndexedTable.{IndexedTable};
 ghost use Rattle.symbol.specs.Lookup.{symbolsOf};
 ghost use Rattle.symbol.specs.Inside.LookupAnswer.{paramAt};
-ghost use Rattle.scoring.specs.Score.{plus, compared, comparedWith, namedOne, unnamedOne, unmarkedFrom, markOne};
+ghost use Rattle.scoring.specs.Score.{plus, compared, comparedWith, namedOne, unnamedOne, markOne};
 ghost use Rattle.scoring.specs.Inside.Args.{nameIn, argsIn};
-ghost use Rattle.scoring.specs.Inside.Params.{paramsIn, paramIn, NamedPlaceIs};
-ghost use Rattle.scoring.specs.Inside.Scored.{scoreOf, ScoreUpTo, mostPoints, NamedPassMore, NamedPassIs, positionalIn, scoreIn};
+ghost use Rattle.scoring.specs.Inside.Params.{paramsIn, paramIn, namedPlace, freePlace};
+ghost use Rattle.scoring.specs.Inside.Scored.{scoreOf, asScore, namedMore, namedIn, positionalIn, scoreIn};
 
-// Whether there is a match, and the score.
+// Whether there is a match, and the score, 0 where there is none.
 pub struct Score {
     pub matched: bool,
     pub points: usize,
@@ -30,18 +30,24 @@ pub struct NamedPass {
 
 fn add(a: Score, b: Score) -> Score
     requires { ⌜ (a .points ≤ 64) × (b .points ≤ 64) ⌝ }
-    ensures { λ r. ⌜ (scoreOf r ≡ plus (scoreOf a) (scoreOf b)) × (r .points ≡ a .points + b .points) ⌝ }
+    ensures { λ r. ⌜ r ≡ asScore (plus (scoreOf a) (scoreOf b)) ⌝ }
 {
+    if a.matched & b.matched {
+        return Score {
+            matched: true,
+            points: a.points + b.points,
+        };
+    }
     Score {
-        matched: a.matched & b.matched,
-        points: a.points + b.points,
+        matched: false,
+        points: 0, // none without a match
     }
 }
 
 // The place of the first parameter of a name, or how many there are.
 pub fn named_place(params: Params, id: u16) -> usize
     requires { ⌜ params .count ≤ 16 ⌝ }
-    ensures { λ r. ⌜ ((t : List ℕ) → NamedPlaceIs t params id r) ⌝ }
+    ensures { λ r. ⌜ ((t : List ℕ) → r ≡ namedPlace t params id) ⌝ }
 {
     let mut j: usize = 0;
     while j < params.count {
@@ -56,7 +62,7 @@ pub fn named_place(params: Params, id: u16) -> usize
 // The place of the first parameter without a mark, or how many there are.
 fn free_place(params: Params, marks: [bool; 16]) -> usize
     requires { ⌜ params .count ≤ 16 ⌝ }
-    ensures { λ r. ⌜ ((t : List ℕ) → unmarkedFrom 0 (paramsIn t params) marks ≡ paramIn t params r) ⌝ }
+    ensures { λ r. ⌜ r ≡ freePlace marks 0 (params .count) ⌝ }
 {
     let mut j: usize = 0;
     while j < params.count {
@@ -71,7 +77,7 @@ fn free_place(params: Params, marks: [bool; 16]) -> usize
 // An argument of the type x against the parameter at place j.
 fn compare(table: &[u8], index: &[u16], params: Params, j: usize, x: &[u8]) -> Score
     requires { ⌜ IndexedTable (now table) (now index) × (j < 16) ⌝ }
-    ensures { λ r. ⌜ ScoreUpTo 2 (compared (symbolsOf (now (table .entry))) (paramAt (now (table .entry)) params j) (now (x .entry))) r ⌝ }
+    ensures { λ r. ⌜ r ≡ asScore (compared (symbolsOf (now (table .entry))) (paramAt (now (table .entry)) params j) (now (x .entry))) ⌝ }
 {
     let p = area::part(table, params.starts[j], params.lens[j]);
     if ty::same_bytes(x, p) {
@@ -95,7 +101,7 @@ fn compare(table: &[u8], index: &[u16], params: Params, j: usize, x: &[u8]) -> S
 // The same where there may be no parameter at place j.
 fn compare_with(table: &[u8], index: &[u16], params: Params, j: usize, x: &[u8]) -> Score
     requires { ⌜ IndexedTable (now table) (now index) × (params .count ≤ 16) ⌝ }
-    ensures { λ r. ⌜ ScoreUpTo 2 (comparedWith (symbolsOf (now (table .entry))) (paramIn (now (table .entry)) params j) (now (x .entry))) r ⌝ }
+    ensures { λ r. ⌜ r ≡ asScore (comparedWith (symbolsOf (now (table .entry))) (paramIn (now (table .entry)) params j) (now (x .entry))) ⌝ }
 {
     if j < params.count {
         return compare(table, index, params, j, x);
@@ -109,7 +115,7 @@ fn compare_with(table: &[u8], index: &[u16], params: Params, j: usize, x: &[u8])
 // An argument in the named pass.
 fn named_one(table: &[u8], index: &[u16], params: Params, id: u16, x: &[u8]) -> Score
     requires { ⌜ IndexedTable (now table) (now index) × (params .count ≤ 16) ⌝ }
-    ensures { λ r. ⌜ ScoreUpTo 2 (namedOne (symbolsOf (now (table .entry))) (paramsIn (now (table .entry)) params) (nameIn id) (now (x .entry))) r ⌝ }
+    ensures { λ r. ⌜ r ≡ asScore (namedOne (symbolsOf (now (table .entry))) (paramsIn (now (table .entry)) params) (nameIn id) (now (x .entry))) ⌝ }
 {
     if id == NameId::NONE {
         return Score {
@@ -147,7 +153,7 @@ fn named_turn(
     m: NamedPass,
 ) -> NamedPass
     requires { ⌜ IndexedTable (now table) (now index) × (params .count ≤ 16) × (m .score .points ≤ 64) ⌝ }
-    ensures { λ r. ⌜ NamedPassMore (now (table .entry)) params id (now (x .entry)) m r ⌝ }
+    ensures { λ r. ⌜ r ≡ namedMore (now (table .entry)) params id (now (x .entry)) m ⌝ }
 {
     let before = m.score;
     let marked = m.marks;
@@ -166,7 +172,7 @@ fn named_pass(
     args: Args,
 ) -> NamedPass
     requires { ⌜ IndexedTable (now table) (now index) × (params .count ≤ 16) × (args .count ≤ 16) ⌝ }
-    ensures { λ r. ⌜ NamedPassIs (now (table .entry)) params (argsIn (now (area .entry)) (now (lens .entry)) args) r ⌝ }
+    ensures { λ r. ⌜ r ≡ namedIn (now (table .entry)) params (argsIn (now (area .entry)) (now (lens .entry)) args) ⌝ }
 {
     let marks = [false; 16];
     let mut m = NamedPass {
@@ -196,7 +202,7 @@ fn unnamed_one(
     x: &[u8],
 ) -> Score
     requires { ⌜ IndexedTable (now table) (now index) × (params .count ≤ 16) ⌝ }
-    ensures { λ r. ⌜ ScoreUpTo 2 (unnamedOne (symbolsOf (now (table .entry))) (paramIn (now (table .entry)) params j) v (nameIn id) (now (x .entry))) r ⌝ }
+    ensures { λ r. ⌜ r ≡ asScore (unnamedOne (symbolsOf (now (table .entry))) (paramIn (now (table .entry)) params j) v (nameIn id) (now (x .entry))) ⌝ }
 {
     if id != NameId::NONE {
         return Score {
@@ -230,7 +236,7 @@ fn positional_pass(
     args: Args,
 ) -> Score
     requires { ⌜ IndexedTable (now table) (now index) × (params .count ≤ 16) × (args .count ≤ 16) ⌝ }
-    ensures { λ r. ⌜ ScoreUpTo mostPoints (positionalIn (now (table .entry)) params marks (argsIn (now (area .entry)) (now (lens .entry)) args)) r ⌝ }
+    ensures { λ r. ⌜ r ≡ asScore (positionalIn (now (table .entry)) params marks (argsIn (now (area .entry)) (now (lens .entry)) args)) ⌝ }
 {
     let j = free_place(params, marks);
     let v = last_vararg(params);
@@ -260,7 +266,7 @@ pub fn score_function(
     args: Args,
 ) -> Score
     requires { ⌜ IndexedTable (now table) (now index) × (f .params .count ≤ 16) × (args .count ≤ 16) ⌝ }
-    ensures { λ r. ⌜ scoreOf r ≡ scoreIn (now (table .entry)) f (argsIn (now (area .entry)) (now (lens .entry)) args) ⌝ }
+    ensures { λ r. ⌜ r ≡ asScore (scoreIn (now (table .entry)) f (argsIn (now (area .entry)) (now (lens .entry)) args)) ⌝ }
 {
     let params = f.params;
     let named = named_pass(table, index, params, area, lens, args);

@@ -15,6 +15,7 @@ use Rattle.record.proofs.Own.{drop-take}
 use Rattle.symbol.specs.Inside.LookupAnswer.{paramAt, paramsRow}
 use Rattle.record.specs.Inside.Keyed.{typeLength}
 use Rattle.symbol.specs.Inside.FoundSymbols.{paramOf, paramsFrom}
+use Rattle.symbol.specs.Inside.FunctionFields.{paramNext, paramsAdded}
 use Rattle.symbol.specs.Inside.ParamsRow.{part, ParamsAt, paramAdded, noParams, ParamsAre}
 use Rattle.symbol.specs.Symbols.{Param}
 use Rattle.symbol.specs.declared.functions.Params.{Params}
@@ -55,11 +56,6 @@ module _ (t : List ℕ) where
   row-same p q i (suc n) h =
       let l : i < i + suc n = omega arith in
       rw (h i l) (ap (λ (x : List Param). paramAt t p i ∷ x) (row-same p q (suc i) n (λ j k. h j (omega arith))))
-
-  -- a row can be taken apart at each parameter
-  pub row-rest : (p : Params) (i n : ℕ) → paramsRow t p i (suc n) ≡ paramAt t p i ∷ paramsRow t p (suc i) n
-  unfolding paramsRow
-  row-rest p i n = refl
 
   pub row-length : (p : Params) (i n : ℕ) → length (paramsRow t p i n) ≡ n
   unfolding paramsRow
@@ -247,3 +243,54 @@ module _ (t : List ℕ) (from end count : ℕ) (high : end ≤ length t) (most :
                         types-added p name (eqb (flag % 2) 1) (leb 2 flag) (at + 3) len (g .sized) (omega arith) t (omega (arith, row-room))
                         (λ i l. g .types i l);
                   }
+
+-- ---- the rows that are read
+module _ (t : List ℕ) (from end count : ℕ) (high : end ≤ length t) (most : count ≤ 16) where
+  -- n parameters more, where that many are left
+  rows-are : (n at : ℕ) (p : Params) → RowGoing t from end count at p → count - p .count ≡ n
+      → ParamsAre t (paramsFrom count (part t from end)) count (paramsAdded t end n at p)
+  unfolding paramsAdded
+  rows-are zero at p g e = row-done t from end count high most at p g (omega arith)
+  rows-are (suc n) at p g e =
+      rows-are n (at + 3 + typeLength (part t (at + 3) end)) (paramNext t end at p)
+      (row-next t from end count high most at p g (omega arith) _ refl _ _ refl refl (paramNext t end at p) refl) (omega arith)
+
+  -- THE PARAMETERS AS THEY ARE READ are those of the record
+  pub rows-read : from ≤ end → ParamsAt count (part t from end)
+      → ParamsAre t (paramsFrom count (part t from end)) count (paramsAdded t end count from noParams)
+  rows-read h r = rows-are count from noParams (row-starts t from end count high most noParams refl h r) (omega arith)
+
+-- the loop reads them one after the other
+pub record RowReading (t : List ℕ) (from end count at : ℕ) (p : Params) : Type 0 where
+  pub going : RowGoing t from end count at p
+  pub same : paramsAdded t end (count - p .count) at p ≡ paramsAdded t end count from noParams
+
+module _ (t : List ℕ) (from end count : ℕ) (high : end ≤ length t) (most : count ≤ 16) where
+  pub reading-starts : (p : Params) → p ≡ noParams → from ≤ end → ParamsAt count (part t from end) → RowReading t from end count from p
+  reading-starts p e h r =
+      record {
+        going = row-starts t from end count high most p e h r;
+        same = ap (λ (x : Params). paramsAdded t end (count - x .count) from x) e
+            ∙ ap (λ (n : ℕ). paramsAdded t end n from noParams) (sub-zero count);
+      }
+
+  module _ (at : ℕ) (p : Params) (g : RowReading t from end count at p) where
+    pub reading-done : count ≤ p .count → p ≡ paramsAdded t end count from noParams
+    reading-done h = let z : 0 ≡ count - p .count = omega arith in none ∙ ap (λ (n : ℕ). paramsAdded t end n at p) z ∙ g .same
+      where
+        none : p ≡ paramsAdded t end 0 at p
+        none = unfold paramsAdded in refl
+
+    pub reading-next : p .count < count → (len : ℕ) → len ≡ typeLength (part t (at + 3) end) → (name flag : ℕ) → name ≡ idAt t at → flag ≡ getD t (at + 2) 0
+        → (r : Params) → r ≡ paramAdded p name (eqb (flag % 2) 1) (leb 2 flag) (at + 3) len → RowReading t from end count (at + 3 + len) r
+    reading-next more len is name flag isName isFlag r e =
+        let q : r ≡ paramNext t end at p = e ∙ (λ i. paramAdded p (isName i) (eqb (isFlag i % 2) 1) (leb 2 (isFlag i)) (at + 3) (is i)) in
+        let l : suc (count - (p .count + 1)) ≡ count - p .count = omega arith in
+        record {
+          going = row-next t from end count high most at p (g .going) more len is name flag isName isFlag r e;
+          same = (λ i. paramsAdded t end (count - q i .count) (at + 3 + is i) (q i)) ∙ one ∙ ap (λ (n : ℕ). paramsAdded t end n at p) l ∙ g .same;
+        }
+      where
+        one : paramsAdded t end (count - (p .count + 1)) (at + 3 + typeLength (part t (at + 3) end)) (paramNext t end at p)
+            ≡ paramsAdded t end (suc (count - (p .count + 1))) at p
+        one = unfold paramsAdded in refl

@@ -3,10 +3,10 @@ use Prim.Native.Nat.{ℕ, _+_, _-_, _≤_, _<_}
 use lib.Dec.{eqb}
 use lib.ListN.{length, getD, drop, take}
 use mathlib.Core.List.{List}
-use mathlib.Core.Path.{_≡_, sym, ap, _∙_}
+use mathlib.Core.Path.{_≡_, refl, sym, ap, _∙_, subst}
 use native.Mathlib.Omega.{arith}
 use Rattle.record.proofs.Agree.{same-size}
-use Rattle.symbol.proofs.Arrays.{part-from, part-length, part-byte, part-take}
+use Rattle.symbol.proofs.Arrays.{part-from, part-length, part-byte, part-take, rows-read}
 use Rattle.index.proofs.ListSearch.{sits-own, sits-inside, function-kind, function-error}
 use Rattle.symbol.proofs.LaidLookups.{function-same}
 use Rattle.record.proofs.RecordSizes.{head-fits}
@@ -17,11 +17,13 @@ use Rattle.record.specs.Inside.Front.{headOf}
 use Rattle.record.specs.Inside.Keyed.{typeLength}
 use Rattle.symbol.specs.Inside.FoundSymbols.{paramsFrom, overloadFound}
 use Rattle.record.specs.Inside.FrontRecord.{frontRecord}
-use Rattle.symbol.specs.Inside.ParamsRow.{part, ParamsAt, ParamsAre}
+use Rattle.symbol.specs.Inside.FunctionFields.{paramsAdded, functionUntil, functionAt}
+use Rattle.symbol.specs.Inside.ParamsRow.{part, ParamsAt, noParams, ParamsAre}
 use Rattle.symbol.specs.Lookup.{overloadOf}
 use Rattle.symbol.specs.Symbols.{Overload}
 use Rattle.record.specs.Inside.Walk.{behind}
 use Rattle.record.specs.declared.front.Head.{Head}
+use Rattle.symbol.specs.declared.functions.Function.{Function}
 use Rattle.symbol.specs.declared.functions.Params.{Params}
 use Rattle.index.specs.declared.index.Place.{Place}
 
@@ -85,7 +87,7 @@ module _ (t : List ℕ) (p : Place) (f : FunctionAt t p) (end : ℕ) (is-end : e
       pub function-row : ParamsAt n (part t (p .at + 8 + len) end)
       function-row = rw (← many, ← rest) (function-is .row)
 
-      pub function-read : (v b : ℕ) → v ≡ getD t (p .at + 5) 0 → b ≡ getD t (p .at + 6) 0 → (ps : Params)
+      function-read : (v b : ℕ) → v ≡ getD t (p .at + 5) 0 → b ≡ getD t (p .at + 6) 0 → (ps : Params)
           → ParamsAre t (paramsFrom n (part t (p .at + 8 + len) end)) n ps
           → FunctionRead t (overloadAt t p) (record { builtin = eqb b 1; visibility = v; start = p .at + 8; len = len; params = ps })
       unfolding overloadFound
@@ -102,3 +104,27 @@ module _ (t : List ℕ) (p : Place) (f : FunctionAt t p) (end : ℕ) (is-end : e
             count = omega (arith, h .count, function-count);
             types = λ i l. h .types i (omega (arith, h .count));
           }
+
+      pub function-fields : (v b : ℕ) → v ≡ getD t (p .at + 5) 0 → b ≡ getD t (p .at + 6) 0 → (ps : Params)
+          → ps ≡ paramsAdded t end n (p .at + 8 + len) noParams
+          → record { builtin = eqb b 1; visibility = v; start = p .at + 8; len = len; params = ps } ≡ functionAt t p
+      unfolding functionAt
+      function-fields v b ev eb ps h =
+          let q = h ∙ (λ i. paramsAdded t end (count i) (p .at + 8 + is i) noParams) in
+          let e = is-end ∙ ap (λ (k : ℕ). p .at + k) (same-size (drop (p .at) t)) in
+          (λ i. record { builtin = eqb (eb i) 1; visibility = ev i; start = p .at + 8; len = is i; params = q i }) ∙ ap (functionUntil t (p .at)) e
+
+-- A FUNCTION AS IT IS READ is the overload of its record
+pub function-at-read : (t : List ℕ) (p : Place) → FunctionAt t p → FunctionRead t (overloadAt t p) (functionAt t p)
+unfolding functionAt
+function-at-read t p f =
+    let e = behind t (p .at) in
+    let n = typeLength (part t (p .at + 8) e) in
+    let k = getD t (p .at + 7) 0 in
+    let rows = rows-read t (p .at + 8 + n) e k (function-inside t p f e refl) (function-count t p f e refl n refl k refl) (function-room t p f e refl n refl)
+    (function-row t p f e refl n refl k refl) in
+    subst (λ (z : ℕ). FunctionRead t (overloadAt t p) (functionUntil t (p .at) (p .at + z))) (same-size (drop (p .at) t))
+    (function-read t p f e refl n refl k refl _ _ refl refl (paramsAdded t e k (p .at + 8 + n) noParams) rows)
+
+pub read-is : (t : List ℕ) (p : Place) → FunctionAt t p → (f : Function) → f ≡ functionAt t p → FunctionRead t (overloadAt t p) f
+read-is t p h f e = subst (λ (z : Function). FunctionRead t (overloadAt t p) z) (sym e) (function-at-read t p h)

@@ -1,6 +1,7 @@
 pub mod LaidFunctions
 pub mod Verdicts
 pub mod LaidLookups
+pub mod PlacesFound
 pub mod SuperLate
 pub mod Wholes
 pub mod Arrays
@@ -8,6 +9,7 @@ pub mod Names
 pub mod NamesFirst
 pub mod NamesFit
 pub mod Joins
+pub mod LateMakes
 pub mod Passes
 pub mod Ranks
 pub mod Subclasses
@@ -15,6 +17,8 @@ pub mod RecordCases
 pub mod FunctionsRead
 pub mod TableCases
 pub mod FunctionLists
+pub mod FieldPlaces
+pub mod FunctionCursors
 pub mod AcceptedTable
 pub mod SearchMeetsKey
 pub mod IndexMakes

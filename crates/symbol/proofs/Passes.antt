@@ -4,7 +4,7 @@ use borrow.Author.Tests.{eq-eqb, ne-eqb}
 use lib.Dec.{eqb}
 use lib.ListN.{length, getD, drop, set}
 use lib.Seq.{drop-cons, getD-set-same, getD-set-other}
-use mathlib.Core.Bool.{Bool, true, false}
+use mathlib.Core.Bool.{Bool, true, false, _||_}
 use mathlib.Core.List.{List, [], _∷_}
 use mathlib.Core.Path.{_≡_, refl, sym, ap, _∙_, subst}
 use native.Mathlib.Omega.{arith}
@@ -17,6 +17,7 @@ use Rattle.record.proofs.Faults.{fault-stop, fault-on, own-number, key-number, 
 use Rattle.record.proofs.Laid.{same-count}
 use Rattle.symbol.proofs.Joins.{Joining, joining}
 use Rattle.symbol.proofs.IndexMakes.{placed-joined}
+use Rattle.symbol.proofs.LateMakes.{look-after, look-seen}
 use Rattle.symbol.proofs.NamesFit.{id-low, super-defined}
 use Rattle.record.proofs.Records.{here-cons, at-next, before-next, records-end, at-new}
 use Rattle.index.proofs.SearchTrees.{tree-same, tree-start}
@@ -34,6 +35,7 @@ use Rattle.record.specs.Table.{Record, recordsOf}
 use Rattle.index.specs.Inside.Index.{rootAt, firstAt, childAt, nextAt}
 use Rattle.symbol.specs.Inside.Join.{EntryIs, KeyAsked, JoinAsked, indexJoined}
 use Rattle.symbol.specs.Inside.IndexMade.{placed}
+use Rattle.symbol.specs.Inside.LateMade.{lateLooked}
 use Rattle.index.specs.Inside.SearchTree.{Tree}
 use Rattle.symbol.specs.declared.checks.Checked.{Checked}
 use Rattle.symbol.specs.declared.checks.Entry.{Entry}
@@ -162,8 +164,14 @@ module _ (t x late : List ℕ) (c : Cursor) (k n : ℕ) (looked : Bool) (g : Goi
             record { stands = stands; whole = whole; planted = record { short = h; entered = g .entered; tree = g .tree } }
 
         -- beside the others
-        module _ (late′ : List ℕ) (more : length late′ ≡ length late) (looked′ missing : Bool) (look : Looked t late′ (c .at) looked′) (seen : missing ≡ true → looked′ ≡ true)
-            (is : missing ≡ superMissing (before (c .index) (recordsOf t)) (recordAt t c)) (e : Entry) (entry : EntryIs t x c e) where
+        module _ (late′ : List ℕ) (more : length late′ ≡ length late) (looked′ missing : Bool) (turned : looked′ ≡ (looked || missing))
+            (made : late′ ≡ lateLooked t (c .at) missing looked late) (is : missing ≡ superMissing (before (c .index) (recordsOf t)) (recordAt t c)) (e : Entry) (entry : EntryIs t x c e) where
+          look : Looked t late′ (c .at) looked′
+          look = look-after t (c .at) late (record { index = c .index; at = g .at }) missing looked (g .ahead) late′ looked′ turned made
+
+          seen : missing ≡ true → looked′ ≡ true
+          seen = look-seen t (c .at) late (record { index = c .index; at = g .at }) missing looked (g .ahead) late′ looked′ turned made
+
           pub going-key : KeyAsked t late′ c (p .head) e missing
           going-key =
               record {

@@ -5,3 +5,7 @@ pub mod LookupAnswer
 pub mod ParamsRow
 pub mod Checked
 pub mod FoundSymbols
+pub mod Places
+pub mod FunctionFields
+pub mod LateMade
+pub mod FunctionCursor

@@ -20,17 +20,18 @@ use record::walk::Cursor;
 use ty::NameId;
 use ty::name::id_defined;
 ghost use mathlib.Core.Path.{_≡_};
-ghost use mathlib.Core.Bool.{true};
+ghost use mathlib.Core.Bool.{_||_};
 ghost use Prim.Native.Nat.{_≤_};
 ghost use lib.Dec.{eqb};
 ghost use lib.ListN.{length};
 ghost use Rattle.ty.specs.Choose.{choose};
 ghost use Rattle.index.specs.Inside.Index.{shortTable};
-ghost use Rattle.index.specs.Inside.Ahead.{Looked, LateRoom};
+ghost use Rattle.index.specs.Inside.Ahead.{LateRoom};
 ghost use Rattle.symbol.specs.Inside.Asked.{Asked, Prepared, Planted, superMissingAt, ownFaultAt, keyFaultAt};
 ghost use Rattle.symbol.specs.Inside.Join.{takenOf, EntryIs, KeyAsked, JoinAsked, indexJoined};
 ghost use Rattle.index.specs.Inside.SearchKey.{keyAt};
 ghost use Rattle.symbol.specs.Inside.IndexMade.{indexMade};
+ghost use Rattle.symbol.specs.Inside.LateMade.{lateLooked, lateMade};
 ghost use Rattle.record.specs.Inside.HeadFault.{isBuiltinName, hasClass};
 ghost use Rattle.record.specs.TableRefused.{tableFault};
 ghost use Rattle.record.specs.Table.{recordsOf};
@@ -96,8 +97,8 @@ fn super_missing(t: &[u8], x: &[u16], me: Cursor, h: Head) -> bool
 
 // Looks ahead for the classes, once, where a superclass has no earlier record; answers whether that was done.
 fn look(t: &[u8], me: Cursor, late: &mut [u16], missing: bool, looked: bool) -> bool
-    requires { ⌜ CursorAt (now t) me × (length (now t) ≤ 60000) × Looked (now t) (now late) (me .at) looked ⌝ }
-    ensures { λ r. ⌜ Looked (now (t .entry)) (now (late .exit)) (me .at) r × (missing ≡ true → r ≡ true) ⌝ }
+    requires { ⌜ CursorAt (now t) me × (length (now t) ≤ 60000) ⌝ }
+    ensures { λ r. ⌜ (r ≡ (looked || missing)) × (now (late .exit) ≡ lateLooked (now (t .entry)) (me .at) missing looked (now (late .entry))) ⌝ }
 {
     if looked {
         return true;
@@ -225,6 +226,7 @@ fn check_records(t: &[u8], x: &mut [u16], late: &mut [u16]) -> Checked
     ensures { λ r. ⌜ r ≡ checkedOf (now (t .entry)) ⌝ }
     ensures { λ r. ⌜ (tableFault (now (t .entry)) ≡ 0 → IndexedTable (now (t .entry)) (now (x .exit))) ⌝ }
     ensures { λ _. ⌜ now (x .exit) ≡ indexMade (now (t .entry)) (now (x .entry)) ⌝ }
+    ensures { λ _. ⌜ now (late .exit) ≡ lateMade (now (t .entry)) (now (late .entry)) ⌝ }
 {
     let mut c = Cursor::new();
     let mut kind: u8 = 0;

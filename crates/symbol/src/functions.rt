@@ -11,11 +11,11 @@ ghost use mathlib.Core.Path.{_≡_};
 ghost use mathlib.Core.Bool.{false};
 ghost use Prim.Native.Nat.{_+_, _≤_, _<_};
 ghost use lib.ListN.{length};
-ghost use Rattle.symbol.specs.Inside.LookupAnswer.{overloadAt, FunctionRead};
+ghost use Rattle.symbol.specs.Inside.LookupAnswer.{overloadAt};
+ghost use Rattle.symbol.specs.Inside.FunctionFields.{paramsAdded, functionAt};
 ghost use Rattle.index.specs.Inside.Found.{FunctionAt};
 ghost use Rattle.record.specs.Inside.Keyed.{wholeLength, typeLength};
-ghost use Rattle.symbol.specs.Inside.FoundSymbols.{paramsFrom};
-ghost use Rattle.symbol.specs.Inside.ParamsRow.{part, ParamsAt, paramAdded, noParams, ParamsAre};
+ghost use Rattle.symbol.specs.Inside.ParamsRow.{part, ParamsAt, paramAdded, noParams};
 ghost use Rattle.record.specs.Inside.Walk.{behind};
 
 // The parameters of a function: how many, and of each its name, whether it has a default and is vararg, and where its type lies in the table.
@@ -110,7 +110,7 @@ fn type_length(t: &[u8], from: usize, end: usize) -> usize
 // The parameters that begin at from, in the bytes before end.
 fn read_params(t: &[u8], from: usize, end: usize, count: usize) -> Params
     requires { ⌜ (from ≤ end) × (end ≤ length (now t)) × (count ≤ 16) × ParamsAt count (part (now t) from end) ⌝ }
-    ensures { λ r. ⌜ ParamsAre (now (t .entry)) (paramsFrom count (part (now (t .entry)) from end)) count r ⌝ }
+    ensures { λ r. ⌜ r ≡ paramsAdded (now (t .entry)) end count from noParams ⌝ }
 {
     let mut at = from;
     let mut p = Params::new();
@@ -127,7 +127,7 @@ fn read_params(t: &[u8], from: usize, end: usize, count: usize) -> Params
 // The function at a place, whose record ends before `end`.
 fn read_whole(t: &[u8], p: Place, end: usize) -> Function
     requires { ⌜ FunctionAt (now t) p × (end ≡ behind (now t) (p .at)) ⌝ }
-    ensures { λ r. ⌜ FunctionRead (now (t .entry)) (overloadAt (now (t .entry)) p) r ⌝ }
+    ensures { λ r. ⌜ r ≡ functionAt (now (t .entry)) p ⌝ }
 {
     let at = p.at;
     let start = at + 8;
@@ -145,7 +145,7 @@ fn read_whole(t: &[u8], p: Place, end: usize) -> Function
 // The function at a place.
 pub fn read_function(t: &[u8], p: Place) -> Function
     requires { ⌜ FunctionAt (now t) p ⌝ }
-    ensures { λ r. ⌜ FunctionRead (now (t .entry)) (overloadAt (now (t .entry)) p) r ⌝ }
+    ensures { λ r. ⌜ r ≡ functionAt (now (t .entry)) p ⌝ }
 {
     let at = p.at;
     let h = read_record(tail(t, at));

@@ -1,12 +1,7 @@
 // Lookups in an accepted table.
 use index::index::Found;
-use index::index::Place;
-use index::index::bucket_count;
-use index::index::child_at;
 use index::index::entry_at;
-use index::index::key_bucket;
-use index::index::list_reduced;
-use index::list::follow;
+use index::list::ListCursor;
 use index::tree::seek;
 use record::front::read_record;
 use ty::NameId;
@@ -15,8 +10,9 @@ use ty::id_at;
 use ty::tail;
 ghost use mathlib.Core.Path.{_≡_};
 ghost use Rattle.index.specs.Inside.IndexedTable.{IndexedTable};
-ghost use Rattle.symbol.specs.Inside.LookupAnswer.{partOf, PartIn, maskOf, visibilityOf, functionsBehind, FunctionFound};
-ghost use Rattle.index.specs.Inside.Found.{FunctionAt};
+ghost use Rattle.symbol.specs.Inside.LookupAnswer.{maskOf, visibilityOf};
+ghost use Rattle.symbol.specs.Inside.Places.{firstPlace, functionPlaces, fieldPart};
+ghost use Rattle.symbol.specs.Inside.FunctionCursor.{functionsFirst, foundHere, functionsNext, AtFunction};
 ghost use Rattle.symbol.specs.Lookup.{symbolsOf};
 
 // A part of the table.
@@ -88,7 +84,7 @@ pub fn operators_of(t: &[u8], x: &[u16], class: u16) -> Mask
 // The type of a field.
 pub fn field_of(t: &[u8], x: &[u16], owner: u16, name: u16) -> Part
     requires { ⌜ IndexedTable (now t) (now x) ⌝ }
-    ensures { λ r. ⌜ (partOf (now (t .entry)) r ≡ symbolsOf (now (t .entry)) .fieldOf owner name) × PartIn (now (t .entry)) r ⌝ }
+    ensures { λ r. ⌜ r ≡ fieldPart (now (t .entry)) owner name ⌝ }
 {
     let f = seek(t, x, 5, owner, name);
     match f {
@@ -139,23 +135,46 @@ pub fn is_variant(t: &[u8], x: &[u16], owner: u16, name: u16) -> bool
     }
 }
 
+// A place in the list of functions of an owner, which may be NameId::NONE, and a name: at one of them, or at the list's end.
+pub struct Functions {
+    pub list: ListCursor,
+}
+
+impl Functions {
+    // At the first of them.
+    pub fn first(t: &[u8], x: &[u16], owner: u16, name: u16) -> Functions
+        requires { ⌜ IndexedTable (now t) (now x) ⌝ }
+        ensures { λ r. ⌜ r ≡ functionsFirst (now (t .entry)) owner name ⌝ }
+    {
+        let start = ListCursor::new(t, x, owner, name);
+        let list = start.follow(t, x);
+        Functions { list }
+    }
+
+    // At the next of them.
+    pub fn next(self, t: &[u8], x: &[u16]) -> Functions
+        requires { ⌜ IndexedTable (now t) (now x) × AtFunction (now t) self ⌝ }
+        ensures { λ r. ⌜ r ≡ functionsNext (now (t .entry)) self ⌝ }
+    {
+        let step = self.list.step(t, x);
+        let list = step.follow(t, x);
+        Functions { list }
+    }
+
+    // The function here.
+    pub fn found(self) -> Found
+        ensures { λ r. ⌜ r ≡ foundHere self ⌝ }
+    {
+        self.list.found()
+    }
+}
+
 // The first function of an owner, which may be NameId::NONE, and a name.
 pub fn first_function(t: &[u8], x: &[u16], owner: u16, name: u16) -> Found
     requires { ⌜ IndexedTable (now t) (now x) ⌝ }
-    ensures { λ r. ⌜ FunctionFound (now (t .entry)) (symbolsOf (now (t .entry)) .functionsOf owner name) r ⌝ }
+    ensures { λ r. ⌜ r ≡ firstPlace (functionPlaces (now (t .entry)) owner name) ⌝ }
 {
-    let b = list_reduced(key_bucket(4, owner, name), t.len());
-    let v = entry_at(x, 1 + 2 * bucket_count(t.len()) + b);
-    follow(t, x, v, owner, name)
-}
-
-// The next function behind that at p with its owner and name.
-pub fn next_function(t: &[u8], x: &[u16], p: Place) -> Found
-    requires { ⌜ IndexedTable (now t) (now x) × FunctionAt (now t) p ⌝ }
-    ensures { λ r. ⌜ FunctionFound (now (t .entry)) (functionsBehind (now (t .entry)) p) r ⌝ }
-{
-    let v = entry_at(x, child_at(t.len(), p.at, 0));
-    follow(t, x, v, id_at(t, p.at + 1), id_at(t, p.at + 3))
+    Functions::first(t, x, owner, name).found()
 }
 
 // Whether a name is one capital letter. The names are the table's first records, of 26 bytes each.

@@ -9,11 +9,14 @@ use mathlib.Core.Logic.{_≢_, _↔_}
 use mathlib.Core.Path.{_≡_, refl, ap, sym, _∙_}
 use native.Mathlib.Omega.{arith}
 use Rattle.area.specs.Diagnostic.{recordLength}
+use Rattle.question.proofs.Accepted.{accepted, accepted-fits}
 use Rattle.question.specs.QuestionRefused.{questionFault}
 use Rattle.record.specs.TableRefused.{tableFault}
 use Rattle.ty.specs.Choose.{choose}
 use Rattle.typing.proofs.Answers.{no-fault, answer-judged}
 use Rattle.typing.proofs.Numbers.{table-upto, question-upto}
+use Rattle.typing.proofs.Promise.{fits}
+use Rattle.typing.proofs.Tables.{symbols-fit}
 use Rattle.typing.specs.Answer.{Answer, answerBytes, zeros, namesOf, faultOf, judgementOf, refused, given, answered, answerOf, bufferOf}
 use Rattle.typing.specs.Demand1.{Demand1}
 use Rattle.typing.specs.Judge.{Judged}
@@ -134,6 +137,10 @@ module _ (t q : List ℕ) (lent : ℕ) where
   number-is : (n : ℕ) → tableFault t ≡ 0 → questionFault (namesOf t) q ≡ 0 → answered lent (judgementOf t q) .number ≡ n → answerOf t q lent .number ≡ n
   number-is n e f g = rw (answer-judged t q lent (no-fault t q lent e f)) g
 
+  -- the root type of what is accepted has a place in the answer
+  root-fits : tableFault t ≡ 0 → questionFault (namesOf t) q ≡ 0 → length (judgementOf t q .ty) ≤ answerBytes
+  root-fits e f = fits t q lent (no-fault t q lent e f) (symbols-fit t e) (accepted-fits (namesOf t) q f) (accepted (namesOf t) q f .tree .few)
+
   -- whatever the bytes and the buffer are
   pub demand1 : Demand1 t q lent (answerOf t q lent) (bufferOf t q lent)
   demand1 =
@@ -153,6 +160,10 @@ module _ (t q : List ℕ) (lent : ℕ) where
           λ e. let (z, n) = judged 13 (λ _. over 13 (omega arith)) e in let (x, y) = both z in (x, y, d .thirteen .0 n),
           λ (x, y, l). number-is 13 x y (d .thirteen .1 l),
         );
+        never = λ e.
+            let (z, n) = judged 13 (λ _. over 13 (omega arith)) e in
+            let (x, y) = both z in
+            omega (arith, d .thirteen .0 n, root-fits x y);
         twelve = (
           λ e. let (z, n) = judged 12 (λ _. over 12 (omega arith)) e in let (x, y) = both z in let (l, m) = d .twelve .0 n in (x, y, l, m),
           λ (x, y, l, m). number-is 12 x y (d .twelve .1 (l, m)),

@@ -24,3 +24,4 @@ pub mod Drawn
 pub mod Wrong
 pub mod Distinct
 pub mod CleanCalls
+pub mod Spreading

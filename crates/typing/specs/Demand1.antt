@@ -21,6 +21,8 @@ pub record Demand1 (t q : List ℕ) (lent : ℕ) (a : Answer) (b : List ℕ) : T
   pub question : tableFault t ≡ 0 → questionFault (namesOf t) q ≢ 0 → a .number ≡ questionFault (namesOf t) q
   -- 13 exactly when both are accepted and the root type has over 256 bytes
   pub thirteen : (a .number ≡ 13) ↔ ((tableFault t ≡ 0) × (questionFault (namesOf t) q ≡ 0) × (answerBytes < length (judgementOf t q .ty)))
+  -- and that is never: the root type has at most 192 bytes and one for each node, of which there are at most 64
+  pub never : a .number ≢ 13
   -- 12 exactly when both are accepted, 13 is not drawn, and 5 × diagnostics exceeds the buffer
   pub twelve : (a .number ≡ 12)
       ↔ ((tableFault t ≡ 0) × (questionFault (namesOf t) q ≡ 0) × (length (judgementOf t q .ty) ≤ answerBytes)

@@ -2,7 +2,7 @@
 -- Node n's type is in slot n. Document 01: at most 64 nodes ("Table and question"), a type in 256 bytes ("Answer").
 use Prim.Native.Nat.{ℕ, _-_, _*_, _≤_, _<_}
 use mathlib.Core.Path.{_≡_}
-use mathlib.Core.List.{List, [], _∷_, map}
+use mathlib.Core.List.{List, [], _∷_}
 use lib.ListN.{length, getD, take, drop, set}
 use lib.Seq.{sets}
 use Rattle.ty.specs.Bytes.{Ty}
@@ -21,10 +21,6 @@ pub record Lent (a l : List ℕ) : Type 0 where
 -- the type in slot m
 unfoldable pub slotOf : List ℕ → List ℕ → ℕ → Ty
 slotOf a l m = take (getD l m 0) (drop (slotSize * m) a)
-
--- the types in the first n of some slots
-unfoldable pub slotTypes : List ℕ → List ℕ → List ℕ → ℕ → List Ty
-slotTypes a l nodes n = map (slotOf a l) (take n nodes)
 
 -- the area and the lengths once t is stored in slot `node`
 unfoldable pub store : List ℕ → ℕ → Ty → List ℕ
@@ -65,9 +61,3 @@ pub record Slot (l : List ℕ) (node m : ℕ) : Type 0 where
   pub past : node < m
   pub inside : m < length l
   pub small : getD l m 0 ≤ slotSize
-
--- the first n numbers are such slots; a call has at most 16 arguments
-pub record Slots (l : List ℕ) (node : ℕ) (nodes : List ℕ) (n : ℕ) : Type 0 where
-  pub fits : n ≤ 16
-  pub there : n ≤ length nodes
-  pub each : (i : ℕ) → i < n → Slot l node (getD nodes i 0)

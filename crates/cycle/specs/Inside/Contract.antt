@@ -1,15 +1,16 @@
 -- What the node judge and the argument-row judge ask, and what they leave.
-use Prim.Native.Nat.{ℕ, _+_, _*_, _≤_, _<_}
+use Prim.Native.Nat.{ℕ, _+_, _*_, _≤_}
 use denote.Ref.{now}
 use lib.Dec.{leb}
 use lib.ListN.{length, replicate}
 use lib.Seq.{sets}
 use mathlib.Core.List.{List}
 use mathlib.Core.Path.{_≡_}
-use Rattle.area.specs.Inside.Slot.{Lent, SlotHolds, SlotsHold, slotCount}
+use Rattle.area.specs.Inside.Slot.{Lent, slotCount}
 use Rattle.overload.specs.Inside.Tally.{mostDiagnostics}
+use Rattle.nodes.specs.Inside.AreaFilled.{AreaFilled}
 use Rattle.nodes.specs.Inside.Progress.{Reached}
-use Rattle.nodes.specs.Inside.Row.{nodesOf, idsOf, tysOf}
+use Rattle.nodes.specs.Inside.Row.{nodesOf, idsOf}
 use Rattle.ty.specs.Slice.{Borrowed}
 use Rattle.nodes.specs.declared.calls.RowJudged.{RowJudged}
 use Rattle.nodes.specs.declared.progress.State.{State}
@@ -23,7 +24,6 @@ use Rattle.question.specs.Tree.{Node, Row, numberAfter, numberAfterRow, size, s
 use Rattle.question.specs.declared.Header.{Header}
 use Rattle.question.specs.declared.Names.{Names}
 use Rattle.symbol.specs.Lookup.{symbolsOf}
-use Rattle.ty.specs.Bytes.{Ty}
 use Rattle.ty.specs.Choose.{choose}
 use Rattle.ty.specs.Name.{noId, firstTableId}
 use Rattle.typing.specs.Judge.{Judged, RowJudged as Judgements, judge, judges}
@@ -77,11 +77,10 @@ judgeAt t H s tree = judge (symbolsOf t) H tree (s .node)
 abbrev pub judgesAt : List ℕ → Header → State → Row → Judgements
 judgesAt t H s trees = judges (symbolsOf t) H trees (s .node)
 
--- The tree is judged: the judgement is behind it, its type lies in its root's slot, and the slots before that are as they were.
+-- The tree is judged: the judgement is behind it, and the types of the nodes that it finished are stored, in that order.
 pub record NodeIs (t : List ℕ) (H : Header) (s : State) (a a′ l l′ b b′ : List ℕ) (r : State) (tree : Node) : Type 0 where
   pub reached : Reached s (s .at + bytes tree) (numberAfter tree (s .node)) (judgeAt t H s tree .typed) (judgeAt t H s tree .diags) b b′ r
-  pub top : SlotHolds a′ l′ (s .node) (judgeAt t H s tree .ty)
-  pub under : (m : ℕ) (u : Ty) → m < s .node → SlotHolds a l m u → SlotHolds a′ l′ m u
+  pub filled : AreaFilled a a′ l l′ (judgeAt t H s tree .typed)
   pub few : length (judgeAt t H s tree .diags) ≤ mostAtNode * size tree
 
 -- `left` trees stand at s, behind k arguments that are judged
@@ -99,13 +98,13 @@ pub record RowAsked (q : List ℕ) (s : State) (k left : ℕ) : Type 0 where
 abbrev pub handedOn : ℕ → List ℕ → List ℕ → ℕ → List Arg → Args
 handedOn n nodes names k xs = record { count = n; nodes = sets nodes k (nodesOf xs); names = sets names k (idsOf xs) }
 
--- They are judged: the judgement is behind them, their types lie in their slots, and their nodes and names are handed on from place k on.
+-- They are judged: the judgement is behind them, the types of the finished nodes are stored, in that order, and the arguments' nodes and names are
+-- handed on from place k on.
 pub record RowIs (t : List ℕ) (H : Header) (s : State) (k n : ℕ) (nodes names a a′ l l′ b b′ : List ℕ) (r : RowJudged) (trees : Row)
     : Type 0 where
   pub reached : Reached s (s .at + bytess trees) (numberAfterRow trees (s .node)) (judgesAt t H s trees .typed) (judgesAt t H s trees .diags) b b′ (r .state)
+  pub filled : AreaFilled a a′ l l′ (judgesAt t H s trees .typed)
   pub args : r .args ≡ handedOn n nodes names k (judgesAt t H s trees .args)
-  pub held : SlotsHold a′ l′ (s .node) (nodesOf (judgesAt t H s trees .args)) (tysOf (judgesAt t H s trees .args))
-  pub under : (m : ℕ) (u : Ty) → m < s .node → SlotHolds a l m u → SlotHolds a′ l′ m u
   pub few : length (judgesAt t H s trees .diags) ≤ mostAtNode * sizes trees
 
 -- What the node judge leaves of the slices that it is lent, whatever tree stands at s.

@@ -30,6 +30,14 @@ pub record Ahead (t late : List ℕ) (e : ℕ) : Type 0 where
 unfoldable pub marked : ℕ → ℕ → ℕ → List ℕ → List ℕ
 marked kind one p late = choose (eqb kind 2) (set late one (suc p)) late
 
+-- some records come into the entries, one after the other, of which the first begins at byte p; and those at byte p or behind it
+unfoldable pub allMarked : ℕ → List Record → List ℕ → List ℕ
+allMarked p [] late = late
+allMarked p (r ∷ rs) late = allMarked (p + length r) rs (marked (headOf r .kind) (headOf r .one) p late)
+
+abbrev pub markedFrom : List ℕ → ℕ → List ℕ → List ℕ
+markedFrom t p late = allMarked p (recordsOf (drop p t)) late
+
 -- the entries that are enough: the defined ids are below 40 and the number of names, which have 26 bytes each
 abbrev pub lateSize : ℕ → ℕ
 lateSize n = 40 + n / 26

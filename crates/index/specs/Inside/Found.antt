@@ -1,19 +1,38 @@
 -- What a search for the records of a kind with a key finds.
-use Prim.Native.Nat.{ℕ, _≤_, _<_}
-use mathlib.Core.Path.{_≡_}
+use Prim.Native.Nat.{ℕ, zero, suc, _+_, _≤_, _<_}
+use lib.ListN.{length, drop}
 use mathlib.Core.Bool.{false}
 use mathlib.Core.List.{List, [], _∷_}
 use mathlib.Core.Option.{some}
-use lib.ListN.{length, drop}
-use Rattle.index.specs.declared.index.Place.{Place}
-use Rattle.index.specs.declared.index.Found.{Found}
+use mathlib.Core.Path.{_≡_}
 use Rattle.index.specs.declared.index.Found.the-variants as found
+use Rattle.index.specs.declared.index.Found.{Found}
+use Rattle.index.specs.declared.index.Place.{Place}
 use Rattle.record.specs.Inside.Front.{headOf}
-use Rattle.record.specs.Inside.Keyed.{recordsWith}
 use Rattle.record.specs.Inside.FrontRecord.{frontRecord}
+use Rattle.record.specs.Inside.Keyed.{isOf, recordsWith}
+use Rattle.record.specs.Inside.Walk.{Sits, behind}
 use Rattle.record.specs.Layout.{hasError, recordKind}
 use Rattle.record.specs.Table.{Record, recordsOf}
-use Rattle.record.specs.Inside.Walk.{Sits, behind}
+use Rattle.ty.specs.Choose.{choose}
+
+-- the first record of kind k with the key a, b among some, of which the first begins at byte p: by its first byte, counted from 1; 0 is none
+unfoldable pub firstIn : ℕ → ℕ → ℕ → ℕ → List Record → ℕ
+firstIn k a b p [] = 0
+firstIn k a b p (r ∷ rs) = choose (isOf k a b (headOf r)) (suc p) (firstIn k a b (p + length r) rs)
+
+-- the first in the table, and from the record v on
+abbrev pub firstWith : List ℕ → ℕ → ℕ → ℕ → ℕ
+firstWith t k a b = firstIn k a b 0 (recordsOf t)
+
+abbrev pub firstFrom : List ℕ → ℕ → ℕ → ℕ → ℕ → ℕ
+firstFrom t k a b zero = 0
+firstFrom t k a b (suc p) = firstIn k a b p (recordsOf (drop p t))
+
+-- a record that is given so, as a place
+abbrev pub foundAt : ℕ → Found
+foundAt zero = found.Nothing
+foundAt (suc p) = found.Here (record { at = p })
 
 -- one that stands at a place, and the others behind it
 pub record HereIs (t : List ℕ) (all : List Record) (k a b : ℕ) (p : Place) : Type 0 where

@@ -1,14 +1,16 @@
 -- What a call finds before its arguments are visited, and what it asks and gives behind them.
 use Prim.Native.Nat.{ℕ, _+_, _≤_, _<_}
 use denote.Ref.{now}
+use lib.Dec.{eqb}
 use lib.ListN.{length}
 use mathlib.Core.Bool.{true, false}
-use mathlib.Core.List.{List, []}
+use mathlib.Core.List.{List}
 use mathlib.Core.Option.{Option, none, some}
 use mathlib.Core.Path.{_≡_}
-use Rattle.area.specs.Diagnostic.{countLimit}
+use Rattle.area.specs.Diagnostic.{putAll, countLimit}
 use Rattle.area.specs.Inside.Slot.{Lent, slotSize}
-use Rattle.nodes.specs.Inside.Progress.{Reached, Finishes}
+use Rattle.nodes.specs.Inside.Progress.{Finishes}
+use Rattle.nodes.specs.Inside.Row.{idOf}
 use Rattle.ty.specs.Slice.{Slice, Borrowed}
 use Rattle.nodes.specs.declared.calls.Begun.{Begun}
 use Rattle.nodes.specs.declared.calls.Owner.{Owner}
@@ -22,11 +24,10 @@ use Rattle.question.specs.declared.Header.{Header}
 use Rattle.operators.specs.Diag.{reportedAt as atNode}
 use Rattle.index.specs.Inside.IndexedTable.{IndexedTable}
 use Rattle.symbol.specs.Lookup.{symbolsOf}
-use Rattle.symbol.specs.Symbols.{Symbols}
-use Rattle.ty.specs.Bytes.{Ty}
-use Rattle.ty.specs.Choose.{choose}
+use Rattle.ty.specs.Bytes.{Ty, kindOf, nameOf, nonNull}
+use Rattle.ty.specs.Kind.{namedKind}
 use Rattle.ty.specs.Name.{noId}
-use Rattle.typing.specs.Callee.{Callee, callOf, methodIn, methodOf}
+use Rattle.typing.specs.Callee.{Callee, baseName, callOf, methodIn, methodOf}
 
 -- no list of functions: nothing is reported
 abbrev pub noListAt : State → Begun
@@ -37,26 +38,28 @@ abbrev pub listAt : ℕ → ℕ → State → Begun
 listAt owner count s =
     record { listed = true; owner = owner; state = record { at = s .at; node = s .node; count = count; fine = s .fine } }
 
--- the name of a base that is Named
-abbrev pub ownerIs : Owner → Option ℕ
-ownerIs o = choose (o .named) (some (o .id)) none
+-- what is read of the object's type t: whether its base is Named, and the base's name
+abbrev pub ownerOf : Ty → Owner
+ownerOf t = record { named = eqb (kindOf (nonNull t)) namedKind; id = nameOf (nonNull t) }
 
--- the list of the call at `node` is that of an owner, and what is reported before the arguments has been reported
-pub record ListIs (S : Symbols) (id node : ℕ) (c : Callee) (s : State) (b b′ : List ℕ) (r : Begun) : Type 0 where
-  pub listed : r .listed ≡ true
-  pub list : S .functionsOf (r .owner) id ≡ c .overloads
-  pub reached : Reached s (s .at) (s .node) [] (atNode node (c .before)) b b′ (r .state)
-  pub few : length (c .before) ≤ 2
+-- whose list a method call on an object of the type t looks for: the base's name, 65,535 for none
+abbrev pub methodOwner : Ty → ℕ
+methodOwner t = idOf (baseName t)
 
--- there is none, and nothing happens
-pub record NoList (s : State) (b b′ : List ℕ) (r : Begun) : Type 0 where
-  pub listed : r .listed ≡ false
-  pub state : r .state ≡ s
-  pub buffer : b′ ≡ b
+-- what a call that looks for an owner's list finds: none, or that list, what is reported before the arguments having been reported
+unfoldable pub begunAs : ℕ → Option Callee → State → Begun
+begunAs owner none s = noListAt s
+begunAs owner (some c) s = listAt owner (s .count + length (c .before)) s
 
-unfoldable pub BegunIs : Symbols → ℕ → ℕ → Option Callee → State → List ℕ → List ℕ → Begun → Type 0
-BegunIs S id node none s b b′ r = NoList s b b′ r
-BegunIs S id node (some c) s b b′ r = ListIs S id node c s b b′ r
+-- the buffer then
+unfoldable pub bufferBegun : ℕ → Option Callee → State → List ℕ → List ℕ
+bufferBegun node none s b = b
+bufferBegun node (some c) s b = putAll b (s .count) (atNode node (c .before))
+
+-- the call at `node` has begun; the buffer was b and is b′
+pub record BegunIs (owner node : ℕ) (found : Option Callee) (s : State) (b b′ : List ℕ) (r : Begun) : Type 0 where
+  pub result : r ≡ begunAs owner found s
+  pub buffer : b′ ≡ bufferBegun node found s b
 
 -- there is room for what a call gives and reports
 pub record CallAsked (l : List ℕ) (node : ℕ) (row : RowJudged) (v : Verdict) : Type 0 where
@@ -76,9 +79,13 @@ ownedAt table H owner id = methodIn (symbolsOf (now table)) H owner id (symbolsO
 abbrev pub methodAt : Slice → Header → ℕ → Ty → Option Callee
 methodAt table H id t = methodOf (symbolsOf (now table)) H id t
 
--- `BegunIs` of a call that is lent the table and the buffer
-abbrev pub Begins : Borrowed → ℕ → ℕ → Option Callee → State → Borrowed → Begun → Type 0
-Begins table id node found s buf r = BegunIs (symbolsOf (now (table .entry))) id node found s (now (buf .entry)) (now (buf .exit)) r
+-- `BegunIs` of a call that is lent the buffer
+abbrev pub Begins : ℕ → ℕ → Option Callee → State → Borrowed → Begun → Type 0
+Begins owner node found s buf r = BegunIs owner node found s (now (buf .entry)) (now (buf .exit)) r
+
+-- of a method call on an object of the type t
+abbrev pub BeginsMethod : Borrowed → Header → ℕ → ℕ → Ty → State → Borrowed → Begun → Type 0
+BeginsMethod table H id node t s buf r = Begins (methodOwner t) node (methodAt (table .entry) H id t) s buf r
 
 -- what a call of an owner's list gives for the arguments of a row
 abbrev pub verdictAt : Slice → Slice → Slice → ℕ → ℕ → ℕ → RowJudged → Verdict

@@ -1,12 +1,12 @@
 -- What the lookup of an operator method answers.
 use Prim.Native.Nat.{ℕ}
+use lib.ListN.{take, drop}
 use mathlib.Core.List.{List}
 use mathlib.Core.Option.{Option, none, some}
-use lib.ListN.{take, drop}
-use Rattle.ty.specs.Bytes.{Ty}
-use Rattle.operators.specs.declared.method.Method.{Method}
-use Rattle.operators.specs.declared.method.Method.the-variants as method
 use Rattle.operators.specs.Out.{anyTy}
+use Rattle.operators.specs.declared.method.Method.the-variants as method
+use Rattle.operators.specs.declared.method.Method.{Method}
+use Rattle.ty.specs.Bytes.{Ty}
 
 -- the type that an operator method gives
 abbrev pub methodTy : List ℕ → Method → Option Ty

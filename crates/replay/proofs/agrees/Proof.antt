@@ -4,6 +4,7 @@ use mathlib.Core.List.{List}
 use mathlib.Core.Path.{ap, _∙_}
 use native.Mathlib.Omega.{arith}
 use Rattle.judge_text.proofs.Whole.{filled-whole}
+use Rattle.replay.proofs.Agreeing.{compared}
 use Rattle.replay.proofs.agrees.Statement.{statement}
 use Rattle.replay.proofs.agrees.Tie as tie
 use Rattle.ty.specs.Bytes.{sameBytes}
@@ -18,4 +19,7 @@ agrees-spec =
     (λ c κs. search needs)
     (λ c. search needs)
     (λ c. search needs)
-    (λ c. λ h g. (c .same-bytes .ensures) ∙ ap (λ (x : List ℕ). sameBytes x (c .before .before .before .before .before .before .before .before .before .before .before .before .before .before .args .expected .now)) (filled-whole (c .before .before .before .before .before .before .answer-text .ensures .0) (omega (arith, (c .before .before .before .before .before .before .answer-text .ensures .1 .0) h)))))
+    (λ c.
+    let f = (c .before .before .before .before .before .before .answer-text .ensures .0) in
+    let s = (c .same-bytes .ensures) in
+    (s ∙ compared _ _ _ _ f, (λ h g. s ∙ ap (λ (x : List ℕ). sameBytes x (c .before .before .before .before .before .before .before .before .before .before .before .before .before .before .args .expected .now)) (filled-whole f (omega (arith, (c .before .before .before .before .before .before .answer-text .ensures .1 .0) h))), (f .bytes, (c .before .before .before .before .before .before .answer-text .ensures .1 .1))))))

@@ -1,7 +1,6 @@
 -- Scores in numbers, and what the two passes of scoring hand on.
-use Prim.Native.Nat.{ℕ, _+_, _≤_}
-use mathlib.Core.Path.{_≡_}
-use mathlib.Core.Bool.{Bool}
+use Prim.Native.Nat.{ℕ}
+use mathlib.Core.Bool.{Bool, true, false}
 use mathlib.Core.List.{List}
 use mathlib.Core.Option.{Option, none, some}
 use Rattle.ty.specs.Choose.{choose}
@@ -21,24 +20,22 @@ use Rattle.scoring.specs.declared.score.NamedPass.{NamedPass}
 unfoldable pub scoreOf : Score → Option ℕ
 scoreOf s = choose (s .matched) (some (s .points)) none
 
--- r is the score s, of at most so many points
-pub record ScoreUpTo (most : ℕ) (s : Option ℕ) (r : Score) : Type 0 where
-  pub score : scoreOf r ≡ s
-  pub few : r .points ≤ most
+-- the same the other way round: a score without a match has no points
+unfoldable pub asScore : Option ℕ → Score
+asScore none = record { matched = false; points = 0 }
+asScore (some n) = record { matched = true; points = n }
 
--- two for each of 16 arguments
-abbrev pub mostPoints : ℕ
-mostPoints = 32
-
--- the named pass with one argument more, of the name id and the type x: it was n and is r
-pub record NamedPassMore (t : List ℕ) (p : Params) (id : ℕ) (x : Ty) (n r : NamedPass) : Type 0 where
-  pub score : ScoreUpTo (n .score .points + 2) (plus (scoreOf (n .score)) (namedOne (symbolsOf t) (paramsIn t p) (nameIn id) x)) (r .score)
-  pub marks : r .marks ≡ markOne (paramsIn t p) (nameIn id) (n .marks)
+-- the named pass n with one argument more, of the name id and the type x
+abbrev pub namedMore : List ℕ → Params → ℕ → Ty → NamedPass → NamedPass
+namedMore t p id x n =
+    record {
+      score = asScore (plus (scoreOf (n .score)) (namedOne (symbolsOf t) (paramsIn t p) (nameIn id) x));
+      marks = markOne (paramsIn t p) (nameIn id) (n .marks);
+    }
 
 -- what the named pass hands on, for the arguments xs
-pub record NamedPassIs (t : List ℕ) (p : Params) (xs : List Arg) (r : NamedPass) : Type 0 where
-  pub score : ScoreUpTo mostPoints (namedScore (symbolsOf t) (paramsIn t p) xs) (r .score)
-  pub marks : r .marks ≡ marksOf (paramsIn t p) xs
+abbrev pub namedIn : List ℕ → Params → List Arg → NamedPass
+namedIn t p xs = record { score = asScore (namedScore (symbolsOf t) (paramsIn t p) xs); marks = marksOf (paramsIn t p) xs }
 
 -- the score of the positional pass, with the named pass's marks
 abbrev pub positionalIn : List ℕ → Params → List Bool → List Arg → Option ℕ

@@ -369,7 +369,7 @@ module _ (t : ℕ) where
       let at-read5 = before-inside5 at-inside5 in
       let at-node-at = before-read5 at-read5 in
       let at-start = before-node-at at-node-at in
-      λ x. ret-call-none (at-start .pre .1 .1) (calls-fit _ _ (at-start .pre .1 .1)) _ x _ _ (sym (at-node-at .node-at .ensures) ∙ (at-read5 .read5 .given .1)) (at-inside5 .inside5 .ensures) _ _ _ (at-begin-call .begin-call .ensures) (no-test _ (at-then1 .if1 .taken)) (at-start .pre .1 .0) (at-unlisted .unlisted .ensures)
+      λ x. ret-call-none (at-start .pre .1 .1) (calls-fit _ _ (at-start .pre .1 .1)) _ x _ _ (sym (at-node-at .node-at .ensures) ∙ (at-read5 .read5 .given .1)) (at-inside5 .inside5 .ensures) _ _ _ (at-begin-call .begin-call .ensures) (no-test _ (at-then1 .if1 .taken)) (at-unlisted .unlisted .ensures)
 
   node-judge-row-requires : judge-node-lts.Need-judge-row-requires (node-claims t) (judge-node-at t) judge-node.Post
   node-judge-row-requires c κs =
@@ -428,7 +428,7 @@ module _ (t : ℕ) where
       let at-read6 = before-inside6 at-inside6 in
       let at-node-at = before-read6 at-read6 in
       let at-start = before-node-at at-node-at in
-      ((space-still (at-judge-node6 .judge-node6 .kept .1 .1 .1 .1 .1 .0) (at-judge-node6 .judge-node6 .kept .1 .1 .1 .1 .1 .1 .0) (at-start .pre .1 .0)) .lent, slot-still (at-start .pre .1 .2) (at-start .pre .1 .0) (at-judge-node6 .judge-node6 .kept .1 .1 .1 .1 .1 .1 .0), method-passed (at-start .pre .1 .1) (calls-fit _ _ (at-start .pre .1 .1)) _ (at-start .pre .1 .2) _ _ (sym (at-node-at .node-at .ensures) ∙ (at-read6 .read6 .given .1)) (at-inside6 .inside6 .ensures) (at-judge-node6 .judge-node6 .ensures) _ _ (at-begin-method .begin-method .ensures) (no-test _ (at-then2 .if2 .taken)))
+      ((space-still (at-judge-node6 .judge-node6 .kept .1 .1 .1 .1 .1 .0) (at-judge-node6 .judge-node6 .kept .1 .1 .1 .1 .1 .1 .0) (at-start .pre .1 .0)) .lent, slot-still (at-start .pre .1 .2) (at-start .pre .1 .0) (at-judge-node6 .judge-node6 .kept .1 .1 .1 .1 .1 .1 .0), method-passed (at-start .pre .1 .1) (calls-fit _ _ (at-start .pre .1 .1)) _ (at-start .pre .1 .2) _ _ (sym (at-node-at .node-at .ensures) ∙ (at-read6 .read6 .given .1)) (at-inside6 .inside6 .ensures) (at-judge-node6 .judge-node6 .ensures) (at-start .pre .1 .0) _ _ (at-begin-method .begin-method .ensures) (no-test _ (at-then2 .if2 .taken)))
 
   node-same-length-4 : judge-node-lts.Need-same-length-4 (node-claims t) (judge-node-at t) judge-node.Post
   node-same-length-4 c =
@@ -464,7 +464,7 @@ module _ (t : ℕ) where
       let at-read6 = before-inside6 at-inside6 in
       let at-node-at = before-read6 at-read6 in
       let at-start = before-node-at at-node-at in
-      λ x. ret-method-none (at-start .pre .1 .1) (calls-fit _ _ (at-start .pre .1 .1)) _ x _ _ (sym (at-node-at .node-at .ensures) ∙ (at-read6 .read6 .given .1)) (at-inside6 .inside6 .ensures) (at-judge-node6 .judge-node6 .ensures) _ _ (at-begin-method .begin-method .ensures) (no-test _ (at-then2 .if2 .taken)) (space-still (at-judge-node6 .judge-node6 .kept .1 .1 .1 .1 .1 .0) (at-judge-node6 .judge-node6 .kept .1 .1 .1 .1 .1 .1 .0) (at-start .pre .1 .0)) (at-unlisted2 .unlisted2 .ensures)
+      λ x. ret-method-none (at-start .pre .1 .1) (calls-fit _ _ (at-start .pre .1 .1)) _ x _ _ (sym (at-node-at .node-at .ensures) ∙ (at-read6 .read6 .given .1)) (at-inside6 .inside6 .ensures) (at-judge-node6 .judge-node6 .ensures) (at-start .pre .1 .0) _ _ (at-begin-method .begin-method .ensures) (no-test _ (at-then2 .if2 .taken)) (at-unlisted2 .unlisted2 .ensures)
 
   node-judge-row-requires-2 : judge-node-lts.Need-judge-row-requires-2 (node-claims t) (judge-node-at t) judge-node.Post
   node-judge-row-requires-2 c κs =
@@ -475,7 +475,7 @@ module _ (t : ℕ) where
       let at-read6 = before-inside6 at-inside6 in
       let at-node-at = before-read6 at-read6 in
       let at-start = before-node-at at-node-at in
-      (below (at-start .pre .0) (method-fall (at-start .pre .1 .1) (calls-fit _ _ (at-start .pre .1 .1)) _ (at-start .pre .1 .2) _ _ (sym (at-node-at .node-at .ensures) ∙ (at-read6 .read6 .given .1)) (at-inside6 .inside6 .ensures) (at-judge-node6 .judge-node6 .ensures) _ _ (at-begin-method .begin-method .ensures) (yes-test _ (at-else2 .if2 .left))), ((space-still (at-judge-node6 .judge-node6 .kept .1 .1 .1 .1 .1 .0) (at-judge-node6 .judge-node6 .kept .1 .1 .1 .1 .1 .1 .0) (at-start .pre .1 .0)), (at-start .pre .1 .1), asked-method (at-start .pre .1 .1) (calls-fit _ _ (at-start .pre .1 .1)) _ (at-start .pre .1 .2) _ _ (sym (at-node-at .node-at .ensures) ∙ (at-read6 .read6 .given .1)) (at-inside6 .inside6 .ensures) (at-judge-node6 .judge-node6 .ensures) _ _ (at-begin-method .begin-method .ensures) (yes-test _ (at-else2 .if2 .left))))
+      (below (at-start .pre .0) (method-fall (at-start .pre .1 .1) (calls-fit _ _ (at-start .pre .1 .1)) _ (at-start .pre .1 .2) _ _ (sym (at-node-at .node-at .ensures) ∙ (at-read6 .read6 .given .1)) (at-inside6 .inside6 .ensures) (at-judge-node6 .judge-node6 .ensures) (at-start .pre .1 .0) _ _ (at-begin-method .begin-method .ensures) (yes-test _ (at-else2 .if2 .left))), ((space-still (at-judge-node6 .judge-node6 .kept .1 .1 .1 .1 .1 .0) (at-judge-node6 .judge-node6 .kept .1 .1 .1 .1 .1 .1 .0) (at-start .pre .1 .0)), (at-start .pre .1 .1), asked-method (at-start .pre .1 .1) (calls-fit _ _ (at-start .pre .1 .1)) _ (at-start .pre .1 .2) _ _ (sym (at-node-at .node-at .ensures) ∙ (at-read6 .read6 .given .1)) (at-inside6 .inside6 .ensures) (at-judge-node6 .judge-node6 .ensures) (at-start .pre .1 .0) _ _ (at-begin-method .begin-method .ensures) (yes-test _ (at-else2 .if2 .left))))
 
   node-finish-call-requires-2 : judge-node-lts.Need-finish-call-requires-2 (node-claims t) (judge-node-at t) judge-node.Post
   node-finish-call-requires-2 c κs =
@@ -487,7 +487,7 @@ module _ (t : ℕ) where
       let at-read6 = before-inside6 at-inside6 in
       let at-node-at = before-read6 at-read6 in
       let at-start = before-node-at at-node-at in
-      ((space-still ((at-judge-row2 .judge-row2 .kept .1 .1 .1 .1 .1 .1 .0) ∙ (at-judge-node6 .judge-node6 .kept .1 .1 .1 .1 .1 .0)) ((at-judge-row2 .judge-row2 .kept .1 .1 .1 .1 .1 .1 .1 .0) ∙ (at-judge-node6 .judge-node6 .kept .1 .1 .1 .1 .1 .1 .0)) (at-start .pre .1 .0)) .lent, (at-start .pre .1 .1), method-ready (at-start .pre .1 .1) (calls-fit _ _ (at-start .pre .1 .1)) _ (at-start .pre .1 .2) _ _ (sym (at-node-at .node-at .ensures) ∙ (at-read6 .read6 .given .1)) (at-inside6 .inside6 .ensures) (at-judge-node6 .judge-node6 .ensures) _ _ (at-begin-method .begin-method .ensures) (yes-test _ (at-else2 .if2 .left)) (space-still ((at-judge-row2 .judge-row2 .kept .1 .1 .1 .1 .1 .1 .0) ∙ (at-judge-node6 .judge-node6 .kept .1 .1 .1 .1 .1 .0)) ((at-judge-row2 .judge-row2 .kept .1 .1 .1 .1 .1 .1 .1 .0) ∙ (at-judge-node6 .judge-node6 .kept .1 .1 .1 .1 .1 .1 .0)) (at-start .pre .1 .0)) (at-judge-row2 .judge-row2 .ensures))
+      ((space-still ((at-judge-row2 .judge-row2 .kept .1 .1 .1 .1 .1 .1 .0) ∙ (at-judge-node6 .judge-node6 .kept .1 .1 .1 .1 .1 .0)) ((at-judge-row2 .judge-row2 .kept .1 .1 .1 .1 .1 .1 .1 .0) ∙ (at-judge-node6 .judge-node6 .kept .1 .1 .1 .1 .1 .1 .0)) (at-start .pre .1 .0)) .lent, (at-start .pre .1 .1), method-ready (at-start .pre .1 .1) (calls-fit _ _ (at-start .pre .1 .1)) _ (at-start .pre .1 .2) _ _ (sym (at-node-at .node-at .ensures) ∙ (at-read6 .read6 .given .1)) (at-inside6 .inside6 .ensures) (at-judge-node6 .judge-node6 .ensures) (at-start .pre .1 .0) _ _ (at-begin-method .begin-method .ensures) (yes-test _ (at-else2 .if2 .left)) (space-still ((at-judge-row2 .judge-row2 .kept .1 .1 .1 .1 .1 .1 .0) ∙ (at-judge-node6 .judge-node6 .kept .1 .1 .1 .1 .1 .0)) ((at-judge-row2 .judge-row2 .kept .1 .1 .1 .1 .1 .1 .1 .0) ∙ (at-judge-node6 .judge-node6 .kept .1 .1 .1 .1 .1 .1 .0)) (at-start .pre .1 .0)) (at-judge-row2 .judge-row2 .ensures))
 
   node-returns-3 : judge-node-lts.Need-returns-3 (node-claims t) (judge-node-at t) judge-node.Post
   node-returns-3 c =
@@ -519,7 +519,7 @@ module _ (t : ℕ) where
       let at-read = before-judge-leaf at-judge-leaf in
       let at-node-at = before-read at-read in
       let at-start = before-node-at at-node-at in
-      λ x. ret-leaf (at-start .pre .1 .1) _ x _ _ (sym (at-node-at .node-at .ensures) ∙ (at-read .read .given .1)) (at-start .pre .1 .0) (at-judge-leaf .judge-leaf .ensures) _
+      λ x. ret-leaf (at-start .pre .1 .1) _ x _ _ (sym (at-node-at .node-at .ensures) ∙ (at-read .read .given .1)) (at-judge-leaf .judge-leaf .ensures) _
 
   node-same-length-9 : judge-node-lts.Need-same-length-9 (node-claims t) (judge-node-at t) judge-node.Post
   node-same-length-9 c =
@@ -707,7 +707,7 @@ module _ (t : ℕ) where
       let at-read6 = before-inside6 at-inside6 in
       let at-node-at = before-read6 at-read6 in
       let at-start = before-node-at at-node-at in
-      λ x. ret-method (at-start .pre .1 .1) (calls-fit _ _ (at-start .pre .1 .1)) _ x _ _ (sym (at-node-at .node-at .ensures) ∙ (at-read6 .read6 .given .1)) (at-inside6 .inside6 .ensures) (at-judge-node6 .judge-node6 .ensures) _ _ (at-begin-method .begin-method .ensures) (yes-test _ (at-else2 .if2 .left)) (space-still ((at-judge-row2 .judge-row2 .kept .1 .1 .1 .1 .1 .1 .0) ∙ (at-judge-node6 .judge-node6 .kept .1 .1 .1 .1 .1 .0)) ((at-judge-row2 .judge-row2 .kept .1 .1 .1 .1 .1 .1 .1 .0) ∙ (at-judge-node6 .judge-node6 .kept .1 .1 .1 .1 .1 .1 .0)) (at-start .pre .1 .0)) (at-judge-row2 .judge-row2 .ensures) (at-finish-call2 .finish-call2 .ensures)
+      λ x. ret-method (at-start .pre .1 .1) (calls-fit _ _ (at-start .pre .1 .1)) _ x _ _ (sym (at-node-at .node-at .ensures) ∙ (at-read6 .read6 .given .1)) (at-inside6 .inside6 .ensures) (at-judge-node6 .judge-node6 .ensures) (at-start .pre .1 .0) _ _ (at-begin-method .begin-method .ensures) (yes-test _ (at-else2 .if2 .left)) (space-still ((at-judge-row2 .judge-row2 .kept .1 .1 .1 .1 .1 .1 .0) ∙ (at-judge-node6 .judge-node6 .kept .1 .1 .1 .1 .1 .0)) ((at-judge-row2 .judge-row2 .kept .1 .1 .1 .1 .1 .1 .1 .0) ∙ (at-judge-node6 .judge-node6 .kept .1 .1 .1 .1 .1 .1 .0)) (at-start .pre .1 .0)) (at-judge-row2 .judge-row2 .ensures) (at-finish-call2 .finish-call2 .ensures)
 
 abbrev Inv-loop : judge-row-lts.InvT-loop
 Inv-loop table index q header n area₀ lens₀ buf₀ count nodes₀ names₀ e₀ k₀ area lens buf nodes names e k =

@@ -1,7 +1,7 @@
 use borrow.Author.Needs.{needs}
 use lib.ListN.{length}
 use native.Mathlib.Omega.{arith}
-use Rattle.judge.proofs.Answering.{root-asked, root-few, ret-judged}
+use Rattle.judge.proofs.Answering.{root-asked, root-filled, root-few, ret-judged}
 use Rattle.cycle.proofs.Spaces.{space-still, some-slots}
 use Rattle.judge.proofs.room.judge_in.Statement.{statement}
 use Rattle.judge.proofs.room.judge_in.Tie as tie
@@ -28,7 +28,10 @@ same-length-4 : tie.Need-same-length-4
 same-length-4 c = search needs
 
 returns : tie.Need-returns
-returns c = ret-judged _ _ _ (c .before .before .before .before .before .before .before .before .before .before .before .before .before .before .before .before .before .before .before .before .before .before .before .before .before .before .before .pre .0 .table .clean) (c .before .before .before .before .before .before .before .before .before .before .before .before .before .before .before .before .before .before .before .before .before .before .before .before .before .before .before .pre .0 .question) (c .before .before .before .before .before .before .before .before .before .before .before .before .before .before .before .before .before .before .before .read-header .ensures) (c .before .before .before .before .before .before .before .before .before .before .before .before .before .before .before .before .before .before .before .before .before .before .before .before .before .before .before .pre .0 .clear .buffer) (c .before .before .before .before .before .before .before .before .before .before .before .before .before .before .before .judge-node .ensures) (c .before .before .before .before .answer-root .ensures)
+returns c = (
+  ret-judged _ _ _ (c .before .before .before .before .before .before .before .before .before .before .before .before .before .before .before .before .before .before .before .before .before .before .before .before .before .before .before .pre .0 .table .clean) (c .before .before .before .before .before .before .before .before .before .before .before .before .before .before .before .before .before .before .before .before .before .before .before .before .before .before .before .pre .0 .question) (c .before .before .before .before .before .before .before .before .before .before .before .before .before .before .before .before .before .before .before .read-header .ensures) (c .before .before .before .before .before .before .before .before .before .before .before .before .before .before .before .before .before .before .before .before .before .before .before .before .before .before .before .pre .0 .clear .buffer) (c .before .before .before .before .before .before .before .before .before .before .before .before .before .before .before .judge-node .ensures) (c .before .before .before .before .before .before .before .before .before .before .before .before .before .before .before .before .before .before .before .before .before .before .before .before .before .before .before .pre .0 .table) (c .before .before .before .before .before .before .before .before .before .before .before .before .before .before .before .before .before .before .before .before .before .before .before .before .before .before .before .pre .1) (c .before .before .before .before .answer-root .ensures),
+  root-filled _ _ (length (c .before .before .before .before .before .before .before .before .before .before .before .before .before .before .before .before .before .before .before .before .before .before .before .before .before .before .before .args .diagnostics .now)) (c .before .before .before .before .before .before .before .before .before .before .before .before .before .before .before .before .before .before .before .before .before .before .before .before .before .before .before .pre .0 .table .clean) (c .before .before .before .before .before .before .before .before .before .before .before .before .before .before .before .before .before .before .before .before .before .before .before .before .before .before .before .pre .0 .question) (c .before .before .before .before .before .before .before .before .before .before .before .before .before .before .before .before .before .before .before .read-header .ensures) (c .before .before .before .before .before .before .before .before .before .before .before .before .before .before .before .before .before .before .before .before .before .before .before .before .before .before .before .pre .0 .clear .buffer) (c .before .before .before .before .before .before .before .before .before .before .before .before .before .before .before .judge-node .ensures),
+)
 
 pub judge-in-spec : {M : Type 1} → statement M
 judge-in-spec =

@@ -13,7 +13,7 @@ same-length : tie.Need-same-length
 same-length c = search needs
 
 returns : tie.Need-returns
-returns c = ret-table (c .before .before .before .before .before .before .before .before .before .before .before .before .args .table .now) (c .before .before .before .before .before .before .before .before .before .before .before .before .args .question .now) _ _ (c .before .before .before .before .before .check-table .ensures .0) (c .before .if1 .taken) _ (refused-blank _ _ _ (c .before .before .before .before .before .before .before .before .before .before .before .before .pre .0 .blank) (c .refused .ensures)) _ (c .before .before .before .before .before .before .before .before .before .before .before .before .pre .0 .buffer)
+returns c = (ret-table (c .before .before .before .before .before .before .before .before .before .before .before .before .args .table .now) (c .before .before .before .before .before .before .before .before .before .before .before .before .args .question .now) _ _ (c .before .before .before .before .before .check-table .ensures .0) (c .before .if1 .taken) _ (refused-blank _ _ _ (c .before .before .before .before .before .before .before .before .before .before .before .before .pre .0 .blank) (c .refused .ensures)) _ (c .before .before .before .before .before .before .before .before .before .before .before .before .pre .0 .buffer), (c .before .before .before .before .before .check-table .ensures .1 .1))
 
 judge-checked-requires : tie.Need-judge-checked-requires
 judge-checked-requires c κs = ((c .before .before .before .before .before .before .before .before .before .before .before .before .before .before .pre .0), (c .before .before .before .before .before .before .before .check-table .ensures .1 .0) (table-ok (c .before .before .before .before .before .before .before .before .before .before .before .before .before .before .args .table .now) (c .before .before .before .before .before .before .before .before .before .before .before .before .before .before .args .question .now) 0 _ (c .before .before .before .before .before .before .before .check-table .ensures .0) (c .before .before .before .if1 .left)), names-checked (c .before .before .before .before .before .before .before .before .before .before .before .before .before .before .args .table .now) (c .before .before .before .before .before .before .before .before .before .before .before .before .before .before .args .question .now) 0 _ (c .before .before .before .before .before .before .before .check-table .ensures .0) (c .before .before .before .if1 .left))

@@ -1,5 +1,7 @@
 use borrow.Author.Needs.{needs}
-use Rattle.nodes.proofs.Working.{found-none, found-here, call-none, call-some}
+use Rattle.nodes.proofs.Beginning.{call-none, call-some}
+use Rattle.nodes.proofs.Working.{found-here, found-none}
+use Rattle.symbol.proofs.FunctionLists.{first-listed}
 use Rattle.nodes.proofs.calls.begin_call.Statement.{statement}
 use Rattle.nodes.proofs.calls.begin_call.Tie as tie
 
@@ -22,13 +24,13 @@ listed-requires : tie.Need-listed-requires
 listed-requires c κs = search needs
 
 returns : tie.Need-returns
-returns c = call-none _ _ _ _ _ _ _ (found-none _ _ _ (c .before .before .before .first-function .ensures) (c .before .enum-told .given .1)) (c .no-list .ensures)
+returns c = call-none _ _ _ _ _ _ _ (found-none _ _ _ (first-listed _ (c .before .before .before .before .before .before .before .pre .0 .clean) _ _ _ (c .before .before .before .first-function .ensures)) (c .before .enum-told .given .1)) (c .no-list .ensures)
 
 same-length : tie.Need-same-length
 same-length c = search needs
 
 returns-2 : tie.Need-returns-2
-returns-2 c = call-some _ _ _ _ _ _ (found-here _ _ _ _ (c .before .before .before .before .before .before .before .first-function .ensures) (c .before .before .before .before .before .enum-told2 .given .1) .first) (c .before .before .before .before-call .ensures) (c .listed .ensures)
+returns-2 c = call-some _ _ _ _ _ _ (found-here _ _ _ _ (first-listed _ (c .before .before .before .before .before .before .before .before .before .before .before .pre .0 .clean) _ _ _ (c .before .before .before .before .before .before .before .first-function .ensures)) (c .before .before .before .before .before .enum-told2 .given .1) .first) (c .before .before .before .before-call .ensures) (c .listed .ensures)
 
 pub begin-call-spec : {M : Type 1} → statement M
 begin-call-spec =

@@ -1,5 +1,5 @@
 use borrow.Author.Needs.{needs}
-use Rattle.nodes.proofs.Working.{owner-none, owner-some}
+use Rattle.nodes.proofs.Beginning.{owner-none, owner-some}
 use Rattle.nodes.proofs.calls.begin_method.Statement.{statement}
 use Rattle.nodes.proofs.calls.begin_method.Tie as tie
 
@@ -16,13 +16,13 @@ same-length : tie.Need-same-length
 same-length c = search needs
 
 returns : tie.Need-returns
-returns c = owner-some _ _ _ _ _ _ _ _ _ _ (c .before .before .before .before .before .owner-of .ensures) (c .before .before .before .before .if1 .taken) (c .before .before .begin-owned .ensures)
+returns c = owner-some _ _ _ _ _ _ _ _ _ (c .before .before .before .before .before .owner-of .ensures) (c .before .before .before .before .if1 .taken) (c .before .before .begin-owned .ensures)
 
 no-list-requires : tie.Need-no-list-requires
 no-list-requires c κs = search needs
 
 returns-2 : tie.Need-returns-2
-returns-2 c = owner-none _ _ _ _ _ _ _ _ _ (c .before .before .owner-of .ensures) (c .before .if1 .left) (c .no-list .ensures)
+returns-2 c = owner-none _ _ _ _ _ _ _ _ (c .before .before .owner-of .ensures) (c .before .if1 .left) (c .no-list .ensures)
 
 pub begin-method-spec : {M : Type 1} → statement M
 begin-method-spec =

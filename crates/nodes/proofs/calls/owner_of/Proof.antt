@@ -1,5 +1,5 @@
 use borrow.Author.Needs.{needs}
-use Rattle.nodes.proofs.Working.{owner-by}
+use Rattle.nodes.proofs.Beginning.{owner-by}
 use Rattle.nodes.proofs.calls.owner_of.Statement.{statement}
 use Rattle.nodes.proofs.calls.owner_of.Tie as tie
 
@@ -16,7 +16,7 @@ name-of-requires : tie.Need-name-of-requires
 name-of-requires c κs = search needs
 
 returns : tie.Need-returns
-returns c = owner-by _ _ _ _ _ (c .before .kind-of .ensures) (c .name-of .ensures) (c .before .before .non-null .ensures) (c .before .before .before .slot .ensures)
+returns c = owner-by (c .before .kind-of .ensures) (c .name-of .ensures) (c .before .before .non-null .ensures) (c .before .before .before .slot .ensures)
 
 pub owner-of-spec : {M : Type 1} → statement M
 owner-of-spec =

@@ -1,4 +1,5 @@
 use borrow.Author.Needs.{needs}
+use Rattle.operators.proofs.Ruling.{binary-is}
 use Rattle.nodes.proofs.rule.binary_rule.Statement.{statement}
 use Rattle.nodes.proofs.rule.binary_rule.Tie as tie
 
@@ -12,7 +13,7 @@ check-binary-requires : tie.Need-check-binary-requires
 check-binary-requires c κs = search needs
 
 returns : tie.Need-returns
-returns c = rw (c .before .before .slot .ensures, c .before .slot2 .ensures) at (c .check-binary .ensures)
+returns c = rw (c .before .before .slot .ensures, c .before .slot2 .ensures) at (binary-is _ (c .before .before .before .before .before .before .before .pre .clean) _ _ _ _ (c .check-binary .ensures))
 
 pub binary-rule-spec : {M : Type 1} → statement M
 binary-rule-spec = tie.close (tie.spec slot-requires slot-requires-2 check-binary-requires returns)

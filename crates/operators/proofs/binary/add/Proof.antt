@@ -1,14 +1,11 @@
 use borrow.Author.Needs.{needs}
-use Rattle.area.specs.Source.{typeFrom}
 use Rattle.operators.proofs.binary.add.Statement.{statement}
 use Rattle.operators.proofs.binary.add.Tie as tie
-use Rattle.operators.specs.Binary.{addOut}
-use Rattle.operators.specs.Inside.Ruled.{reportOf}
-use Rattle.operators.specs.Out.{unless}
+use Rattle.operators.specs.Inside.BinaryRule.{addRuled}
 use Rattle.ty.proofs.Choice.{chain}
 
 pub add-spec : {M : Type 1} → statement M
-unfolding addOut typeFrom reportOf unless
+unfolding addRuled
 add-spec =
     tie.close
     (tie.spec
@@ -20,8 +17,7 @@ add-spec =
     let c2 = c .before .before in
     let c3 = c2 .before in
     let c4 = c3 .before in
-    λ table x y.
-    rw (c .plain .ensures table x y, ← c4 .is-string .ensures, ← c3 .is-string2 .ensures, ← c2 .kind-of .ensures) (search chain depth 16))
+    rw (c .plain .ensures, ← c4 .is-string .ensures, ← c3 .is-string2 .ensures, ← c2 .kind-of .ensures) (search chain depth 16))
     (λ c κs. search needs)
     (λ c κs. search needs)
     (λ c κs. search needs)
@@ -31,9 +27,8 @@ add-spec =
     let c6 = c4 .before .before in
     let c7 = c6 .before in
     let c8 = c7 .before in
-    λ table x y.
     rw (
-      c .plain2 .ensures table x y,
+      c .plain2 .ensures,
       ← c8 .is-string .ensures,
       ← c7 .is-string2 .ensures,
       ← c4 .numbers .ensures,
@@ -47,9 +42,8 @@ add-spec =
     let c6 = c4 .before .before in
     let c7 = c6 .before in
     let c8 = c7 .before in
-    λ table x y.
     rw (
-      c .plain3 .ensures table x y,
+      c .plain3 .ensures,
       ← c8 .is-string .ensures,
       ← c7 .is-string2 .ensures,
       ← c4 .numbers .ensures,
@@ -66,9 +60,8 @@ add-spec =
     let c7 = c5 .before .before in
     let c8 = c7 .before in
     let c9 = c8 .before in
-    λ table x y.
     rw (
-      c .plain4 .ensures table x y,
+      c .plain4 .ensures,
       ← c9 .is-string .ensures,
       ← c8 .is-string2 .ensures,
       ← c5 .numbers .ensures,
@@ -84,9 +77,8 @@ add-spec =
     let c7 = c5 .before .before in
     let c8 = c7 .before in
     let c9 = c8 .before in
-    λ table x y.
     rw (
-      c .fails .ensures table x y,
+      c .fails .ensures,
       ← c9 .is-string .ensures,
       ← c8 .is-string2 .ensures,
       ← c5 .numbers .ensures,

@@ -1,14 +1,11 @@
 use borrow.Author.Needs.{needs}
-use Rattle.area.specs.Source.{typeFrom}
 use Rattle.operators.proofs.binary.arithmetic.Statement.{statement}
 use Rattle.operators.proofs.binary.arithmetic.Tie as tie
-use Rattle.operators.specs.Binary.{arithmeticOut}
-use Rattle.operators.specs.Inside.Ruled.{reportOf}
-use Rattle.operators.specs.Out.{unless}
+use Rattle.operators.specs.Inside.BinaryRule.{arithmeticRuled}
 use Rattle.ty.proofs.Choice.{chain}
 
 pub arithmetic-spec : {M : Type 1} → statement M
-unfolding arithmeticOut typeFrom reportOf unless
+unfolding arithmeticRuled
 arithmetic-spec =
     tie.close
     (tie.spec
@@ -18,22 +15,19 @@ arithmetic-spec =
     (λ c.
     let c2 = c .before .before in
     let c4 = c2 .before .before in
-    λ table x y.
-    rw (c .plain .ensures table x y, ← c2 .fractional .ensures, ← c4 .numbers .ensures) (search chain depth 16))
+    rw (c .plain .ensures, ← c2 .fractional .ensures, ← c4 .numbers .ensures) (search chain depth 16))
     (λ c κs. search needs)
     (λ c κs. search needs)
     (λ c.
     let c2 = c .before .before in
     let c4 = c2 .before .before in
     let c6 = c4 .before .before in
-    λ table x y.
-    rw (c .plain2 .ensures table x y, ← c4 .fractional .ensures, ← c6 .numbers .ensures, ← c2 .either .ensures) (search chain depth 16))
+    rw (c .plain2 .ensures, ← c4 .fractional .ensures, ← c6 .numbers .ensures, ← c2 .either .ensures) (search chain depth 16))
     (λ c κs. search needs)
     (λ c.
     let c2 = c .before .before in
     let c4 = c2 .before .before in
     let c6 = c4 .before .before in
-    λ table x y.
-    rw (c .plain3 .ensures table x y, ← c4 .fractional .ensures, ← c6 .numbers .ensures, ← c2 .either .ensures) (search chain depth 16))
+    rw (c .plain3 .ensures, ← c4 .fractional .ensures, ← c6 .numbers .ensures, ← c2 .either .ensures) (search chain depth 16))
     (λ c κs. search needs)
-    (λ c table x y. rw ((c .fails .ensures) table x y, ← (c .before .before .numbers .ensures)) (search chain depth 16)))
+    (λ c. rw ((c .fails .ensures), ← (c .before .before .numbers .ensures)) (search chain depth 16)))

@@ -1,12 +1,11 @@
 use borrow.Author.Needs.{needs}
 use Rattle.operators.proofs.binary.builtin_binary.Statement.{statement}
 use Rattle.operators.proofs.binary.builtin_binary.Tie as tie
-use Rattle.operators.specs.Binary.{builtinBinary}
-use Rattle.operators.specs.Inside.Ruled.{reportOf}
+use Rattle.operators.specs.Inside.BinaryRule.{builtinRuled}
 use Rattle.ty.proofs.Choice.{chain}
 
 pub builtin-binary-spec : {M : Type 1} → statement M
-unfolding builtinBinary reportOf
+unfolding builtinRuled
 builtin-binary-spec =
     tie.close
     (tie.spec
@@ -17,12 +16,9 @@ builtin-binary-spec =
     (λ c.
     let c3 = c .before .before .before in
     let c4 = c3 .before in
-    let c7 = c4 .before .before .before in
-    let a = c7 .args in
-    λ table S.
     rw (
-      c .alone .ensures table (a .lt .now) (a .rt .now),
-      c .before .fails .ensures table (a .lt .now) (a .rt .now),
+      c .alone .ensures,
+      c .before .fails .ensures,
       ← c3 .either .ensures,
       ← c4 .takes-nullable .ensures,
     ) (search chain depth 16))
@@ -30,5 +26,4 @@ builtin-binary-spec =
     (λ c.
     let c2 = c .before .before in
     let c3 = c2 .before in
-    λ table S.
-    rw (c .operator .ensures table S, ← c2 .either .ensures, ← c3 .takes-nullable .ensures) (search chain depth 16)))
+    rw (c .operator .ensures, ← c2 .either .ensures, ← c3 .takes-nullable .ensures) (search chain depth 16)))

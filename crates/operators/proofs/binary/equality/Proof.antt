@@ -1,12 +1,10 @@
 use borrow.Author.Needs.{needs}
-use Rattle.area.specs.Source.{typeFrom}
 use Rattle.operators.proofs.binary.equality.Statement.{statement}
 use Rattle.operators.proofs.binary.equality.Tie as tie
-use Rattle.operators.specs.Inside.Ruled.{reportOf}
-use Rattle.operators.specs.Out.{unless}
+use Rattle.operators.specs.Inside.BinaryRule.{equalityRuled}
 
 pub equality-spec : {M : Type 1} → statement M
-unfolding typeFrom reportOf unless
+unfolding equalityRuled
 equality-spec =
     tie.close
     (tie.spec
@@ -19,9 +17,8 @@ equality-spec =
     let c2 = c .before .before in
     let c3 = c2 .before in
     let c4 = c3 .before in
-    λ S table x y.
     rw (
-      c .checked .ensures table x y,
+      c .checked .ensures,
       c4 .can-assign-to .ensures,
       c3 .can-assign-to2 .ensures,
       c2 .either .ensures,

@@ -1,12 +1,10 @@
 use borrow.Author.Needs.{needs}
-use Rattle.area.specs.Source.{typeFrom}
 use Rattle.operators.proofs.binary.logical.Statement.{statement}
 use Rattle.operators.proofs.binary.logical.Tie as tie
-use Rattle.operators.specs.Inside.Ruled.{reportOf, outOf}
-use Rattle.operators.specs.Out.{unless}
+use Rattle.operators.specs.Inside.BinaryRule.{logicalRuled}
 
 pub logical-spec : {M : Type 1} → statement M
-unfolding outOf typeFrom reportOf unless
+unfolding logicalRuled
 logical-spec =
     tie.close
     (tie.spec
@@ -17,5 +15,4 @@ logical-spec =
     (λ c.
     let c2 = c .before .before in
     let c3 = c2 .before in
-    λ table x y.
     rw (c2 .unless .ensures, c .unless2 .ensures, c3 .is-logical .ensures, c .before .is-logical2 .ensures)))

@@ -1,12 +1,10 @@
 use borrow.Author.Needs.{needs}
-use Rattle.area.specs.Source.{typeFrom}
 use Rattle.operators.proofs.binary.order.Statement.{statement}
 use Rattle.operators.proofs.binary.order.Tie as tie
-use Rattle.operators.specs.Inside.Ruled.{reportOf}
-use Rattle.operators.specs.Out.{unless}
+use Rattle.operators.specs.Inside.BinaryRule.{orderRuled}
 
 pub order-spec : {M : Type 1} → statement M
-unfolding typeFrom reportOf unless
+unfolding orderRuled
 order-spec =
     tie.close
     (tie.spec
@@ -19,5 +17,4 @@ order-spec =
     let c2 = c .before .before in
     let c3 = c2 .before in
     let c4 = c3 .before in
-    λ table x y.
-    rw (c .checked .ensures table x y, c4 .numbers .ensures, c3 .either .ensures, c2 .same-bytes .ensures, c .before .char-string .ensures)))
+    rw (c .checked .ensures, c4 .numbers .ensures, c3 .either .ensures, c2 .same-bytes .ensures, c .before .char-string .ensures)))

@@ -2,11 +2,11 @@ use borrow.Author.Needs.{needs}
 use borrow.Author.Tests.{leb-true}
 use Rattle.operators.proofs.method.operator_overload_return.Statement.{statement}
 use Rattle.operators.proofs.method.operator_overload_return.Tie as tie
-use Rattle.operators.specs.OperatorMethod.{operatorReturn}
+use Rattle.operators.specs.Inside.MethodPlace.{operatorPlace}
 use Rattle.ty.proofs.Choice.{chain, and-left}
 
 pub operator-overload-return-spec : {M : Type 1} → statement M
-unfolding operatorReturn
+unfolding operatorPlace
 operator-overload-return-spec =
     tie.close (tie.spec
     (λ c κs. search needs)

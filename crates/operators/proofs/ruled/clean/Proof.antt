@@ -1,10 +1,9 @@
 use mathlib.Core.Path.{refl}
-use Rattle.area.specs.Source.{typeFrom}
 use Rattle.operators.proofs.ruled.clean.Statement.{statement}
 use Rattle.operators.proofs.ruled.clean.Tie as tie
-use Rattle.operators.specs.Inside.Ruled.{reportOf, outOf, oneOut}
+use Rattle.operators.specs.Inside.RuledParts.{oneReport, cleanOne}
 
 pub clean-spec : {M : Type 1} → statement M
-unfolding typeFrom oneOut outOf reportOf
+unfolding oneReport cleanOne
 clean-spec = tie.close (tie.spec
-    (λ c table x y. refl))
+    (λ c. refl))

@@ -1,10 +1,9 @@
 use mathlib.Core.Path.{refl}
-use Rattle.area.specs.Source.{typeFrom}
 use Rattle.operators.proofs.ruled.fails.Statement.{statement}
 use Rattle.operators.proofs.ruled.fails.Tie as tie
-use Rattle.operators.specs.Inside.Ruled.{reportOf, outOf, oneOut}
+use Rattle.operators.specs.Inside.RuledParts.{oneReport, failsOne}
 
 pub fails-spec : {M : Type 1} → statement M
-unfolding typeFrom oneOut outOf reportOf
+unfolding oneReport failsOne
 fails-spec = tie.close (tie.spec
-    (λ c table x y. refl))
+    (λ c. refl))

@@ -1,11 +1,10 @@
 use borrow.Author.Needs.{needs}
-use Rattle.area.specs.Source.{typeFrom}
 use Rattle.operators.proofs.ruled.plain.Statement.{statement}
 use Rattle.operators.proofs.ruled.plain.Tie as tie
-use Rattle.operators.specs.Inside.Ruled.{reportOf, outOf, oneOut}
+use Rattle.operators.specs.Inside.RuledParts.{plainOne}
 
 pub plain-spec : {M : Type 1} → statement M
-unfolding typeFrom oneOut outOf reportOf
+unfolding plainOne
 plain-spec = tie.close (tie.spec
     (λ c κs. search needs)
-    (λ c table x y. c .clean .ensures table x y))
+    (λ c. c .clean .ensures))

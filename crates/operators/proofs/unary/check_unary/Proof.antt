@@ -6,4 +6,4 @@ pub check-unary-spec : {M : Type 1} → statement M
 check-unary-spec = tie.close (tie.spec
     (λ c κs. search needs)
     (λ c κs. search needs)
-    (λ c table y. rw ((c .alone .ensures) table ((c .before .before .before .args .t) .now) y, (c .before .unary .ensures) table y)))
+    (λ c. rw (c .alone .ensures, c .before .unary .ensures)))

@@ -1,27 +1,22 @@
 use borrow.Author.Needs.{needs}
-use mathlib.Core.Path.{sym}
-use Rattle.operators.proofs.MethodLookups.{none-found, first-found}
-use Rattle.rules.proofs.MemberLookups.{first-function}
+use Rattle.operators.proofs.MethodLookups.{first-here}
 use Rattle.rules.proofs.member.lookup_function.Statement.{statement}
 use Rattle.rules.proofs.member.lookup_function.Tie as tie
-use Rattle.rules.specs.Member.{firstFunction}
+use Rattle.rules.specs.Inside.Variable.{functionPlace}
 
 pub lookup-function-spec : {M : Type 1} → statement M
-unfolding firstFunction
+unfolding functionPlace
 lookup-function-spec =
     tie.close
     (tie.spec
     (λ c κs. search needs)
     (λ c. search needs)
     (λ c. search needs)
-    (λ c κs. let x = c .before .found .given in first-found _ _ _ (x .0 .0) (c .before .before .before .first-function .ensures) (x .1) .here)
+    (λ c κs.
+    let c3 = c .before .before .before in
+    let x = c .before .found .given in
+    first-here _ (c3 .before .before .before .pre .clean) _ _ _ (x .0 .0) (c3 .first-function .ensures) (x .1) .here)
+    (λ c. rw (← c .before .before .first-function .ensures, c .enum-told .given .1))
     (λ c.
     let c2 = c .before .before in
-    let c5 = c2 .before .before .before in
-    rw (none-found (c5 .args .table .now) _ _ (c2 .first-function .ensures) (c .enum-told .given .1)))
-    (λ c.
-    let c2 = c .before .before in
-    let c4 = c2 .before .before in
-    let c7 = c4 .before .before .before in
-    let x = c2 .found .given in
-    sym (first-function (c7 .args .table .now) _ (x .0 .0) _ (first-found _ _ _ (x .0 .0) (c4 .first-function .ensures) (x .1)) (c .read-function .ensures))))
+    rw (← c2 .before .before .first-function .ensures, c2 .found .given .1, c .read-function .ensures)))

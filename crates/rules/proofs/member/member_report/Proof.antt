@@ -1,11 +1,11 @@
 use borrow.Author.Needs.{needs}
 use Rattle.rules.proofs.member.member_report.Statement.{statement}
 use Rattle.rules.proofs.member.member_report.Tie as tie
-use Rattle.rules.specs.Member.{memberReport}
+use Rattle.rules.specs.Inside.AccessRule.{baseRuled}
 use Rattle.ty.proofs.Choice.{chain}
 
 pub member-report-spec : {M : Type 1} → statement M
-unfolding memberReport
+unfolding baseRuled
 member-report-spec =
     tie.close
     (tie.spec

@@ -1,22 +1,19 @@
 use borrow.Author.Needs.{needs}
-use Rattle.area.specs.Source.{typeFrom}
 use Rattle.rules.proofs.member.string_member.Statement.{statement}
 use Rattle.rules.proofs.member.string_member.Tie as tie
-use Rattle.rules.specs.Member.{stringMember}
-use Rattle.operators.specs.Out.{unless}
-use Rattle.operators.specs.Inside.Ruled.{reportOf}
+use Rattle.rules.specs.Inside.MemberRule.{stringRuled}
 use Rattle.ty.proofs.Choice.{chain}
 
 pub string-member-spec : {M : Type 1} → statement M
-unfolding stringMember typeFrom reportOf unless
+unfolding stringRuled
 string-member-spec =
     tie.close
     (tie.spec
     (λ c κs. search needs)
-    (λ c table x y. rw (c .plain .ensures table x y) (search chain depth 16))
+    (λ c. rw (c .plain .ensures) (search chain depth 16))
     (λ c κs. search needs)
-    (λ c table x y. rw (c .plain2 .ensures table x y) (search chain depth 16))
+    (λ c. rw (c .plain2 .ensures) (search chain depth 16))
     (λ c κs. search needs)
-    (λ c table x y. rw (c .plain3 .ensures table x y) (search chain depth 16))
+    (λ c. rw (c .plain3 .ensures) (search chain depth 16))
     (λ c κs. search needs)
-    (λ c table x y. rw (c .fails .ensures table x y) (search chain depth 16)))
+    (λ c. rw (c .fails .ensures) (search chain depth 16)))

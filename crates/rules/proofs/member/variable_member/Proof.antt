@@ -1,22 +1,19 @@
 use borrow.Author.Needs.{needs}
-use Rattle.area.specs.Source.{typeFrom}
 use Rattle.rules.proofs.member.variable_member.Statement.{statement}
 use Rattle.rules.proofs.member.variable_member.Tie as tie
-use Rattle.rules.specs.Member.{variableMember}
-use Rattle.operators.specs.Out.{unless}
-use Rattle.operators.specs.Inside.Ruled.{reportOf}
+use Rattle.rules.specs.Inside.MemberRule.{variableRuled}
 use Rattle.ty.proofs.Choice.{chain}
 
 pub variable-member-spec : {M : Type 1} → statement M
-unfolding variableMember typeFrom reportOf unless
+unfolding variableRuled
 variable-member-spec =
     tie.close
     (tie.spec
     (λ c κs. search needs)
-    (λ c table x y. rw (c .plain .ensures table x y) (search chain depth 16))
+    (λ c. rw (c .plain .ensures) (search chain depth 16))
     (λ c κs. search needs)
-    (λ c table x y. rw (c .plain2 .ensures table x y) (search chain depth 16))
+    (λ c. rw (c .plain2 .ensures) (search chain depth 16))
     (λ c κs. search needs)
-    (λ c table x y. rw (c .plain3 .ensures table x y) (search chain depth 16))
+    (λ c. rw (c .plain3 .ensures) (search chain depth 16))
     (λ c κs. search needs)
-    (λ c table x y. rw (c .plain4 .ensures table x y) (search chain depth 16)))
+    (λ c. rw (c .plain4 .ensures) (search chain depth 16)))

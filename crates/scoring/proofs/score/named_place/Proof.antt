@@ -34,7 +34,7 @@ loop-again : tie.Need-loop-again Inv-loop μ-loop
 loop-again c = (omega arith, λ t. place-turn t ((c .before .before .before .before .args .t1)) ((c .before .before .before .before .args .id)) ((c .before .before .before .loop .j)) ((c .before .before .before .loop .inv .1) t) ((c .before .before .loop-test .taken)) ((c .if1 .left)))
 
 returns-2 : tie.Need-returns-2 Inv-loop μ-loop
-returns-2 c = λ t. place-none t ((c .before .before .args .t1)) ((c .before .before .args .id)) ((c .before .loop .j)) ((c .before .loop .inv .1) t) ((c .loop-test .left))
+returns-2 c = λ t. place-none t ((c .before .before .args .t1)) ((c .before .before .args .id)) ((c .before .loop .j)) ((c .before .loop .inv .1) t) ((c .before .loop .inv .0)) ((c .loop-test .left))
 
 pub named-place-spec : {M : Type 1} → statement M
 named-place-spec =

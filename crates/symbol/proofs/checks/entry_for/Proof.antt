@@ -1,16 +1,18 @@
-use borrow.Author.Needs.{needs}
 use Prim.Native.Nat.{ℕ, _+_, _%_}
+use borrow.Author.Needs.{needs}
 use lib.ListN.{length}
 use mathlib.Core.Path.{sym, ap, _∙_, subst}
 use native.Mathlib.Omega.{arith}
-use Rattle.symbol.proofs.SearchMeetsKey.{own-in, own-open, list-fresh, list-bucket, key-taken, key-free}
 use Rattle.index.proofs.Searches.{root-free}
+use Rattle.index.proofs.TreeWalks.{search-spot}
 use Rattle.index.specs.Inside.Index.{listCount}
 use Rattle.index.specs.Inside.SearchKey.{treeFor, KeyIn, keyAt}
 use Rattle.index.specs.Inside.Spot.{SpotIs, FreeIs}
-use Rattle.record.specs.declared.front.Head.{Head}
+use Rattle.index.specs.Inside.TreeWalk.{searchOf}
 use Rattle.index.specs.declared.tree.Key.{Key}
 use Rattle.index.specs.declared.tree.Spot.{Spot}
+use Rattle.record.specs.declared.front.Head.{Head}
+use Rattle.symbol.proofs.SearchMeetsKey.{own-in, own-open, list-fresh, list-bucket, key-taken, key-free}
 use Rattle.symbol.proofs.checks.entry_for.Statement.{statement}
 use Rattle.symbol.proofs.checks.entry_for.Tie as tie
 
@@ -70,11 +72,11 @@ enum-known-spot : tie.Need-enum-known-spot
 enum-known-spot c = search needs
 
 returns-3 : tie.Need-returns-3
-returns-3 c = record { key = key-taken (c .before .before .before .before .before .before .before .before .before .before .before .args .t .now) (c .before .before .before .before .before .before .before .before .before .before .before .args .x .now) (c .before .before .before .before .before .before .before .before .before .before .before .args .me) (c .before .before .before .before .before .before .before .before .before .before .before .args .h) (c .before .before .before .before .before .before .before .before .before .before .before .pre) (c .before .before .before .before .before .before .before .if1 .left) _ (subst (λ (z : Spot). SpotIs (c .before .before .before .before .before .before .before .before .before .before .before .args .t .now) (c .before .before .before .before .before .before .before .before .before .before .before .args .x .now) ((c .before .before .before .before .before .before .before .before .before .before .before .args .me .at)) (keyAt (c .before .before .before .before .before .before .before .before .before .before .before .args .me) (c .before .before .before .before .before .before .before .before .before .before .before .args .h)) z) (c .enum-told .given .1) (subst (λ (z : Key). SpotIs (c .before .before .before .before .before .before .before .before .before .before .before .args .t .now) (c .before .before .before .before .before .before .before .before .before .before .before .args .x .now) ((c .before .before .before .before .before .before .before .before .before .before .before .args .me .at)) z (c .before .before .search .result)) (c .before .before .before .before .before .before .key-of .ensures) ((c .before .before .search .ensures) ((c .before .before .before .before .before .before .before .before .before .before .before .args .me .at)) ((c .before .before .before .before .before .before .before .before .before .before .before .pre .planted .tree))))); place = tt }
+returns-3 c = record { key = key-taken (c .before .before .before .before .before .before .before .before .before .before .before .args .t .now) (c .before .before .before .before .before .before .before .before .before .before .before .args .x .now) (c .before .before .before .before .before .before .before .before .before .before .before .args .me) (c .before .before .before .before .before .before .before .before .before .before .before .args .h) (c .before .before .before .before .before .before .before .before .before .before .before .pre) (c .before .before .before .before .before .before .before .if1 .left) _ (subst (λ (z : Spot). SpotIs (c .before .before .before .before .before .before .before .before .before .before .before .args .t .now) (c .before .before .before .before .before .before .before .before .before .before .before .args .x .now) ((c .before .before .before .before .before .before .before .before .before .before .before .args .me .at)) (keyAt (c .before .before .before .before .before .before .before .before .before .before .before .args .me) (c .before .before .before .before .before .before .before .before .before .before .before .args .h)) z) (c .enum-told .given .1) (search-spot (c .before .before .before .before .before .before .before .before .before .before .before .args .t .now) (c .before .before .before .before .before .before .before .before .before .before .before .args .x .now) (keyAt (c .before .before .before .before .before .before .before .before .before .before .before .args .me) (c .before .before .before .before .before .before .before .before .before .before .before .args .h)) (own-open (c .before .before .before .before .before .before .before .before .before .before .before .args .t .now) (c .before .before .before .before .before .before .before .before .before .before .before .args .x .now) (c .before .before .before .before .before .before .before .before .before .before .before .args .me) (c .before .before .before .before .before .before .before .before .before .before .before .args .h) (c .before .before .before .before .before .before .before .before .before .before .before .pre)) (c .before .before .search .result) ((c .before .before .search .ensures) ∙ ap (searchOf (c .before .before .before .before .before .before .before .before .before .before .before .args .t .now) (c .before .before .before .before .before .before .before .before .before .before .before .args .x .now)) (c .before .before .before .before .before .before .key-of .ensures)) ((c .before .before .before .before .before .before .before .before .before .before .before .args .me .at)) ((c .before .before .before .before .before .before .before .before .before .before .before .pre .planted .tree)))); place = tt }
 
 returns-4 : tie.Need-returns-4
 returns-4 c =
-    let f = subst (λ (z : Spot). SpotIs (c .before .before .before .before .before .before .before .before .before .before .before .before .args .t .now) (c .before .before .before .before .before .before .before .before .before .before .before .before .args .x .now) ((c .before .before .before .before .before .before .before .before .before .before .before .before .args .me .at)) (keyAt (c .before .before .before .before .before .before .before .before .before .before .before .before .args .me) (c .before .before .before .before .before .before .before .before .before .before .before .before .args .h)) z) (c .before .spot .given .1) (subst (λ (z : Key). SpotIs (c .before .before .before .before .before .before .before .before .before .before .before .before .args .t .now) (c .before .before .before .before .before .before .before .before .before .before .before .before .args .x .now) ((c .before .before .before .before .before .before .before .before .before .before .before .before .args .me .at)) z (c .before .before .before .search .result)) (c .before .before .before .before .before .before .before .key-of .ensures) ((c .before .before .before .search .ensures) ((c .before .before .before .before .before .before .before .before .before .before .before .before .args .me .at)) ((c .before .before .before .before .before .before .before .before .before .before .before .before .pre .planted .tree)))) in
+    let f = subst (λ (z : Spot). SpotIs (c .before .before .before .before .before .before .before .before .before .before .before .before .args .t .now) (c .before .before .before .before .before .before .before .before .before .before .before .before .args .x .now) ((c .before .before .before .before .before .before .before .before .before .before .before .before .args .me .at)) (keyAt (c .before .before .before .before .before .before .before .before .before .before .before .before .args .me) (c .before .before .before .before .before .before .before .before .before .before .before .before .args .h)) z) (c .before .spot .given .1) (search-spot (c .before .before .before .before .before .before .before .before .before .before .before .before .args .t .now) (c .before .before .before .before .before .before .before .before .before .before .before .before .args .x .now) (keyAt (c .before .before .before .before .before .before .before .before .before .before .before .before .args .me) (c .before .before .before .before .before .before .before .before .before .before .before .before .args .h)) (own-open (c .before .before .before .before .before .before .before .before .before .before .before .before .args .t .now) (c .before .before .before .before .before .before .before .before .before .before .before .before .args .x .now) (c .before .before .before .before .before .before .before .before .before .before .before .before .args .me) (c .before .before .before .before .before .before .before .before .before .before .before .before .args .h) (c .before .before .before .before .before .before .before .before .before .before .before .before .pre)) (c .before .before .before .search .result) ((c .before .before .before .search .ensures) ∙ ap (searchOf (c .before .before .before .before .before .before .before .before .before .before .before .before .args .t .now) (c .before .before .before .before .before .before .before .before .before .before .before .before .args .x .now)) (c .before .before .before .before .before .before .before .key-of .ensures)) ((c .before .before .before .before .before .before .before .before .before .before .before .before .args .me .at)) ((c .before .before .before .before .before .before .before .before .before .before .before .before .pre .planted .tree))) in
     record {
       key = key-free (c .before .before .before .before .before .before .before .before .before .before .before .before .args .t .now) (c .before .before .before .before .before .before .before .before .before .before .before .before .args .x .now) (c .before .before .before .before .before .before .before .before .before .before .before .before .args .me) (c .before .before .before .before .before .before .before .before .before .before .before .before .args .h) (c .before .before .before .before .before .before .before .before .before .before .before .before .pre) (c .before .before .before .before .before .before .before .before .if1 .left) _ f;
       place =

@@ -1,6 +1,6 @@
 use borrow.Author.Needs.{needs}
 use native.Mathlib.Omega.{arith}
-use Rattle.symbol.proofs.FunctionsRead.{function-long, function-inside, function-room, function-count, function-row, function-read}
+use Rattle.symbol.proofs.FunctionsRead.{function-long, function-inside, function-room, function-count, function-row, function-fields}
 use Rattle.symbol.proofs.functions.read_whole.Statement.{statement}
 use Rattle.symbol.proofs.functions.read_whole.Tie as tie
 
@@ -38,7 +38,7 @@ byte-at-requires-3 : tie.Need-byte-at-requires-3
 byte-at-requires-3 c κs = search needs
 
 returns : tie.Need-returns
-returns c = function-read (c .before .before .before .before .before .before .args .t .now) (c .before .before .before .before .before .before .args .p) (c .before .before .before .before .before .before .pre .0) (c .before .before .before .before .before .before .args .end) (c .before .before .before .before .before .before .pre .1) (c .before .before .before .before .type-length .result) (c .before .before .before .before .type-length .ensures) (c .before .before .before .byte-at .result) (c .before .before .before .byte-at .ensures) (c .byte-at3 .result) (c .before .byte-at2 .result) (c .byte-at3 .ensures) (c .before .byte-at2 .ensures) (c .before .before .read-params .result) (c .before .before .read-params .ensures)
+returns c = function-fields (c .before .before .before .before .before .before .args .t .now) (c .before .before .before .before .before .before .args .p) (c .before .before .before .before .before .before .pre .0) (c .before .before .before .before .before .before .args .end) (c .before .before .before .before .before .before .pre .1) (c .before .before .before .before .type-length .result) (c .before .before .before .before .type-length .ensures) (c .before .before .before .byte-at .result) (c .before .before .before .byte-at .ensures) (c .byte-at3 .result) (c .before .byte-at2 .result) (c .byte-at3 .ensures) (c .before .byte-at2 .ensures) (c .before .before .read-params .result) (c .before .before .read-params .ensures)
 
 pub read-whole-spec : {M : Type 1} → statement M
 read-whole-spec =

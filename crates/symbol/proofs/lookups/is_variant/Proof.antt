@@ -1,5 +1,6 @@
 use borrow.Author.Needs.{needs}
 use native.Mathlib.Omega.{arith}
+use Rattle.index.proofs.Firsts.{found-first}
 use Rattle.symbol.proofs.lookups.is_variant.Statement.{statement}
 use Rattle.symbol.proofs.lookups.is_variant.Tie as tie
 use Rattle.symbol.proofs.LaidLookups.{variant-told}
@@ -15,10 +16,10 @@ enum-told-2 : tie.Need-enum-told-2
 enum-told-2 c = search needs
 
 returns : tie.Need-returns
-returns c = let h = rw (c .enum-told .given .1) at (c .before .before .seek .ensures) in rw (← variant-told (recordsOf (c .before .before .before .before .before .args .t .now)) (c .before .before .before .before .before .args .owner) (c .before .before .before .before .before .args .name), h .first)
+returns c = let h = rw (c .enum-told .given .1) at (found-first (c .before .before .before .before .before .args .t .now) (c .before .before .before .before .before .pre .clean) 8 (c .before .before .before .before .before .args .owner) (c .before .before .before .before .before .args .name) (c .before .before .seek .result) (c .before .before .seek .ensures)) in rw (← variant-told (recordsOf (c .before .before .before .before .before .args .t .now)) (c .before .before .before .before .before .args .owner) (c .before .before .before .before .before .args .name), h .first)
 
 returns-2 : tie.Need-returns-2
-returns-2 c = let e = rw (c .enum-told2 .given .1) at (c .before .before .seek .ensures) in rw (← variant-told (recordsOf (c .before .before .before .before .before .args .t .now)) (c .before .before .before .before .before .args .owner) (c .before .before .before .before .before .args .name), e)
+returns-2 c = let e = rw (c .enum-told2 .given .1) at (found-first (c .before .before .before .before .before .args .t .now) (c .before .before .before .before .before .pre .clean) 8 (c .before .before .before .before .before .args .owner) (c .before .before .before .before .before .args .name) (c .before .before .seek .result) (c .before .before .seek .ensures)) in rw (← variant-told (recordsOf (c .before .before .before .before .before .args .t .now)) (c .before .before .before .before .before .args .owner) (c .before .before .before .before .before .args .name), e)
 
 pub is-variant-spec : {M : Type 1} → statement M
 is-variant-spec = tie.close (tie.spec seek-requires enum-told enum-told-2 returns returns-2)

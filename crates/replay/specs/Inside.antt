@@ -1,0 +1,2 @@
+-- What reading a case hands on; no reader of a product needs to believe it.
+pub mod CaseRead
