@@ -1,7 +1,7 @@
 //! Keys chosen against the index of a table (crates/index/specs/Inside/Bucket.antt): they share a bucket, and names also the
 //! first digits by which a search in the bucket's tree goes one of eight ways.
 
-use oracle::rng::Rng;
+use reading::rng::Rng;
 use std::collections::BTreeMap;
 use std::sync::OnceLock;
 
@@ -164,7 +164,7 @@ pub fn listed_with(owner: u16, name: u16, ids: u16) -> Vec<(u16, u16)> {
 #[cfg(test)]
 mod tests {
     use super::*;
-    use oracle::name::BUILT_IN;
+    use reading::name::BUILT_IN;
     use std::collections::BTreeSet;
 
     fn name(spelled: &str) -> [u8; NAME] {

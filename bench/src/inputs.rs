@@ -1,9 +1,9 @@
 //! The inputs: tables by make and size, questions by node count and depth, inputs that are refused.
 
 use crate::collide;
-use oracle::bytes::*;
-use oracle::name::{BUILT_IN, NONE};
-use oracle::rng::Rng;
+use reading::bytes::*;
+use reading::name::{BUILT_IN, NONE};
+use reading::rng::Rng;
 
 /// What a table is made of.
 #[derive(Debug, Clone, Copy, PartialEq, Eq)]
@@ -418,7 +418,7 @@ fn wide_leaves(last: &[u8]) -> Vec<u8> {
 mod tests {
     use super::*;
     use crate::measure::BUFFER;
-    use oracle::table::record_lengths;
+    use reading::words::table::record_lengths;
 
     /// The records of a table, one by one.
     fn split(table: &[u8]) -> Vec<&[u8]> {

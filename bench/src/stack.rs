@@ -2,7 +2,7 @@
 
 use crate::inputs::{table, Make};
 use aura_judge::raw;
-use oracle::bytes::*;
+use reading::bytes::*;
 use std::process::{Command, Stdio};
 
 /// Stacks are tried in steps of this many KiB.

@@ -1,9 +1,10 @@
-//! One case: what the Rust says for some buffer lengths, and what the proved judge does.
+//! One case: what the yardsticks say for some buffer lengths, and what the proved judge does.
 
+use crate::yardstick::Sayings;
 use aura_judge::raw::{self, Fields, ANSWER_SIZE};
-use oracle::gen::Case;
-use oracle::sample::hex;
-use oracle::{answer, print_answer, Answer};
+use reading::gen::Case;
+use reading::hex::hex;
+use reading::{print_answer, Answer, Said, Yardstick};
 
 /// What lies in and around the lent slices before a call.
 pub const POISON: u8 = 0xa5;
@@ -14,9 +15,6 @@ const GUARD: usize = 64;
 /// The longest buffer that is lent.
 const LONGEST: usize = 66_000;
 
-/// What the Rust says of a table and a question.
-pub struct Said(answer::Said);
-
 /// What a call of the proved judge left behind: the number that it answered, the answer slice, the lent buffer.
 pub struct Given<'a> {
     pub number: u8,
@@ -24,47 +22,39 @@ pub struct Given<'a> {
     pub buffer: &'a [u8],
 }
 
-impl Said {
-    pub fn of(table: &[u8], question: &[u8]) -> Said {
-        Said(answer::Said::of(table, question, true))
-    }
-
-    /// Whether the case is inside the compared domain.
-    pub fn inside(&self) -> bool {
-        self.0.inside()
-    }
-
-    /// The buffer lengths at which number 12 begins and ends.
-    pub fn limits(&self) -> Vec<usize> {
-        match &self.0 {
-            answer::Said::Judged { diagnostics, .. } if !diagnostics.is_empty() => {
-                let need = 5 * diagnostics.len();
-                [need - 1, need, need + 4].into_iter().filter(|n| *n <= LONGEST).collect()
-            }
-            _ => Vec::new(),
+/// The buffer lengths at which number 12 begins and ends, by the first yardstick that says something.
+pub fn limits(sayings: &Sayings) -> Vec<usize> {
+    match sayings.each().next() {
+        Some((_, Said::Judged { diagnostics, .. })) if !diagnostics.is_empty() => {
+            let need = 5 * diagnostics.len();
+            [need - 1, need, need + 4].into_iter().filter(|n| *n <= LONGEST).collect()
         }
+        _ => Vec::new(),
     }
+}
 
-    /// Compares every byte that a call left with the Rust's; answers the number. The error says what differs.
-    /// `expected` is room as long as the lent buffer.
-    pub fn agrees(&self, given: &Given, expected: &mut [u8]) -> Result<u8, String> {
-        let Given { number, answer: bytes, buffer } = given;
-        expected.fill(0);
-        let right = self.0.answer(expected);
-        let (answer, rest) = read(bytes);
+/// Compares every byte that a call left with what each yardstick says; answers the number. The error says what
+/// differs. `expected` is room as long as the lent buffer.
+pub fn agrees(sayings: &Sayings, given: &Given, expected: &mut [u8]) -> Result<u8, String> {
+    let Given { number, answer: bytes, buffer } = given;
+    let (answer, rest) = read(bytes);
+    for (yardstick, said) in sayings.each() {
+        let right = (yardstick.answer)(said, expected);
         if *number == right.number && answer == right && rest.iter().all(|b| *b == 0) && *buffer == &*expected {
-            return Ok(*number);
+            continue;
         }
         let at = buffer.iter().zip(&*expected).position(|(a, b)| a != b);
         let at = at.map_or(String::from("none"), |i| format!("{}: {} for {}", i, buffer[i], expected[i]));
-        Err(format!(
-            "number returned {}, first buffer byte that differs {}\nproved answer {}\nthe Rust's answer {}",
+        return Err(format!(
+            "number returned {}, first buffer byte that differs {}\nproved answer {}\nanswer by {} {}",
             number,
             at,
             shown(&answer, buffer),
+            yardstick.name,
             shown(&right, expected)
-        ))
+        ));
     }
+    Ok(*number)
 }
 
 /// Room for the slices of a call, kept from case to case.
@@ -74,13 +64,15 @@ pub struct Space {
     answer: Vec<u8>,
 }
 
-/// How a case came out.
-#[derive(Debug, Clone, Copy, PartialEq, Eq)]
-pub enum Outcome {
-    /// Every byte agrees; the number that the case's own buffer length draws, and how many calls were compared.
-    Agrees { number: u8, calls: u64 },
-    /// Outside the compared domain.
-    Outside,
+/// How a case came out: every byte agrees.
+#[derive(Debug, Clone, PartialEq, Eq)]
+pub struct Outcome {
+    /// The number that the case's own buffer length draws.
+    pub number: u8,
+    /// How many calls were compared.
+    pub calls: u64,
+    /// Per yardstick whether it says something of this case.
+    pub speaks: Vec<bool>,
 }
 
 impl Default for Space {
@@ -90,23 +82,17 @@ impl Default for Space {
 }
 
 impl Space {
-    /// Compares a case at its own buffer length and, where `limits` is set, at those around number 12. The error says
+    /// Compares a case at its own buffer length and, where `around` is set, at those around number 12. The error says
     /// what differs.
-    pub fn compare(&mut self, case: &Case, limits: bool) -> Result<Outcome, String> {
-        let said = Said::of(&case.table, &case.question);
-        if !said.inside() {
-            self.call(case, case.buffer)?;
-            return Ok(Outcome::Outside);
+    pub fn compare(&mut self, yardsticks: &[Yardstick], case: &Case, around: bool) -> Result<Outcome, String> {
+        let sayings = Sayings::of(yardsticks, &case.table, &case.question);
+        let number = self.compare_at(case, &sayings, case.buffer)?;
+        let lengths = if around { limits(&sayings) } else { Vec::new() };
+        for length in &lengths {
+            self.compare_at(case, &sayings, *length)?;
         }
-        let number = self.compare_at(case, &said, case.buffer)?;
-        let mut calls = 1;
-        if limits {
-            for length in said.limits() {
-                self.compare_at(case, &said, length)?;
-                calls += 1;
-            }
-        }
-        Ok(Outcome::Agrees { number, calls })
+        let speaks = (0..yardsticks.len()).map(|place| sayings.speaks(place)).collect();
+        Ok(Outcome { number, calls: 1 + lengths.len() as u64, speaks })
     }
 
     /// Calls the proved judge on poisoned slices; answers the number. The answer and the buffer stay in the room.
@@ -125,11 +111,11 @@ impl Space {
         Ok(number)
     }
 
-    fn compare_at(&mut self, case: &Case, said: &Said, length: usize) -> Result<u8, String> {
+    fn compare_at(&mut self, case: &Case, sayings: &Sayings, length: usize) -> Result<u8, String> {
         let number = self.call(case, length)?;
         let answer = &self.answer[GUARD..self.answer.len() - GUARD];
         let given = Given { number, answer, buffer: &self.lent[GUARD..GUARD + length] };
-        said.agrees(&given, &mut self.expected[..length]).map_err(|what| described(case, length, &what))
+        agrees(sayings, &given, &mut self.expected[..length]).map_err(|what| described(case, length, &what))
     }
 }
 

@@ -1,17 +1,16 @@
-//! Runs the proved judge and the Rust's own methods over generated cases and compares every byte.
+//! Runs the proved judge and its yardsticks, the Rust's own methods inside their domain and the words everywhere, over
+//! generated cases and compares every byte.
 //!
 //! compare [--profile P] [--seed S] [--count N] [--first I] [--threads T]
 //!
-//! P is a profile of oracle/src/gen, `mixed` (those without an end), `sweeps` (each whole) or `all` (the sweeps, then
+//! P is a profile of reading/src/gen, `mixed` (those without an end), `sweeps` (each whole) or `all` (the sweeps, then
 //! N mixed cases; the default). The first difference ends the run with status 1.
 
-use compare::run::{sweeps, Batch, Run};
-use oracle::gen::Profile;
+use compare::run::{sweeps, Batch, Run, CI_COUNT, CI_SEED};
+use compare::yardstick;
+use reading::gen::Profile;
 use std::sync::atomic::Ordering::Relaxed;
 use std::time::Duration;
-
-/// What CI runs beside the sweeps.
-const CI_COUNT: u64 = 300_000;
 
 fn stop(message: &str) -> ! {
     eprintln!("compare: {}", message);
@@ -36,7 +35,7 @@ fn batches(profile: &str, first: u64, count: Option<u64>) -> Vec<Batch> {
 }
 
 fn main() {
-    let (mut seed, mut first, mut count, mut threads) = (1, 0, None, 2);
+    let (mut seed, mut first, mut count, mut threads) = (CI_SEED, 0, None, 2);
     let mut profile = String::from("all");
     let args: Vec<String> = std::env::args().skip(1).collect();
     for pair in args.chunks(2) {
@@ -51,16 +50,15 @@ fn main() {
             _ => stop(&format!("unknown option {}", option)),
         }
     }
-    let run = Run::new(seed, threads);
+    let run = Run::new(yardstick::ALL, seed, threads);
     let result = run.compare(&batches(&profile, first, count), Some(Duration::from_secs(10)));
     println!("compare: {} (profile {}, seed {}, {} threads)", run.said(), profile, seed, threads);
     let numbers: Vec<String> = run.counts.numbers.iter().map(|n| n.load(Relaxed).to_string()).collect();
     println!("compare: numbers 0 to 13 were drawn {} times", numbers.join(", "));
-    let (calls, outside) = (run.counts.calls.load(Relaxed), run.counts.outside.load(Relaxed));
-    println!(
-        "compare: {} calls compared; {} cases outside the compared domain, judged and not compared",
-        calls, outside
-    );
+    println!("compare: {} calls; cases compared: {}", run.counts.calls.load(Relaxed), run.compared());
+    if !cfg!(feature = "rust") {
+        println!("compare: the Rust's own methods are not built in");
+    }
     match result {
         Ok(()) => println!("compare: no difference"),
         Err(what) => {

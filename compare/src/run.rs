@@ -1,7 +1,8 @@
 //! Many cases on some threads, with progress.
 
-use crate::case::{Outcome, Space};
-use oracle::gen::{case, mixed, Case, Profile, PROFILES};
+use crate::case::Space;
+use reading::gen::{case, mixed, Case, Profile, PROFILES};
+use reading::Yardstick;
 use std::panic::{catch_unwind, AssertUnwindSafe};
 use std::sync::atomic::{AtomicBool, AtomicU64, Ordering::Relaxed};
 use std::sync::Mutex;
@@ -37,6 +38,10 @@ pub fn sweeps() -> Vec<Batch> {
     PROFILES.iter().filter_map(whole).collect()
 }
 
+/// How many mixed cases CI runs beside the sweeps.
+pub const CI_COUNT: u64 = 300_000;
+pub const CI_SEED: u64 = 1;
+
 /// Every fourth case is asked at the buffer lengths around number 12 too.
 const LIMITS_EVERY: u64 = 4;
 
@@ -47,12 +52,14 @@ const CHUNK: u64 = 64;
 pub struct Counts {
     pub cases: AtomicU64,
     pub calls: AtomicU64,
-    pub outside: AtomicU64,
+    /// Per yardstick, how many cases were compared with it.
+    pub with: Vec<AtomicU64>,
     /// How many cases drew each number.
     pub numbers: [AtomicU64; 14],
 }
 
-pub struct Run {
+pub struct Run<'y> {
+    pub yardsticks: &'y [Yardstick],
     pub seed: u64,
     pub threads: usize,
     pub counts: Counts,
@@ -61,12 +68,14 @@ pub struct Run {
     began: Instant,
 }
 
-impl Run {
-    pub fn new(seed: u64, threads: usize) -> Run {
+impl Run<'_> {
+    pub fn new(yardsticks: &[Yardstick], seed: u64, threads: usize) -> Run<'_> {
+        let with = yardsticks.iter().map(|_| AtomicU64::new(0)).collect();
         Run {
+            yardsticks,
             seed,
             threads,
-            counts: Counts::default(),
+            counts: Counts { with, ..Counts::default() },
             stop: AtomicBool::new(false),
             difference: Mutex::new(None),
             began: Instant::now(),
@@ -133,17 +142,23 @@ impl Run {
 
     fn one(&self, batch: &Batch, index: u64, space: &mut Space) -> Result<(), String> {
         let case = batch.case(self.seed, index);
-        let limits = index % LIMITS_EVERY == 0;
-        let compared = catch_unwind(AssertUnwindSafe(|| space.compare(&case, limits)));
-        let outcome = compared.unwrap_or_else(|_| Err(format!("the Rust's side stopped on {:?}", case)))?;
+        let around = index % LIMITS_EVERY == 0;
+        let compared = catch_unwind(AssertUnwindSafe(|| space.compare(self.yardsticks, &case, around)));
+        let outcome = compared.unwrap_or_else(|_| Err(format!("a yardstick stopped on {:?}", case)))?;
         self.counts.cases.fetch_add(1, Relaxed);
-        match outcome {
-            Outcome::Outside => self.counts.outside.fetch_add(1, Relaxed),
-            Outcome::Agrees { number, calls } => {
-                self.counts.calls.fetch_add(calls, Relaxed);
-                self.counts.numbers[number as usize].fetch_add(1, Relaxed)
-            }
-        };
+        self.counts.calls.fetch_add(outcome.calls, Relaxed);
+        self.counts.numbers[outcome.number as usize].fetch_add(1, Relaxed);
+        for (count, speaks) in self.counts.with.iter().zip(outcome.speaks) {
+            count.fetch_add(speaks as u64, Relaxed);
+        }
         Ok(())
+    }
+
+    /// How many cases were compared with each yardstick.
+    pub fn compared(&self) -> String {
+        let one =
+            |(yardstick, count): (&Yardstick, &AtomicU64)| format!("{} with {}", count.load(Relaxed), yardstick.name);
+        let each: Vec<String> = self.yardsticks.iter().zip(&self.counts.with).map(one).collect();
+        each.join(", ")
     }
 }

@@ -3,17 +3,18 @@
 use aura_judge::raw::{answer_size, judge, ANSWER_SIZE, TOO_SHORT};
 use compare::case::read;
 use compare::run::{sweeps, Batch, Run};
-use oracle::gen::PROFILES;
+use compare::yardstick;
+use reading::gen::PROFILES;
 
 #[test]
 fn the_named_examples_agree() {
-    for example in oracle::examples::all() {
+    for example in reading::examples::all() {
         let mut buffer = vec![7; 65_535];
         let mut bytes = [7; ANSWER_SIZE];
         let number = judge(&example.table, &example.question, &mut buffer, &mut bytes);
         let (answer, _) = read(&bytes);
         assert_eq!(number, answer.number, "{}", example.name);
-        assert_eq!(oracle::print_answer(&answer, &buffer), example.printed(), "{}", example.name);
+        assert_eq!(reading::print_answer(&answer, &buffer), example.printed(), "{}", example.name);
     }
 }
 
@@ -21,7 +22,7 @@ fn the_named_examples_agree() {
 fn every_profile_agrees() {
     let every = PROFILES.iter().map(|(profile, _)| Batch { profile: Some(*profile), first: 0, count: 400 });
     let batches: Vec<Batch> = every.chain([Batch { profile: None, first: 0, count: 4_000 }]).collect();
-    Run::new(3, 2).compare(&batches, None).unwrap_or_else(|what| panic!("{}", what));
+    Run::new(yardstick::ALL, 3, 2).compare(&batches, None).unwrap_or_else(|what| panic!("{}", what));
     assert!(sweeps().len() >= 6);
 }
 

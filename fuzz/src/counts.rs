@@ -5,7 +5,8 @@ use std::sync::OnceLock;
 use std::time::Instant;
 
 static INPUTS: AtomicU64 = AtomicU64::new(0);
-static OUTSIDE: AtomicU64 = AtomicU64::new(0);
+/// How many inputs were compared with the Rust too.
+static RUST: AtomicU64 = AtomicU64::new(0);
 /// How many compared calls drew each number.
 static NUMBERS: [AtomicU64; 14] = [const { AtomicU64::new(0) }; 14];
 static BEGAN: OnceLock<Instant> = OnceLock::new();
@@ -20,24 +21,22 @@ pub fn call(number: u8) {
 }
 
 /// An input whose calls are done.
-pub fn input(inside: bool) {
+pub fn input(with_rust: bool) {
     let inputs = INPUTS.fetch_add(1, Relaxed) + 1;
-    OUTSIDE.fetch_add(!inside as u64, Relaxed);
+    RUST.fetch_add(with_rust as u64, Relaxed);
     if inputs % 256 != 1 {
         return;
     }
     let seconds = BEGAN.get_or_init(Instant::now).elapsed().as_secs();
     if seconds >= SHOWN.load(Relaxed) + EVERY {
         SHOWN.store(seconds, Relaxed);
-        let (outside, calls) = (OUTSIDE.load(Relaxed), calls());
         eprintln!(
-            "fuzz: {} s, {} inputs, {} a second: {} compared in {} calls, {} outside the compared domain",
+            "fuzz: {} s, {} inputs, {} a second: {} calls, {} inputs compared with the Rust, all with the words",
             seconds,
             inputs,
             inputs / seconds,
-            inputs - outside,
-            calls,
-            outside
+            calls(),
+            RUST.load(Relaxed)
         );
     }
 }
@@ -49,5 +48,5 @@ fn calls() -> u64 {
 /// `fuzz/run` adds these lines up.
 pub extern "C" fn print_totals() {
     let numbers: Vec<String> = NUMBERS.iter().map(|n| n.load(Relaxed).to_string()).collect();
-    eprintln!("fuzz: total {} {} {} {}", INPUTS.load(Relaxed), calls(), OUTSIDE.load(Relaxed), numbers.join(" "));
+    eprintln!("fuzz: total {} {} {} {}", INPUTS.load(Relaxed), calls(), RUST.load(Relaxed), numbers.join(" "));
 }

@@ -4,11 +4,11 @@ use crate::counts;
 use crate::fault::Fault;
 use crate::pages::{At, Pages};
 use aura_judge::raw::ANSWER_SIZE;
-use compare::case::{described, Given, Said, POISON};
-use oracle::answer::BUFFER;
-use oracle::gen::Case;
-use oracle::sample::hex;
-use oracle::split_input;
+use compare::case::{agrees, described, limits, Given, POISON};
+use compare::yardstick::{Sayings, ALL};
+use reading::gen::Case;
+use reading::hex::hex;
+use reading::{split_input, BUFFER};
 use std::cell::RefCell;
 use std::ffi::c_int;
 
@@ -61,9 +61,9 @@ impl Harness {
         let (table, question) = split_input(input);
         // Copies, so that each is a heap block of just its length.
         let case = Case { table: table.to_vec(), question: question.to_vec(), buffer: BUFFER };
-        let said = Said::of(table, question);
-        self.on_heap(&case, &said)?;
-        let mut lengths = said.limits();
+        let sayings = Sayings::of(ALL, table, question);
+        self.on_heap(&case, &sayings)?;
+        let mut lengths = limits(&sayings);
         // More diagnostics than the program's buffer holds drew 12 above.
         lengths.retain(|length| *length <= BUFFER);
         if lengths.is_empty() {
@@ -71,34 +71,34 @@ impl Harness {
         }
         for (i, length) in lengths.into_iter().enumerate() {
             let at = [At::End, At::Start][(i + input.len()) % 2];
-            self.on_pages(&case, &said, length, at).map_err(|what| described(&case, length, &what))?;
+            self.on_pages(&case, &sayings, length, at).map_err(|what| described(&case, length, &what))?;
         }
         if case.table != table || case.question != question {
             return Err(String::from("the table or the question was written"));
         }
-        counts::input(said.inside());
+        counts::input(sayings.speaks(0));
         Ok(())
     }
 
     /// The program's buffer; the four slices are heap blocks of just their lengths.
-    fn on_heap(&mut self, case: &Case, said: &Said) -> Result<(), String> {
+    fn on_heap(&mut self, case: &Case, sayings: &Sayings) -> Result<(), String> {
         let mut buffer = vec![POISON; case.buffer];
         let mut answer = vec![POISON; ANSWER_SIZE];
         let number = self.fault.judge(&case.table, &case.question, &mut buffer, &mut answer);
         let given = Given { number, answer: &answer, buffer: &buffer };
-        let agrees = compared(said, &given, &mut self.expected);
-        agrees.map_err(|what| described(case, case.buffer, &what))
+        let compared = compared(sayings, &given, &mut self.expected);
+        compared.map_err(|what| described(case, case.buffer, &what))
     }
 
     /// Each of the four slices touches a forbidden page.
-    fn on_pages(&mut self, case: &Case, said: &Said, length: usize, at: At) -> Result<(), String> {
+    fn on_pages(&mut self, case: &Case, sayings: &Sayings, length: usize, at: At) -> Result<(), String> {
         // Longer answers sometimes: the bytes behind the answer are to be zero.
         let room = ANSWER_SIZE + length % 3;
         let table = self.table.copy(&case.table, at);
         let question = self.question.copy(&case.question, at);
         let (buffer, answer) = (self.buffer.lend(length, at), self.answer.lend(room, at));
         let number = self.fault.judge(table, question, buffer, answer);
-        compared(said, &Given { number, answer, buffer }, &mut self.expected)?;
+        compared(sayings, &Given { number, answer, buffer }, &mut self.expected)?;
         if table != case.table || question != case.question {
             return Err(String::from("the table or the question was written"));
         }
@@ -115,10 +115,7 @@ impl Harness {
     }
 }
 
-/// Outside the compared domain there is nothing to compare with.
-fn compared(said: &Said, given: &Given, expected: &mut [u8]) -> Result<(), String> {
-    if said.inside() {
-        counts::call(said.agrees(given, &mut expected[..given.buffer.len()])?);
-    }
+fn compared(sayings: &Sayings, given: &Given, expected: &mut [u8]) -> Result<(), String> {
+    counts::call(agrees(sayings, given, &mut expected[..given.buffer.len()])?);
     Ok(())
 }

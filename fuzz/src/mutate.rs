@@ -1,14 +1,14 @@
 //! Mutations that keep the table's length right, and mostly its records and the tree whole.
 
-use oracle::bytes::{binary, call, leaf, member, method, named_arg, unary, Bytes};
-use oracle::gen::damage::damage;
-use oracle::gen::model::random_type;
-use oracle::gen::sweep::type_list;
-use oracle::name::NONE;
-use oracle::question::read_node;
-use oracle::rng::Rng;
-use oracle::table::{name_count, record_lengths};
-use oracle::{join_input, split_input};
+use reading::bytes::{binary, call, leaf, member, method, named_arg, unary, Bytes};
+use reading::gen::damage::damage;
+use reading::gen::model::random_type;
+use reading::gen::sweep::type_list;
+use reading::name::NONE;
+use reading::words::question::read_node;
+use reading::rng::Rng;
+use reading::words::table::{name_count, record_lengths};
+use reading::{join_input, split_input};
 use std::ops::Range;
 
 extern "C" {

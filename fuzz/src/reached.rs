@@ -1,4 +1,4 @@
-//! What a corpus reaches in the oracle: edges and source lines, by file.
+//! What a corpus reaches in the yardsticks: edges and source lines, by file.
 
 use crate::harness;
 use std::collections::{BTreeMap, BTreeSet};
@@ -13,9 +13,33 @@ extern "C" {
     fn __sanitizer_symbolize_pc(place: *const c_void, form: *const c_char, out: *mut c_char, size: usize);
 }
 
-/// The sources that judge; the generator's are of no concern. `cut.rs` is the Rust's own text.
-const FILES: [&str; 8] =
-    ["cut.rs", "rust.rs", "stubs.rs", "table.rs", "question.rs", "types.rs", "answer.rs", "diagnostic.rs"];
+/// The sources that judge, by the end of their paths; the generator's are of no concern. `cut.rs` is the Rust's own
+/// text.
+const FILES: [&str; 23] = [
+    "/cut.rs",
+    "/oracle/src/rust.rs",
+    "/oracle/src/stubs.rs",
+    "/oracle/src/table.rs",
+    "/oracle/src/question.rs",
+    "/oracle/src/types.rs",
+    "/oracle/src/answer.rs",
+    "/oracle/src/diagnostic.rs",
+    "/words/access.rs",
+    "/words/assign.rs",
+    "/words/binary.rs",
+    "/words/calls.rs",
+    "/words/clean.rs",
+    "/words/judgement.rs",
+    "/words/lent.rs",
+    "/words/member.rs",
+    "/words/operator.rs",
+    "/words/parameter.rs",
+    "/words/question.rs",
+    "/words/symbols.rs",
+    "/words/table.rs",
+    "/words/types.rs",
+    "/words/unary.rs",
+];
 
 /// The edges of a file, and its lines with whether one of their edges was reached.
 #[derive(Default)]
@@ -47,8 +71,7 @@ fn place(edge: usize) -> Option<(&'static str, u32)> {
         rest = &rest[frame.count_bytes() + 1..];
         let frame = frame.to_string_lossy();
         let (path, line) = frame.rsplit_once(':')?;
-        let ours = path.contains("/oracle/src/") || path.contains("/oracle-");
-        let file = FILES.iter().find(|f| ours && !path.contains("/gen/") && path.ends_with(&format!("/{}", f)));
+        let file = FILES.iter().find(|file| path.ends_with(*file));
         if let Some(file) = file {
             return Some((file, line.parse().ok()?));
         }

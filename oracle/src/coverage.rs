@@ -1,11 +1,10 @@
 //! How often each refusal number, operator, node kind, diagnostic and ruling occurs in generated cases.
 
-use crate::answer::{diagnostics, finish, refusal, run, type_bytes};
-use crate::gen::{self, Case, PROFILES};
-use crate::question::build;
-use crate::sample::hex;
-use crate::table::fill;
-use crate::words;
+use crate::answer::Run;
+use reading::gen::{self, Case, PROFILES};
+use reading::hex::hex;
+use reading::words::{self, clean::Typing, judgement::Judged, lent};
+use reading::Said;
 use std::collections::HashMap;
 
 /// What is counted.
@@ -102,49 +101,54 @@ impl Coverage {
         self.counts.get(&item).copied().unwrap_or(0)
     }
 
-    /// Judges a case and counts what occurred; the error says where the Rust and the words differ.
+    /// Judges a case by the words and counts what occurred; the error says where the Rust, inside its domain, says
+    /// something else, or where the words contradict themselves.
     pub fn add(&mut self, case: &Case) -> Result<(), String> {
         self.cases += 1;
-        let number = refusal(&case.table, &case.question);
-        if number != 0 {
-            self.count(Item::Number(number));
-            return Ok(());
-        }
-        let mut filled = fill(&case.table);
-        let asked = build(&case.question, &filled.names);
-        let judged = run(&mut filled, &asked, true);
-        let reports = diagnostics(&judged, &asked);
-        if !crate::answer::inside(&case.table, &filled.names, &asked, &judged) {
-            self.count(Item::Outside);
-            return Ok(());
-        }
+        let (judged, typing) = match words::judge(&case.table, &case.question) {
+            Ok(said) => said,
+            Err(number) => {
+                self.count(Item::Number(number));
+                return Ok(());
+            }
+        };
         let described =
             |what: String| format!("{}\ntable {}\nquestion {}", what, hex(&case.table), hex(&case.question));
-        let rulings = words::compare(&filled, &asked, &judged, &reports).map_err(described)?;
-        for ruling in rulings {
+        demand_three(&judged, typing.as_ref()).map_err(described)?;
+        let run = Run::of(&case.table, &case.question);
+        if run.inside(&case.table) {
+            same(&judged, &run).map_err(described)?;
+        } else {
+            self.count(Item::Outside);
+        }
+        self.count_judged(case, &judged, typing.is_some()).map_err(described)
+    }
+
+    fn count_judged(&mut self, case: &Case, judged: &Judged, passed: bool) -> Result<(), String> {
+        let question = words::question::read(&case.question);
+        for ruling in &judged.rulings {
             self.count(Item::Ruling(ruling));
         }
         for (node, ty) in &judged.finished {
-            let len = type_bytes(ty, &filled.names).len();
-            if len > 192 + asked.kinds.len() - node {
-                return Err(described(format!("node {} has a type of {} bytes", node, len)));
+            if ty.len() > 192 + question.kinds.len() - node {
+                return Err(format!("node {} has a type of {} bytes", node, ty.len()));
             }
-            self.count(Item::NodeKind(asked.kinds[*node]));
-            match asked.kinds[*node] {
-                1 => self.count(Item::Binary(asked.operators[*node])),
-                2 => self.count(Item::Unary(asked.operators[*node])),
+            self.count(Item::NodeKind(question.kinds[*node]));
+            match question.kinds[*node] {
+                1 => self.count(Item::Binary(question.operators[*node])),
+                2 => self.count(Item::Unary(question.operators[*node])),
                 _ => {}
             }
         }
-        let mut buffer = vec![0; case.buffer];
-        let answer = finish(&judged, &reports, &filled.names, &mut buffer);
-        self.count(Item::Number(answer.number));
-        if answer.pass == 1 {
-            self.count(Item::Passed);
-        }
-        for report in &reports {
+        for report in &judged.reports {
             self.count(Item::Diagnostic(report.kind, report.number));
         }
+        if passed {
+            self.count(Item::Passed);
+        }
+        let said = Said::Judged { ty: judged.ty.clone(), passed, diagnostics: judged.reports.clone() };
+        let answer = lent::answer(&said, &mut vec![0; case.buffer]);
+        self.count(Item::Number(answer.number));
         Ok(())
     }
 
@@ -157,6 +161,29 @@ impl Coverage {
         }
         faults
     }
+}
+
+/// The words' judgement and the Rust's: the type, the diagnostics, and the finished nodes in order.
+fn same(judged: &Judged, run: &Run) -> Result<(), String> {
+    let (reports, finished) = (run.diagnostics(), run.finished());
+    if judged.reports != reports || judged.finished != finished {
+        return Err(format!(
+            "the words give {:?} and {:?}, the Rust {:?} and {:?}",
+            judged.finished, judged.reports, finished, reports
+        ));
+    }
+    Ok(())
+}
+
+/// Demand 3 of the words: there is a typing exactly where nothing is reported and no visited node has type Error,
+/// and it gives the visited nodes the judgement's types.
+fn demand_three(judged: &Judged, typing: Option<&Typing>) -> Result<(), String> {
+    let types: Typing = judged.finished.iter().cloned().collect();
+    let quiet = judged.reports.is_empty() && types.values().all(|ty| *ty != [reading::bytes::ERROR]);
+    if quiet.then_some(&types) != typing {
+        return Err(format!("the words judge {:?} and {:?}, but type {:?}", types, judged.reports, typing));
+    }
+    Ok(())
 }
 
 /// How many cases of the mixed profiles CI runs, beside every sweep whole.

@@ -1,21 +1,7 @@
 //! The Rust's messages as document 01's kinds and numbers.
 
 use crate::rust::{CompileError, ErrorSeverity, Site, LAST_WALK_FIRST_LINE, LAST_WALK_LAST_LINE, SITES};
-
-#[derive(Debug, Clone, Copy, PartialEq, Eq, Hash, PartialOrd, Ord)]
-pub struct Diagnostic {
-    pub kind: u8,
-    pub node: u16,
-    pub number: u16,
-}
-
-impl Diagnostic {
-    pub fn bytes(&self) -> [u8; 5] {
-        let node = self.node.to_le_bytes();
-        let number = self.number.to_le_bytes();
-        [self.kind, node[0], node[1], number[0], number[1]]
-    }
-}
+use reading::Diagnostic;
 
 /// The messages by how they begin; what a message says behind that decides 15, 18 and 20.
 const BEGINNINGS: [(&str, u8); 22] = [

@@ -1,91 +1,8 @@
-//! Questions: refusals 8 to 11, and the tree.
+//! A question as the Rust's tree.
 
-use crate::name::NONE;
 use crate::rust::{node_span, Expr, BIN_OPS, UN_OPS};
-use crate::table::name_count;
-use crate::types::{decode, read_type, End};
-
-pub const LIMIT: usize = 16_384;
-pub const NODES: usize = 64;
-
-/// One node's own bytes: their length and the number of its children, or its number.
-pub fn read_node(bytes: &[u8], names: usize, nodes_before: usize) -> Result<(usize, usize), u8> {
-    let mut numbers: Vec<u8> = Vec::new();
-    let mut len = 0;
-    let mut children = 0;
-    if nodes_before >= NODES {
-        numbers.push(9);
-    }
-    let id_fault = |bytes: &[u8], numbers: &mut Vec<u8>| {
-        if u16::from_le_bytes([bytes[1], bytes[2]]) as usize >= names {
-            numbers.push(10);
-        }
-    };
-    match bytes.first() {
-        Some(0) => {
-            let read = read_type(&bytes[1..]);
-            if read.ids.iter().any(|&id| id as usize >= names) {
-                numbers.push(10);
-            }
-            match read.end {
-                End::Whole(n) => len = 1 + n,
-                End::Malformed | End::Cut => numbers.push(8),
-                End::Endless => numbers.push(11),
-            }
-        }
-        Some(1) if bytes.len() >= 2 && bytes[1] <= 22 => (len, children) = (2, 2),
-        Some(2) if bytes.len() >= 2 && bytes[1] <= 6 => (len, children) = (2, 1),
-        Some(3 | 4) if bytes.len() >= 3 => {
-            id_fault(bytes, &mut numbers);
-            (len, children) = (3, 1);
-        }
-        Some(kind @ (5 | 6)) if bytes.len() >= 4 && bytes[3] <= 16 => {
-            id_fault(bytes, &mut numbers);
-            (len, children) = (4, bytes[3] as usize + (*kind == 6) as usize);
-        }
-        _ => numbers.push(8),
-    }
-    match numbers.iter().min() {
-        Some(number) => Err(*number),
-        None => Ok((len, children)),
-    }
-}
-
-/// 0, or the number with which document 01 refuses the question, under a table with this many names.
-pub fn number_under(question: &[u8], names: usize) -> u8 {
-    if question.len() > LIMIT || question.len() < 5 || question[4] > 1 {
-        return 8;
-    }
-    for at in [0, 2] {
-        let id = u16::from_le_bytes([question[at], question[at + 1]]);
-        if id != NONE && id as usize >= names {
-            return 10;
-        }
-    }
-    let mut at = 5;
-    let mut nodes = 0;
-    let mut missing = 1;
-    while missing > 0 {
-        match read_node(&question[at..], names, nodes) {
-            Ok((len, children)) => {
-                at += len;
-                missing = missing - 1 + children;
-                nodes += 1;
-            }
-            Err(number) => return number,
-        }
-    }
-    if at < question.len() {
-        8
-    } else {
-        0
-    }
-}
-
-/// The question's number under an accepted table.
-pub fn question_number(table: &[u8], question: &[u8]) -> u8 {
-    number_under(question, name_count(table))
-}
+use crate::types::decode;
+use reading::name::NONE;
 
 /// A question as the Rust's methods take it.
 pub struct Asked {
@@ -97,8 +14,6 @@ pub struct Asked {
     pub positions: Vec<u16>,
     /// Per node its kind.
     pub kinds: Vec<u8>,
-    /// Per node its operator byte, or 0.
-    pub operators: Vec<u8>,
 }
 
 struct Builder<'a> {
@@ -107,7 +22,6 @@ struct Builder<'a> {
     at: usize,
     positions: Vec<u16>,
     kinds: Vec<u8>,
-    operators: Vec<u8>,
 }
 
 impl Builder<'_> {
@@ -125,7 +39,6 @@ impl Builder<'_> {
         let kind = self.bytes[start];
         self.positions.push(position);
         self.kinds.push(kind);
-        self.operators.push(if matches!(kind, 1 | 2) { self.bytes[start + 1] } else { 0 });
         match kind {
             0 => {
                 let (ty, len) = decode(&self.bytes[start + 1..], self.names);
@@ -180,8 +93,7 @@ pub fn build(question: &[u8], names: &[String]) -> Asked {
             Some(names[id as usize].clone())
         }
     };
-    let mut builder =
-        Builder { bytes: question, names, at: 5, positions: Vec::new(), kinds: Vec::new(), operators: Vec::new() };
+    let mut builder = Builder { bytes: question, names, at: 5, positions: Vec::new(), kinds: Vec::new() };
     let tree = builder.node(0);
     Asked {
         current_type: optional(0),
@@ -190,6 +102,5 @@ pub fn build(question: &[u8], names: &[String]) -> Asked {
         tree,
         positions: builder.positions,
         kinds: builder.kinds,
-        operators: builder.operators,
     }
 }

@@ -1,9 +1,10 @@
 //! The answer, the lent buffer, the program's input, the compared domain.
 
-use oracle::bytes::*;
-use oracle::gen::boundary::{diagnostics_case, most_diagnostics, table_of_length};
-use oracle::name::NONE;
-use oracle::{answer, in_domain, printed, program, Answer};
+use oracle::{answer, in_domain, printed, program};
+use reading::bytes::*;
+use reading::gen::boundary::{diagnostics_case, most_diagnostics, table_of_length};
+use reading::name::NONE;
+use reading::Answer;
 
 fn one_diagnostic() -> Bytes {
     question(&unary(NOT_NULL, &leaf(&[INT])))
@@ -63,7 +64,7 @@ fn tables_of_60000_bytes_are_read_and_of_60001_refused() {
     for kind in [1, 5, 7] {
         for (len, number) in [(59_999, 0), (60_000, 0), (60_001, 1)] {
             let table = table_of_length(len, kind);
-            assert_eq!((table.len(), oracle::table_number(&table)), (len, number));
+            assert_eq!((table.len(), reading::words::table::table_number(&table)), (len, number));
         }
     }
 }
@@ -144,9 +145,9 @@ fn a_refused_case_is_inside() {
 
 #[test]
 fn numbers_by_themselves() {
-    assert_eq!(oracle::table_number(&[9]), 2);
-    assert_eq!(oracle::question_number(&[], &question(&leaf(&named(40)))), 10);
+    assert_eq!(reading::words::table::table_number(&[9]), 2);
+    assert_eq!(reading::words::question::question_number(&[], &question(&leaf(&named(40)))), 10);
     let mut table = Table::new();
     table.name("a");
-    assert_eq!(oracle::question_number(&table.bytes(), &question(&leaf(&named(40)))), 0);
+    assert_eq!(reading::words::question::question_number(&table.bytes(), &question(&leaf(&named(40)))), 0);
 }

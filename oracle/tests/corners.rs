@@ -1,11 +1,11 @@
 //! Every sentence of document 01's "Corners in .." as a test that fails if the sentence is false.
 //! Tests made by `sentences!` run the named examples of that sentence, whose answers were written by hand.
 
-use oracle::examples;
-use oracle::gen::sweep::type_list;
-use oracle::name::BUILT_IN;
 use oracle::rust::{Checker, Ty, Visibility, TY_KINDS, VISIBILITIES};
 use oracle::types::decode;
+use reading::examples;
+use reading::gen::sweep::type_list;
+use reading::name::BUILT_IN;
 use std::collections::BTreeSet;
 
 fn check(sentence: &str) {
@@ -267,7 +267,7 @@ fn judged(table: &[u8], question: &[u8]) -> (Vec<u8>, Vec<u8>) {
 
 #[test]
 fn for_all_types_a_bitwise_operator_gives_the_left_type() {
-    use oracle::bytes::*;
+    use reading::bytes::*;
     let types: Vec<Bytes> = type_list().iter().filter(|t| t[0] != 12 && t[0] != ERROR).cloned().collect();
     let table = Table::with_names(&["T", "U", "Page", "Scan"]);
     let (mut reported, mut silent) = (0, 0);
@@ -290,7 +290,7 @@ fn for_all_types_a_bitwise_operator_gives_the_left_type() {
 
 #[test]
 fn for_all_types_not_null_gives_error_the_arm_for_a_nullable_operand_is_never_reached() {
-    use oracle::bytes::*;
+    use reading::bytes::*;
     let table = Table::with_names(&["T", "U", "Page", "Scan"]);
     for ty in type_list() {
         let kind = if ty[0] == 12 { 8 } else { 13 };
@@ -301,7 +301,7 @@ fn for_all_types_not_null_gives_error_the_arm_for_a_nullable_operand_is_never_re
 
 #[test]
 fn for_all_types_an_error_operand_gives_error_silently() {
-    use oracle::bytes::*;
+    use reading::bytes::*;
     let mut table = Table::with_names(&["T", "U", "Page", "Scan"]);
     table.operators(43, 0x7ff);
     for op in 0..23 {

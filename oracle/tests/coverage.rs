@@ -1,7 +1,7 @@
 //! The run that CI does: everything occurs often enough, and the words agree with the Rust on every call.
 
 use oracle::coverage::{ci_run, required, Coverage, CI_MIXED, CI_SEED};
-use oracle::gen::{self, Profile, PROFILES};
+use reading::gen::{self, Profile, PROFILES};
 
 #[test]
 fn every_number_operator_node_kind_and_diagnostic_occurs_at_least_100_times() {
@@ -32,7 +32,7 @@ fn accepted_profiles_are_accepted() {
     {
         for index in 0..3_000 {
             let case = gen::case(profile, 5, index);
-            let number = oracle::answer::refusal(&case.table, &case.question);
+            let number = reading::words::refusal(&case.table, &case.question);
             assert_eq!(number, 0, "{} {}", profile.name(), index);
         }
     }

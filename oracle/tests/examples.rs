@@ -1,6 +1,6 @@
 //! Document 01's examples and corners, to the letter.
 
-use oracle::examples::all;
+use reading::examples::all;
 
 #[test]
 fn every_example_prints_what_document_01_says() {

@@ -1,6 +1,6 @@
 //! docs/DIFFERENCES.md says what the oracle prints.
 
-use oracle::sample::unhex;
+use reading::hex::unhex;
 
 fn spans(cell: &str) -> Vec<&str> {
     cell.split('`').skip(1).step_by(2).collect()

@@ -1,6 +1,6 @@
 //! The program `oracle` itself: standard input to standard output.
 
-use oracle::examples;
+use reading::examples;
 use std::io::Write;
 use std::process::{Command, Stdio};
 
@@ -25,7 +25,7 @@ fn document_01s_two_samples() {
 #[test]
 fn the_examples_through_the_program() {
     for e in examples::all().into_iter().step_by(7) {
-        let input = oracle::join_input(&e.table, &e.question).expect("the length fits");
+        let input = reading::join_input(&e.table, &e.question).expect("the length fits");
         assert_eq!(run(&input), e.printed(), "{}", e.name);
     }
 }

@@ -1,6 +1,7 @@
 //! The stored answers are what the oracle says today.
 
-use oracle::sample::{files, hex, replayed, unhex, BINARY, REPLAYED, TEXT};
+use oracle::sample::{files, replayed, BINARY, REPLAYED, TEXT};
+use reading::hex::{hex, unhex};
 use std::collections::{BTreeSet, HashSet};
 use std::path::PathBuf;
 use std::sync::OnceLock;

@@ -2,8 +2,8 @@
 //!
 //! numbers --profile P --seed S --count N --out FILE   (P: a profile's name, or mixed)
 
-use oracle::gen::{self, Profile, PROFILES};
 use oracle::sample::binary_case;
+use reading::gen::{self, Profile, PROFILES};
 use std::io::{BufWriter, Write};
 
 fn stop(message: &str) -> ! {

@@ -7,9 +7,10 @@
 //! (2 bytes each, low byte first), and the question. The second has their numbers (0, or 8 to 11), a line each.
 
 use oracle::args::Args;
-use oracle::gen::{self, Profile};
-use oracle::name::BUILT_IN;
-use oracle::{question_number, table, table_number};
+use reading::gen::{self, Profile};
+use reading::name::BUILT_IN;
+use reading::words::question::question_number;
+use reading::words::table::{name_count, table_number};
 use std::io::{BufWriter, Write};
 
 const PROFILES: [Profile; 5] = [Profile::Damaged, Profile::Boundary, Profile::Random, Profile::Rich, Profile::Calls];
@@ -25,7 +26,7 @@ fn main() -> std::io::Result<()> {
             if case.question.len() as u64 > longest || table_number(&case.table) != 0 {
                 continue;
             }
-            let names = (table::name_count(&case.table) - BUILT_IN.len()) as u16;
+            let names = (name_count(&case.table) - BUILT_IN.len()) as u16;
             let number = question_number(&case.table, &case.question);
             questions.write_all(&names.to_le_bytes())?;
             questions.write_all(&(case.question.len() as u16).to_le_bytes())?;

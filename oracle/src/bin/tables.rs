@@ -7,8 +7,8 @@
 //! numbers (0 to 7), a line each.
 
 use oracle::args::Args;
-use oracle::gen::{self, Profile};
-use oracle::table_number;
+use reading::gen::{self, Profile};
+use reading::words::table::table_number;
 use std::collections::HashSet;
 use std::io::{BufWriter, Write};
 

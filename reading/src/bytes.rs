@@ -2,19 +2,9 @@
 
 use crate::name::{BUILT_IN, NONE};
 
-pub const INT: u8 = 0;
-pub const LONG: u8 = 1;
-pub const SHORT: u8 = 2;
-pub const BYTE: u8 = 3;
-pub const FLOAT: u8 = 4;
-pub const DOUBLE: u8 = 5;
-pub const BOOLEAN: u8 = 6;
-pub const CHAR: u8 = 7;
-pub const STRING: u8 = 8;
-pub const ANY: u8 = 9;
-pub const NOTHING: u8 = 10;
-pub const UNIT: u8 = 11;
-pub const ERROR: u8 = 21;
+pub use crate::words::types::{
+    ANY, BOOLEAN, BYTE, CHAR, DOUBLE, ERROR, FLOAT, INT, LONG, NOTHING, SHORT, STRING, UNIT,
+};
 
 pub type Bytes = Vec<u8>;
 

@@ -3,7 +3,7 @@
 use super::model;
 use crate::bytes::Bytes;
 use crate::rng::Rng;
-use crate::table::record_lengths;
+use crate::words::table::record_lengths;
 
 type Pair = (Bytes, Bytes);
 
