@@ -20,8 +20,6 @@ use std::time::Duration;
 
 const DOCS: &str = concat!(env!("CARGO_MANIFEST_DIR"), "/../docs");
 const COMMAND: &str = "rt staticlib aura_c && cd bench && cargo run --release -- --write";
-/// The part of the page that is written by hand begins so.
-const BY_HAND: &str = "\n## What was tried";
 
 /// The times of one input.
 fn times(input: &Input, effort: Effort) -> Times {
@@ -152,13 +150,10 @@ fn main() {
         buffers: buffers(effort),
         stack: stack::smallest(),
     };
-    let place = format!("{DOCS}/SPEED.md");
-    let before = std::fs::read_to_string(&place).unwrap_or_default();
-    let by_hand = before.find(BY_HAND).map_or("", |at| &before[at..]);
-    let page = report::page(&report, by_hand);
+    let page = report::page(&report);
     print!("{}", if lines { report::lines(&report) } else { page.clone() });
     if write {
-        std::fs::write(&place, &page).expect("docs/SPEED.md is written");
+        std::fs::write(format!("{DOCS}/SPEED.md"), &page).expect("docs/SPEED.md is written");
         std::fs::write(format!("{DOCS}/speed.svg"), plot::svg(&panels(&report))).expect("docs/speed.svg is written");
     }
 }

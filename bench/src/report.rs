@@ -5,6 +5,9 @@ use crate::inputs::{Make, TURN};
 use crate::measure::Times;
 use std::fmt::Write;
 
+/// How many characters a line of prose may have.
+const WIDTH: usize = 100;
+
 /// Microseconds with three digits that count.
 pub fn us(nanoseconds: f64) -> String {
     let value = nanoseconds / 1000.0;
@@ -156,61 +159,33 @@ fn rows(report: &Report) -> String {
     out
 }
 
-fn growth(report: &Report) -> String {
-    let mut out = String::from(
-        "| Table | Bytes | Check | Together | Times the half | Filling and methods |\n|---|--:|--:|--:|--:|--:|\n",
-    );
-    for growth in &report.growth {
-        let mut before: Option<f64> = None;
-        for (bytes, times) in &growth.steps {
-            let factor = before.map_or("".to_string(), |before| format!("{:.2}", times.whole / before));
-            let _ = writeln!(
-                out,
-                "| {} | {bytes} | {} | {} | {factor} | {} |",
-                growth.make.words(),
-                us(times.check),
-                us(times.whole),
-                us(times.rust())
-            );
-            before = Some(times.whole);
+/// Prose in lines of at most `WIDTH` characters; those behind the first are indented.
+fn wrapped(text: &str, indent: &str) -> String {
+    let mut words = text.split_whitespace();
+    let mut out = words.next().unwrap_or("").to_string();
+    let mut width = out.chars().count();
+    for word in words {
+        let more = 1 + word.chars().count();
+        if width + more <= WIDTH {
+            out.push(' ');
+            width += more;
+        } else {
+            let _ = write!(out, "\n{indent}");
+            width = indent.len() + more - 1;
         }
+        out.push_str(word);
     }
     out
 }
 
-fn nodes(report: &Report) -> String {
-    let mut out = String::from(
-        "| Table | Nodes | Judgement | Together | Methods | Filling and methods |\n|---|--:|--:|--:|--:|--:|\n",
-    );
-    for growth in &report.nodes {
-        for (count, times) in &growth.steps {
-            let _ = writeln!(
-                out,
-                "| {} | {count} | {} | {} | {} | {} |",
-                growth.name,
-                us(times.judgement()),
-                us(times.whole),
-                us(times.run),
-                us(times.rust())
-            );
-        }
-    }
-    out
-}
-
-fn refused(report: &Report) -> String {
-    let mut out = String::from("| Number | Input | Bytes | Time | Nanoseconds a byte |\n|--:|---|--:|--:|--:|\n");
-    for row in &report.refused {
-        let each = row.time / row.bytes as f64;
-        let _ = writeln!(out, "| {} | {} | {} | {} | {each:.2} |", row.number, row.what, row.bytes, us(row.time));
-    }
-    out
-}
-
-/// The page; what is written by hand at its end is kept.
-pub fn page(report: &Report, by_hand: &str) -> String {
-    let buffers: Vec<String> =
+pub fn page(report: &Report) -> String {
+    let times: Vec<String> =
         report.buffers.iter().map(|(bytes, time)| format!("{bytes} bytes {} µs", us(*time))).collect();
+    let buffers = format!(
+        "- Buffers: the judge clears the lent buffer (320 bytes here) and the answer itself, inside the time. The Rust has \
+         none. No caches are cleared between runs. With longer buffers, one node and no table: {}.",
+        times.join(", ")
+    );
     let stack = match report.stack {
         Some(kib) => format!(
             "The questions of 64 nodes that go deepest (unary, member, named argument, call and method call, 63 in each \
@@ -223,23 +198,47 @@ pub fn page(report: &Report, by_hand: &str) -> String {
     format!(
         "# Speed
 
-The judge beside the Rust's own methods (`oracle/`), both built for release, in one process on the same inputs. The
-program stops where an answer differs from the Rust's.
+The judge beside the Rust's own methods (`oracle/`), both built for release, in one process on the
+same inputs. The program stops where an answer differs from the Rust's. `docs/history/speed.md` has
+what was tried and what is left.
 
     {}
 
 {}
 
-Times are in microseconds: the minimum of many runs, in which the parts take turns. `bench/src/measure.rs` has the parts:
+## How it is measured
 
-- **Check**: the judge on the table with an empty question. Number 8 comes behind the table's check, so this is the check
-  and what every call does.
-- **Together**: the judge on the table and the question. **Judgement** is the difference, with the question's own check in it.
-- **Filling**: the plainest filling of `Checker`'s maps from the same bytes, without any check (`table::fill`). **Methods**:
-  `answer::run`. **Tree**: the question's tree (`question::build`), which the ratio leaves out. What they allocate is
-  dropped outside the time.
-- Buffers: the judge clears the lent buffer (320 bytes here) and the answer itself, inside the time. The Rust has
-  none. No caches are cleared between runs. With longer buffers, one node and no table: {}.
+Times are in microseconds: the minimum of many runs, in which the parts take turns.
+`bench/src/measure.rs` has the parts:
+
+- **Check**: the judge on the table with an empty question. Number 8 comes behind the table's check,
+  so this is the check and what every call does.
+- **Together**: the judge on the table and the question. **Judgement** is the difference, with the
+  question's own check in it.
+- **Filling**: the plainest filling of `Checker`'s maps from the same bytes, without any check
+  (`table::fill`). **Methods**: `answer::run`. **Tree**: the question's tree (`question::build`),
+  which the ratio leaves out. What they allocate is dropped outside the time.
+{}
+
+Twice the table is measured with a question of 8 nodes. A processor learns the branches of a short
+table that is judged again and again, but not those of a long one, and that would show as a step. So
+at each size as many tables as have {turn},000 bytes together take turns, with the same records in
+other orders, and so do the sizes; a time is that of one table. `docs/DECISIONS.md`, 29, says why,
+and what one table again and again gave.
+
+The tables of the last five bars have keys chosen against the index (`bench/src/collide.rs`):
+
+- names of one bucket, otherwise random; then names of one bucket that agree in the first {SAME}
+  digits by which its tree branches, so that each is searched behind at least {SAME} others where
+  there are so many;
+- records of kinds 5 to 8 whose owners and names have as few buckets as ids allow, half of the bytes
+  being names;
+- classes of all names, whose superclass has no record and is searched before each of them and ahead
+  of it;
+- functions of one bucket, half of the bytes being names; the question calls the last function.
+
+`cargo run --release -- --lines`, in `bench/`, prints every measured row, also those of the plot and
+of refused inputs: its name, and the nanoseconds of the judge and of the Rust's filling and methods.
 
 ## Bars
 
@@ -251,39 +250,54 @@ Times are in microseconds: the minimum of many runs, in which the parts take tur
 
 ![Time by table size and by nodes](speed.svg)
 
-With a question of 8 nodes. A processor learns the branches of a short table that is judged again and again, but not those
-of a long one, and that would show as a step. So at each size as many tables as have {turn},000 bytes together take turns,
-with the same records in other orders, and so do the sizes; a time is that of one table.
-
-The last five tables have keys chosen against the index (`bench/src/collide.rs`):
-
-- names of one bucket, otherwise random; then names of one bucket that agree in the first {SAME} digits by which its tree
-  branches, so that each is searched behind at least {SAME} others where there are so many;
-- records of kinds 5 to 8 whose owners and names have as few buckets as ids allow, half of the bytes being names;
-- classes of all names, whose superclass has no record and is searched before each of them and ahead of it;
-- functions of one bucket, half of the bytes being names; the question calls the last function.
-
-{}
-By nodes:
-
-{}
-## Refused inputs
-
-The judge alone.
-
-{}
 ## Stack
 
-{stack}
-{by_hand}",
+{}
+",
         report.command,
-        report.machine,
-        buffers.join(", "),
+        wrapped(&report.machine, ""),
+        wrapped(&buffers, "  "),
         bars(report),
         rows(report),
-        growth(report),
-        nodes(report),
-        refused(report),
+        wrapped(&stack, ""),
         turn = TURN / 1000,
     )
+}
+
+#[cfg(test)]
+mod tests {
+    use super::*;
+
+    fn report() -> Report {
+        let times = Times { check: 1234.5, whole: 2345.6, fill: 34567.8, build: 456.7, run: 5678.9 };
+        Report {
+            machine: format!("Machine: {}.", "a name of some length, ".repeat(20)),
+            command: "cargo run".to_string(),
+            rows: vec![Row { make: Make::Nothing, bytes: 0, asked: "1 node".to_string(), times }],
+            growth: vec![Growth { make: Make::Names, steps: vec![(1875, times), (3750, times)] }],
+            nodes: vec![],
+            refused: vec![],
+            buffers: [0, 320, 4096, 65_535].map(|bytes| (bytes, 123_456.7)).to_vec(),
+            stack: Some(4096),
+        }
+    }
+
+    #[test]
+    fn prose_has_at_most_100_characters_a_line() {
+        for page in [page(&report()), page(&Report { stack: None, ..report() })] {
+            for line in page.lines().filter(|line| !line.starts_with('|')) {
+                assert!(line.chars().count() <= WIDTH, "{line}");
+            }
+        }
+    }
+
+    #[test]
+    fn wrapping_keeps_the_words() {
+        let text = "word ".repeat(50) + &"w".repeat(120) + " µs µs";
+        let lines = wrapped(&text, "  ");
+        assert_eq!(lines.split_whitespace().collect::<Vec<_>>(), text.split_whitespace().collect::<Vec<_>>());
+        assert!(lines.lines().skip(1).all(|line| line.starts_with("  ") && !line.starts_with("   ")));
+        assert_eq!(lines.lines().map(|line| line.chars().count()).collect::<Vec<_>>(), [99, 96, 56, 122, 7]);
+        assert_eq!(wrapped("", "  "), "");
+    }
 }
