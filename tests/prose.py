@@ -21,7 +21,7 @@ import tempfile
 import unittest
 
 ROOT = pathlib.Path(__file__).resolve().parent.parent
-DOCUMENTS = "README.md CHANGELOG.md docs/*.md docs/history/*.md aura-judge/README.md oracle/README.md compare/README.md".split()
+DOCUMENTS = "README.md CHANGELOG.md docs/*.md docs/history/*.md aura-judge/README.md oracle/README.md compare/README.md reading/README.md".split()
 WIDTH = 100
 ITEM = re.compile(r" *(?:[-*+]|\d+[.)]) +")
 SPAN = re.compile(r"`[^`]*`")
@@ -85,7 +85,7 @@ def findings(root):
 LONG = "word " * 19 + "words, "  # a line of it and one letter has 103 characters
 CODE = f"\n    {LONG}x\n    {LONG}y\n\n    {LONG}z\n"
 SOUND = {
-    **dict.fromkeys("README.md CHANGELOG.md docs/A.md docs/history/B.md oracle/README.md compare/README.md".split(), ""),
+    **dict.fromkeys("README.md CHANGELOG.md docs/A.md docs/history/B.md oracle/README.md compare/README.md reading/README.md".split(), ""),
     "aura-judge/README.md": "`src/lib.rs`, `aura-judge/src/lib.rs`, `../docs/A.md`\n",
     "aura-judge/src/lib.rs": "",
     "crates/ty/specs/Ty.antt": "",

@@ -1,8 +1,8 @@
 //! The first corpus: the named examples and stored answers of the oracle, and generated cases of every profile.
 
+use oracle::sample::stored;
 use reading::gen::{case, PROFILES};
 use reading::join_input;
-use oracle::sample::stored;
 use std::fs;
 use std::path::Path;
 
