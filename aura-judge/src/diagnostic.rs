@@ -5,7 +5,7 @@ use std::fmt;
 
 macro_rules! kinds {
     ($($number:literal $kind:ident $words:literal,)*) => {
-        /// What a diagnostic reports: document 01's kinds 1 to 23, with its words.
+        /// What a diagnostic reports: the kinds 1 to 23 of `docs/FORMAT.md`, "Kinds of diagnostics", with its words.
         #[derive(Debug, Clone, Copy, PartialEq, Eq, Hash)]
         #[repr(u8)]
         pub enum DiagnosticKind {
@@ -16,7 +16,7 @@ macro_rules! kinds {
             /// All of them, by number from 1.
             pub const ALL: [DiagnosticKind; 23] = [$(DiagnosticKind::$kind,)*];
 
-            /// Document 01's words.
+            /// The words of `docs/FORMAT.md`.
             pub fn words(self) -> &'static str {
                 match self {
                     $(DiagnosticKind::$kind => $words,)*
@@ -58,7 +58,7 @@ impl DiagnosticKind {
         DiagnosticKind::ALL.get((number as usize).checked_sub(1)?).copied()
     }
 
-    /// Document 01's number.
+    /// Its number, 1 to 23.
     pub fn number(self) -> u8 {
         self as u8
     }

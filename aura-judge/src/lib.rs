@@ -1,8 +1,9 @@
 //! The type judge for Aura page scripts, proved in Rattle and linked as a static library.
 //!
-//! [`judge`] takes a symbol table and a question (one expression), both as the bytes of document 01, and a buffer for
-//! diagnostics. The [`Answer`] says the expression's [`Type`], whether it passes, and the [`Diagnostics`] in order; or
-//! the [`Refusal`], with whose doing it was.
+//! [`judge`] takes a symbol table and a question (one expression), both as bytes, and a buffer for diagnostics. The
+//! [`Answer`] says the expression's [`Type`], whether it passes, and the [`Diagnostics`] in order; or the [`Refusal`],
+//! with whose doing it was. `docs/FORMAT.md` in the repository has the bytes of tables, questions and types, the
+//! numbers of refusals and the kinds of diagnostics.
 //!
 //! ```
 //! use aura_judge::{judge, Answer, DiagnosticKind, Type};
@@ -67,7 +68,7 @@ pub enum Answer<'d> {
 }
 
 impl<'d> Answer<'d> {
-    /// Document 01's number: 0, or the refusal's.
+    /// 0, or the refusal's number.
     pub fn number(&self) -> u8 {
         self.refusal().map_or(0, Refusal::number)
     }
@@ -116,7 +117,7 @@ impl<'d> Answer<'d> {
 ///
 /// # Panics
 ///
-/// Where the linked library's answer is none of document 01's, as one of another layout would be.
+/// Where the linked library's answer is none that `docs/FORMAT.md` has, as one of another layout would be.
 pub fn judge<'d>(table: &[u8], question: &[u8], diagnostics: &'d mut [u8]) -> Answer<'d> {
     let mut answer = [0; ANSWER_SIZE];
     raw::judge(table, question, diagnostics, &mut answer);

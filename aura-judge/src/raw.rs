@@ -30,7 +30,7 @@ extern "C" {
 /// How many bytes an answer has.
 pub const ANSWER_SIZE: usize = 268;
 
-/// What [`judge`] answers where the answer slice is shorter than [`ANSWER_SIZE`]: no number of document 01.
+/// What [`judge`] answers where the answer slice is shorter than [`ANSWER_SIZE`]: no refusal's number.
 pub const TOO_SHORT: u8 = 255;
 
 /// How many bytes a diagnostic has.

@@ -22,7 +22,7 @@ impl fmt::Display for Doer {
     }
 }
 
-/// Why nothing was judged: document 01's numbers 1 to 13.
+/// Why nothing was judged: the numbers 1 to 13 of `docs/FORMAT.md`, "Refusals".
 ///
 /// ```
 /// use aura_judge::{Doer, Refusal};
@@ -85,7 +85,7 @@ impl Refusal {
         Refusal::ALL.get((number as usize).checked_sub(1)?).copied()
     }
 
-    /// Document 01's number.
+    /// Its number, 1 to 13.
     pub fn number(self) -> u8 {
         self as u8 + 1
     }
@@ -100,7 +100,7 @@ impl Refusal {
         }
     }
 
-    /// Document 01's words.
+    /// What is refused, in words.
     pub fn words(self) -> &'static str {
         match self {
             Refusal::TableTooLong => "over 60,000 bytes",

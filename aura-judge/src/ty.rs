@@ -6,7 +6,7 @@ use std::fmt;
 /// The number of a name: 0 to 39 are built in, a table's own go on from 40.
 pub type NameId = u16;
 
-/// A type of a page script; its 22 kinds have document 01's numbers in this order.
+/// A type of a page script; its 22 kinds are numbered from 0 in this order, as in `docs/FORMAT.md`, "Types".
 ///
 /// ```
 /// use aura_judge::Type;
@@ -155,7 +155,7 @@ impl Type {
         }
     }
 
-    /// Document 01's bytes of the type. Equal types have equal bytes.
+    /// The bytes of the type, as `docs/FORMAT.md` has them. Equal types have equal bytes.
     ///
     /// # Panics
     ///
