@@ -76,6 +76,7 @@ impl Harness {
         if case.table != table || case.question != question {
             return Err(String::from("the table or the question was written"));
         }
+        // The Rust is the first of the yardsticks.
         counts::input(sayings.speaks(0));
         Ok(())
     }
