@@ -204,7 +204,8 @@ class MadeUp(unittest.TestCase):
         self.finds(None, " is not there", files={DOCUMENT: None})
 
 
-def main():
+def main(findings):
+    """Prints what is found in a root, then runs the tests of the test that was started."""
     root = pathlib.Path(sys.argv.pop(1)) if len(sys.argv) > 1 and not sys.argv[1].startswith("-") else ROOT
     found = findings(root)
     for line in found:
@@ -214,4 +215,4 @@ def main():
 
 
 if __name__ == "__main__":
-    main()
+    main(findings)

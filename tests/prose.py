@@ -20,8 +20,12 @@ import sys
 import tempfile
 import unittest
 
+sys.dont_write_bytecode = True
+import contracts  # noqa: E402
+
 ROOT = pathlib.Path(__file__).resolve().parent.parent
-DOCUMENTS = "README.md CHANGELOG.md docs/*.md docs/history/*.md aura-judge/README.md oracle/README.md compare/README.md reading/README.md".split()
+DOCUMENTS = """README.md CHANGELOG.md docs/*.md docs/history/*.md
+aura-judge/README.md oracle/README.md compare/README.md reading/README.md""".split()
 WIDTH = 100
 ITEM = re.compile(r" *(?:[-*+]|\d+[.)]) +")
 SPAN = re.compile(r"`[^`]*`")
@@ -154,14 +158,5 @@ class MadeUp(unittest.TestCase):
             self.finds(None, " is not there", name=name)
 
 
-def main():
-    root = pathlib.Path(sys.argv.pop(1)) if len(sys.argv) > 1 and not sys.argv[1].startswith("-") else ROOT
-    found = findings(root)
-    for line in found:
-        print(line)
-    tested = unittest.main(exit=False).result
-    sys.exit(bool(found) or not tested.wasSuccessful())
-
-
 if __name__ == "__main__":
-    main()
+    contracts.main(findings)
