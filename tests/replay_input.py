@@ -44,6 +44,12 @@ class Input(unittest.TestCase):
         for length in range(len(second)):
             self.says(first + second[:length], "1 cases agree\n" if length < table else "1 cases agree, then the input breaks off\n")
 
+    def test_half_a_length(self):
+        """The byte that is there is 0, which would be a whole length of its own."""
+        first, table, question = case(*self.one), part(self.two[0]), part(self.two[1])
+        self.says(first + b"\0", "1 cases agree\n")
+        self.says(first + table + question + b"\0", "1 cases agree, then the input breaks off\n")
+
     def test_another_answer(self):
         table, question, answer = self.two
         for other in [answer[:-1], answer + b"\n", answer[:-2] + b"x\n", b""]:
