@@ -33,8 +33,17 @@ class Rows(unittest.TestCase):
         self.assertEqual(found, [turns.Row("a", [4.0], [5.0], 1.25, None)])
 
     def test_other_rows_are_refused(self):
-        with self.assertRaises(ValueError):
-            turns.compared([{"a": (1.0, 1.0)}], [{"b": (1.0, 1.0)}])
+        one, two = {"a": (1.0, None)}, {"a": (1.0, None), "b": (1.0, None)}
+        for before, after in [([one], [{"b": (1.0, None)}]), ([one, two], [one, one])]:
+            with self.assertRaises(ValueError):
+                turns.compared(before, after)
+
+    def test_rows_of_one_build_alone_are_not_compared(self):
+        before = [{"a": (1.0, None), "b": (2.0, None)}]
+        after = [{"c": (3.0, None), "a": (1.0, None)}]
+        self.assertEqual(turns.compared(before, after), [turns.Row("a", [1.0], [1.0], 1.0, None)])
+        self.assertEqual(turns.alone(before, after), ["b", "c"])
+        self.assertEqual(turns.alone(before, before), [])
 
 
 class Program(unittest.TestCase):
@@ -68,6 +77,13 @@ class Program(unittest.TestCase):
         self.assertEqual(done.returncode, 1)
         self.assertIn("| 1.000 |", done.stdout)
         self.assertIn("| 1.500 |", done.stdout)
+
+    def test_a_row_of_one_build_alone_is_named(self):
+        done = self.run_on("a\\t1.00\\t2.00\\n", "a\\t1.00\\t2.00\\nb\\t9.00\\t\\n")
+        self.assertEqual(done.returncode, 0, done.stderr)
+        self.assertIn("1 rows; slower", done.stdout)
+        self.assertTrue(done.stdout.endswith("\nRows of one build alone, not compared:\n\n- b\n"))
+        self.assertNotIn("alone", self.run_on("a\\t1.00\\t2.00\\n", "a\\t1.00\\t2.00\\n").stdout)
 
     def test_nothing_to_compare(self):
         self.assertEqual(self.run_on("a\\t1.00\\t2.00\\n", "b\\t1.00\\t2.00\\n").returncode, 2)

@@ -7,8 +7,11 @@
 Each of the later programs is compared with the first; a copy of the first among them shows what the measurement itself varies by.
 A row is slower where the median of the judge's own time is over that of the first program by more than 5 in 100. The page also
 has the medians of its time over the Rust's in the same run: the Rust's side is the same code in every build, and what it varies
-by from process to process is in that figure too (docs/DECISIONS.md, 41). Prints a page with every run; --write also stores it.
-Exit status 1 where a row is slower, 2 where the programs cannot be compared.
+by from process to process is in that figure too (docs/DECISIONS.md, 41). A row that one build alone has is named and not
+compared. Prints a page with every run; --write also stores it. Exit status 1 where a row is slower, 2 where the programs cannot
+be compared.
+
+A library from before the test load is linked with --no-default-features; do so for all.
 """
 
 import argparse
@@ -40,11 +43,13 @@ def parse(text):
 
 
 def compared(before, after):
-    """The rows of two lists of runs."""
-    names = list(before[0])
-    for run in before + after:
-        if list(run) != names:
-            raise ValueError("the runs have different rows")
+    """The rows that both of two lists of runs have."""
+    for runs in (before, after):
+        if any(list(run) != list(runs[0]) for run in runs):
+            raise ValueError("the runs of a build have different rows")
+    names = [name for name in before[0] if name in after[0]]
+    if not names:
+        raise ValueError("no row is in both")
     found = []
     for name in names:
         sides = [[run[name] for run in runs] for runs in (before, after)]
@@ -56,6 +61,11 @@ def compared(before, after):
         old, new = [[judge for judge, _ in side] for side in sides]
         found.append(Row(name, old, new, times[1] / times[0], ratio))
     return found
+
+
+def alone(before, after):
+    """The rows that one build alone has."""
+    return [name for name in before[0] if name not in after[0]] + [name for name in after[0] if name not in before[0]]
 
 
 def summary(what, values):
@@ -70,7 +80,7 @@ def digits(value):
     return f"{value:.0f}" if value >= 1000 else f"{value:.1f}"
 
 
-def page(title, found):
+def page(title, found, others):
     """The comparison as text, slowest rows first."""
     lines = [title, "", summary("The judge's own time", [row.time for row in found])]
     ratios = [row.ratio for row in found if row.ratio is not None]
@@ -85,6 +95,8 @@ def page(title, found):
         old, new = (" ".join(map(digits, side)) for side in (row.before, row.after))
         ratio = "" if row.ratio is None else f"{row.ratio:.3f}"
         lines.append(f"| {row.name} | {old} | {new} | {row.time:.3f} | {ratio} |")
+    if others:
+        lines += ["", "Rows of one build alone, not compared:", "", *(f"- {name}" for name in others)]
     return "\n".join(lines) + "\n"
 
 
@@ -117,7 +129,11 @@ def main():
     except ValueError as error:
         print(error, file=sys.stderr)
         return 2
-    text = "\n".join(page(f"{program} after {words.before}", rows) for program, rows in found.items())
+    pages = [
+        page(f"{program} after {words.before}", rows, alone(runs[words.before], runs[program]))
+        for program, rows in found.items()
+    ]
+    text = "\n".join(pages)
     print(text, end="")
     if words.write:
         with open(words.write, "w", encoding="utf-8") as file:
