@@ -7,7 +7,7 @@
 Each of the later programs is compared with the first; a copy of the first among them shows what the measurement itself varies by.
 A row is slower where the median of the judge's own time is over that of the first program by more than 5 in 100. The page also
 has the medians of its time over the Rust's in the same run: the Rust's side is the same code in every build, and what it varies
-by from process to process is in that figure too (docs/DECISIONS.md, 41). A row that one build alone has is named and not
+by from process to process is in that figure too (docs/DECISIONS.md, 46). A row that one build alone has is named and not
 compared. Prints a page with every run; --write also stores it. Exit status 1 where a row is slower, 2 where the programs cannot
 be compared.
 
