@@ -33,6 +33,7 @@ fn functions(text: &str, mark: &str, parameter: impl Fn(&str, &str) -> String) -
 fn c_number(ty: &str) -> &str {
     match ty {
         "u8" => "uint8_t",
+        "u32" => "uint32_t",
         "usize" => "size_t",
         other => panic!("{other} has no place in the interface"),
     }
@@ -42,6 +43,7 @@ fn exported() -> Functions {
     functions(&read("crates/aura_c/src/lib.rt"), "pub extern \"C\" fn ", |name, ty| match ty {
         "&[u8]" => format!("const uint8_t *{name}, size_t {name}_length"),
         "&mut [u8]" => format!("uint8_t *{name}, size_t {name}_length"),
+        "&mut usize" => format!("size_t *{name}"),
         number => format!("{} {name}", c_number(number)),
     })
 }
@@ -52,6 +54,7 @@ fn declared_in_rust() -> Functions {
     functions(block, "fn ", |name, ty| match ty {
         "*const u8" => format!("const uint8_t *{name}"),
         "*mut u8" => format!("uint8_t *{name}"),
+        "*mut usize" => format!("size_t *{name}"),
         number => format!("{} {name}", c_number(number)),
     })
 }
@@ -59,7 +62,7 @@ fn declared_in_rust() -> Functions {
 #[test]
 fn rust_declares_what_rattle_exports() {
     let exported = exported();
-    assert!(exported.contains_key("aura_judge"), "{exported:?}");
+    assert!(exported.contains_key("aura_judge") && exported.contains_key("aura_load"), "{exported:?}");
     assert_eq!(declared_in_rust(), exported);
 }
 
