@@ -13,12 +13,8 @@ pub const WORDS: Yardstick = Yardstick {
 
 /// The Rust's own methods: a yardstick inside the compared domain. They write nothing.
 #[cfg(feature = "rust")]
-pub const RUST: Yardstick = Yardstick {
-    name: "the Rust",
-    says: oracle::answer::said_inside,
-    answer: lent::answer,
-    load: |_, _, _| None,
-};
+pub const RUST: Yardstick =
+    Yardstick { name: "the Rust", says: oracle::answer::said_inside, answer: lent::answer, load: |_, _, _| None };
 
 /// Those that are built in.
 #[cfg(feature = "rust")]
