@@ -28,8 +28,15 @@ class Rows(unittest.TestCase):
         self.assertEqual(found, [("a", [1.0, 9.0, 2.0], [3.0, 0.5, 2.5], 1.25)])
 
     def test_other_rows_are_refused(self):
-        with self.assertRaises(ValueError):
-            turns.compared([{"a": 1.0}], [{"b": 1.0}])
+        for before, after in [([{"a": 1.0}], [{"b": 1.0}]), ([{"a": 1.0}, {"a": 1.0, "b": 1.0}], [{"a": 1.0}] * 2)]:
+            with self.assertRaises(ValueError):
+                turns.compared(before, after)
+
+    def test_rows_of_one_build_alone_are_not_compared(self):
+        before, after = [{"a": 1.0, "b": 2.0}], [{"c": 3.0, "a": 1.0}]
+        self.assertEqual(turns.compared(before, after), [("a", [1.0], [1.0], 1.0)])
+        self.assertEqual(turns.alone(before, after), ["b", "c"])
+        self.assertEqual(turns.alone(before, before), [])
 
 
 class Program(unittest.TestCase):
@@ -52,6 +59,13 @@ class Program(unittest.TestCase):
         done = self.run_on("a\\t1.00\\t2.00\\n", "a\\t1.06\\t2.00\\n")
         self.assertEqual(done.returncode, 1)
         self.assertIn("slower by more than 5 in 100: 1.", done.stdout)
+
+    def test_a_row_of_one_build_alone_is_named(self):
+        done = self.run_on("a\\t1.00\\t2.00\\n", "a\\t1.00\\t2.00\\nb\\t9.00\\t\\n")
+        self.assertEqual(done.returncode, 0, done.stderr)
+        self.assertIn("1 rows; slower", done.stdout)
+        self.assertTrue(done.stdout.endswith("\nRows of one build alone, not compared:\n\n- b\n"))
+        self.assertNotIn("alone", self.run_on("a\\t1.00\\t2.00\\n", "a\\t1.00\\t2.00\\n").stdout)
 
     def test_nothing_to_compare(self):
         self.assertEqual(self.run_on("a\\t1.00\\t2.00\\n", "b\\t1.00\\t2.00\\n").returncode, 2)

@@ -5,8 +5,11 @@
     tools/turns.py BEFORE/release/bench AFTER/release/bench [--runs 3] [--quick] [--write FILE]
 
 What counts of a row is its time over the Rust's in the same run, or its time alone where the Rust has no such row. A row is
-slower where the median of the second build is over that of the first by more than 5 in 100. Prints a page with every run;
---write also stores it. Exit status 1 where a row is slower, 2 where the two cannot be compared.
+slower where the median of the second build is over that of the first by more than 5 in 100. A row that one build alone has
+is named and not compared. Prints a page with every run; --write also stores it. Exit status 1 where a row is slower, 2 where
+the two cannot be compared.
+
+A library from before the test load is linked with --no-default-features; do so for both.
 """
 
 import argparse
@@ -34,11 +37,13 @@ def parse(text):
 
 
 def compared(before, after):
-    """[(row, runs before, runs after, median after / median before)] of two lists of runs."""
-    names = list(before[0])
-    for run in before + after:
-        if list(run) != names:
-            raise ValueError("the runs have different rows")
+    """[(row, runs before, runs after, median after / median before)] of two lists of runs, for the rows of both."""
+    for runs in (before, after):
+        if any(list(run) != list(runs[0]) for run in runs):
+            raise ValueError("the runs of a build have different rows")
+    names = [name for name in before[0] if name in after[0]]
+    if not names:
+        raise ValueError("no row is in both")
     found = []
     for name in names:
         old, new = [run[name] for run in before], [run[name] for run in after]
@@ -46,11 +51,16 @@ def compared(before, after):
     return found
 
 
+def alone(before, after):
+    """The rows that one build alone has."""
+    return [name for name in before[0] if name not in after[0]] + [name for name in after[0] if name not in before[0]]
+
+
 def digits(value):
     return f"{value:.3f}" if value < 10 else f"{value:.1f}"
 
 
-def page(found):
+def page(found, others):
     """The comparison as text, slowest rows first."""
     slower = [row for row in found if row[3] > ALLOWED]
     lines = [
@@ -63,6 +73,8 @@ def page(found):
     ]
     for name, old, new, ratio in sorted(found, key=lambda row: -row[3]):
         lines.append(f"| {name} | {' '.join(map(digits, old))} | {' '.join(map(digits, new))} | {ratio:.3f} |")
+    if others:
+        lines += ["", "Rows of one build alone, not compared:", "", *(f"- {name}" for name in others)]
     return "\n".join(lines) + "\n"
 
 
@@ -94,7 +106,7 @@ def main():
     except ValueError as error:
         print(error, file=sys.stderr)
         return 2
-    text = page(found)
+    text = page(found, alone(runs[words.before], runs[words.after]))
     print(text, end="")
     if words.write:
         with open(words.write, "w", encoding="utf-8") as file:
