@@ -7,7 +7,7 @@ use lib.Seq.{sets}
 use mathlib.Core.Bool.{true, false}
 use mathlib.Core.List.{List, [], _++_}
 use mathlib.Core.Path.{_≡_, refl, sym, ap, _∙_, subst}
-use Rattle.area.specs.Padding.{paddedTo}
+use Rattle.written.specs.Padding.{paddedTo}
 use Rattle.aura_c.proofs.Stored.{joined}
 use Rattle.aura_c.specs.AnswerBytes.{bytesOf, answerSize, tooShort, resultOf, answerSlice, diagnosticsSlice}
 use Rattle.judge.specs.Answered.{outcomeIs}

@@ -3,7 +3,7 @@
 use Prim.Native.Nat.{ℕ, zero, suc, _/_, _%_}
 use lib.Dec.{ltb}
 use mathlib.Core.List.{List, [], _∷_, _++_}
-use Rattle.area.specs.Padding.{paddedTo}
+use Rattle.written.specs.Padding.{paddedTo}
 use Rattle.ty.specs.Choose.{choose}
 use Rattle.typing.specs.Answer.{Answer, zeros, answerOf, bufferOf}
 

@@ -6,10 +6,10 @@ ghost use lib.ListN.{length};
 ghost use lib.Seq.{sets};
 ghost use Rattle.judge.specs.Answered.{outcomeIs};
 ghost use Rattle.aura_c.specs.AnswerBytes.{littleEndian, bytesOf, answerSize, resultOf, answerSlice, diagnosticsSlice};
-use area::clear;
-use area::put_two;
 use judge::Outcome;
 use judge::judge_into;
+use written::clear;
+use written::put_two;
 
 const ANSWER_SIZE: usize = 268;
 
