@@ -5,8 +5,8 @@ use lib.Seq.{sets}
 use mathlib.Core.List.{List, [], _∷_, _++_}
 use mathlib.Core.Path.{_≡_, refl, ap, _∙_}
 use native.Mathlib.Omega.{arith}
-use Rattle.area.proofs.ListFacts.{stored-length, drop-replicate}
-use Rattle.area.specs.Padding.{paddedTo}
+use Rattle.written.proofs.ListFacts.{stored-length, drop-replicate}
+use Rattle.written.specs.Padding.{paddedTo}
 use Rattle.aura_c.specs.AnswerBytes.{littleEndian, bytesOf, answerSize}
 use Rattle.judge.specs.Answered.{outcomeIs}
 use Rattle.judge.specs.declared.Outcome.{Outcome}

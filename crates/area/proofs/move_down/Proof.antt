@@ -3,7 +3,7 @@ use borrow.Author.Needs.{needs}
 use lib.ListN.{length}
 use mathlib.Core.Path.{_≡_, refl}
 use native.Mathlib.Omega.{arith}
-use Rattle.area.proofs.Stores.{filled, fill-zero, fill-next, fill-past, fill-done}
+use Rattle.written.proofs.CopyLoops.{filled, fill-zero, fill-next, fill-past, fill-done}
 use Rattle.area.proofs.move_down.Statement.{statement}
 use Rattle.area.proofs.move_down.Tie as tie
 

@@ -4,7 +4,7 @@ use lib.ListN.{take}
 use lib.Seq.{length-take-le}
 use mathlib.Core.List.{List}
 use mathlib.Core.Path.{sym, ap}
-use Rattle.area.proofs.ListFacts.{part-rest}
+use Rattle.written.proofs.ListFacts.{part-rest}
 use Rattle.area.proofs.part.Statement.{statement}
 use Rattle.area.proofs.part.Tie as tie
 

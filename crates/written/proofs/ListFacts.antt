@@ -41,6 +41,12 @@ sets-snoc (v ∷ vs) a p x =
     let e : p + suc (length vs) ≡ suc p + length vs = omega arith in
     ap (λ (k : ℕ). set (sets (set a p v) (suc p) vs) k x) e ∙ sets-snoc vs (set a p v) (suc p) x
 
+pub sets-append : (vs ws a : List ℕ) (p : ℕ) → sets (sets a p vs) (p + length vs) ws ≡ sets a p (vs ++ ws)
+sets-append [] ws a p = ap (λ (k : ℕ). sets a k ws) (add-zero p)
+sets-append (v ∷ vs) ws a p =
+    let e : p + suc (length vs) ≡ suc p + length vs = omega arith in
+    ap (λ (k : ℕ). sets (sets (set a p v) (suc p) vs) k ws) e ∙ sets-append vs ws (set a p v) (suc p)
+
 -- stores keep a length
 pub stored-length : {b′ : List ℕ} (b : List ℕ) (at : ℕ) (vs : List ℕ) → b′ ≡ sets b at vs → length b′ ≡ length b
 stored-length b at vs e = ap length e ∙ length-sets b at vs

@@ -5,21 +5,21 @@ use lib.ListN.{length, replicate, drop, length-set}
 use mathlib.Core.List.{_++_}
 use mathlib.Core.Path.{_≡_}
 use native.Mathlib.Omega.{arith}
-use Rattle.area.proofs.ListFacts.{clear-more, clear-done}
-use Rattle.area.proofs.clear.Statement.{statement}
-use Rattle.area.proofs.clear.Tie as tie
+use Rattle.written.proofs.ListFacts.{clear-more, clear-done}
+use Rattle.written.proofs.clear.Statement.{statement}
+use Rattle.written.proofs.clear.Tie as tie
 
 abbrev Inv-loop : tie.InvT-loop
-Inv-loop buf₀ i₀ buf i = (i ≤ length buf₀) × (length buf ≡ length buf₀) × (buf ≡ replicate i 0 ++ drop i buf₀)
+Inv-loop out₀ i₀ out i = (i ≤ length out₀) × (length out ≡ length out₀) × (out ≡ replicate i 0 ++ drop i out₀)
 
 abbrev μ-loop : tie.MeasureT-loop
-μ-loop buf₀ i₀ buf i = length buf₀ - i
+μ-loop out₀ i₀ out i = length out₀ - i
 
 loop-holds : tie.Need-loop-holds Inv-loop μ-loop
 loop-holds c = (search needs, search needs, fill-none _ 0)
 
-slice-write-buf : tie.Need-slice-write-buf Inv-loop μ-loop
-slice-write-buf c = search needs
+slice-write-out : tie.Need-slice-write-out Inv-loop μ-loop
+slice-write-out c = search needs
 
 add-i : tie.Need-add-i Inv-loop μ-loop
 add-i c = search needs
@@ -43,7 +43,7 @@ clear-spec =
     Inv-loop
     μ-loop
     loop-holds
-    slice-write-buf
+    slice-write-out
     add-i
     loop-less
     loop-again

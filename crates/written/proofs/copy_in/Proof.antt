@@ -3,27 +3,27 @@ use borrow.Author.Needs.{needs}
 use lib.ListN.{length}
 use mathlib.Core.Path.{_≡_, refl}
 use native.Mathlib.Omega.{arith}
-use Rattle.area.proofs.Stores.{filled, fill-zero, fill-byte, fill-all}
-use Rattle.area.proofs.copy_in.Statement.{statement}
-use Rattle.area.proofs.copy_in.Tie as tie
+use Rattle.written.proofs.CopyLoops.{filled, fill-zero, fill-byte, fill-all}
+use Rattle.written.proofs.copy_in.Statement.{statement}
+use Rattle.written.proofs.copy_in.Tie as tie
 
 abbrev Inv-loop : tie.InvT-loop
-Inv-loop area₀ to s i₀ area i = (i ≤ length s) × (length area ≡ length area₀) × (area ≡ filled area₀ to s 0 i)
+Inv-loop out₀ to s i₀ out i = (i ≤ length s) × (length out ≡ length out₀) × (out ≡ filled out₀ to s 0 i)
 
 abbrev μ-loop : tie.MeasureT-loop
-μ-loop area₀ to s i₀ area i = length s - i
+μ-loop out₀ to s i₀ out i = length s - i
 
 loop-holds : tie.Need-loop-holds Inv-loop μ-loop
 loop-holds c = (search needs, refl, fill-zero _ _ _ _)
 
-shared-slice-read-area : tie.Need-shared-slice-read-area Inv-loop μ-loop
-shared-slice-read-area c = search needs
+shared-slice-read-out : tie.Need-shared-slice-read-out Inv-loop μ-loop
+shared-slice-read-out c = search needs
 
-add-area : tie.Need-add-area Inv-loop μ-loop
-add-area c = search needs
+add-out : tie.Need-add-out Inv-loop μ-loop
+add-out c = search needs
 
-slice-write-area : tie.Need-slice-write-area Inv-loop μ-loop
-slice-write-area c = search needs
+slice-write-out : tie.Need-slice-write-out Inv-loop μ-loop
+slice-write-out c = search needs
 
 add-i : tie.Need-add-i Inv-loop μ-loop
 add-i c = search needs
@@ -47,9 +47,9 @@ copy-in-spec =
     Inv-loop
     μ-loop
     loop-holds
-    shared-slice-read-area
-    add-area
-    slice-write-area
+    shared-slice-read-out
+    add-out
+    slice-write-out
     add-i
     loop-less
     loop-again

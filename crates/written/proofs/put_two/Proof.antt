@@ -1,9 +1,9 @@
 use borrow.Author.Needs.{needs}
 use lib.ListN.{length-set}
 use native.Mathlib.Omega.{arith}
-use Rattle.area.proofs.ListFacts.{two-set}
-use Rattle.area.proofs.put_two.Statement.{statement}
-use Rattle.area.proofs.put_two.Tie as tie
+use Rattle.written.proofs.ListFacts.{two-set}
+use Rattle.written.proofs.put_two.Statement.{statement}
+use Rattle.written.proofs.put_two.Tie as tie
 
 pub put-two-spec : {M : Type 1} → statement M
 put-two-spec =
