@@ -83,8 +83,7 @@ fn main() {
         modules.push_str(&format!("#[path = {:?}]\nmod {};\n", folder.join("words.rs"), label));
         let says = format!("|table, question| Some({}::said(table, question))", label);
         let load = format!("|start, nodes, out| Some({}::load::write(start, nodes, out))", label);
-        let yardstick =
-            format!("name: {:?}, says: {}, answer: {}::lent::answer, load: {}", label, says, label, load);
+        let yardstick = format!("name: {:?}, says: {}, answer: {}::lent::answer, load: {}", label, says, label, load);
         list.push_str(&format!(
             "    Wrong {{ what: {:?}, yardstick: answer::Yardstick {{ {} }} }},\n",
             what, yardstick
