@@ -1,16 +1,16 @@
 -- What the stores leave.
 use Prim.Native.Nat.{ℕ, _+_, _-_, _*_, _≤_, _<_}
 use lib.ListN.{length, getD, take, drop, set, length-drop, length-set}
-use lib.Seq.{sets, drop-set-lt, drop-drop, take-all}
-use mathlib.Core.List.{List, [], _∷_, _++_}
+use lib.Seq.{sets, drop-set-lt, drop-drop}
+use mathlib.Core.List.{List, [], _∷_}
 use mathlib.Core.Path.{_≡_, refl, sym, ap, _∙_}
 use native.Mathlib.Numerals.{add-one, towards-suc}
 use native.Mathlib.Omega.{arith}
-use Rattle.written.proofs.ListFacts.{part-length, stored-length, drop-take}
 use Rattle.area.proofs.Slots.{slot-in, slot-length, stored-as}
 use Rattle.area.specs.Inside.Slot.{Lent, Slot, Stored, store, storeLen, slotOf}
 use Rattle.ty.proofs.Ends.{inner-last}
 use Rattle.ty.specs.Bytes.{Ty, innerOf, twoBytes}
+use Rattle.written.proofs.ListFacts.{part-length, stored-length, drop-take}
 
 -- ---- the stores
 pub stored-bytes : (a a′ l : List ℕ) (node : ℕ) (t : Ty) (n : ℕ) → a′ ≡ sets a (256 * node) t → n ≡ length t → Stored a a′ l (set l node n) node t

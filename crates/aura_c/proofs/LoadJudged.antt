@@ -4,7 +4,7 @@ use lib.ListN.{length}
 use mathlib.Core.List.{List}
 use mathlib.Core.Path.{_≡_, ap}
 use Rattle.aura_c.specs.LoadAccepted.{LoadAccepted}
-use Rattle.load.specs.Load.{loadQuestion, loadOf}
+use Rattle.load.specs.Load.{loadOf}
 use Rattle.load.specs.Order1.{LoadFine}
 use Rattle.ty.specs.Choose.{choose}
 use Rattle.typing.specs.Answer.{namesOf, faultOf}

@@ -7,7 +7,6 @@ use lib.Seq.{sets}
 use mathlib.Core.Bool.{true, false}
 use mathlib.Core.List.{List, [], _++_}
 use mathlib.Core.Path.{_≡_, refl, sym, ap, _∙_, subst}
-use Rattle.written.specs.Padding.{paddedTo}
 use Rattle.aura_c.proofs.Stored.{joined}
 use Rattle.aura_c.specs.AnswerBytes.{bytesOf, answerSize, answerTooShort, resultOf, answerSlice, diagnosticsSlice}
 use Rattle.judge.specs.Answered.{outcomeIs}
@@ -15,6 +14,7 @@ use Rattle.judge.specs.declared.Outcome.{Outcome}
 use Rattle.ty.proofs.Choice.{chosen, passed}
 use Rattle.typing.proofs.Sized.{Sized, sized}
 use Rattle.typing.specs.Answer.{Answer, zeros, answerOf, bufferOf}
+use Rattle.written.specs.Padding.{paddedTo}
 
 pub cleared-length : {z : List ℕ} (b : List ℕ) → z ≡ replicate (length b) 0 → length z ≡ length b
 cleared-length b e = ap length e ∙ length-replicate {A = ℕ} (length b) 0

@@ -3,9 +3,9 @@
 use Prim.Native.Nat.{ℕ, zero, suc, _/_, _%_}
 use lib.Dec.{ltb}
 use mathlib.Core.List.{List, [], _∷_, _++_}
-use Rattle.written.specs.Padding.{paddedTo}
 use Rattle.ty.specs.Choose.{choose}
 use Rattle.typing.specs.Answer.{Answer, zeros, answerOf, bufferOf}
+use Rattle.written.specs.Padding.{paddedTo}
 
 -- n in k bytes, low byte first
 unfoldable pub littleEndian : ℕ → ℕ → List ℕ

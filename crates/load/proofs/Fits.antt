@@ -4,11 +4,11 @@ use borrow.Author.Tests.{leb-false, leb-true}
 use lib.Dec.{leb}
 use lib.ListN.{length}
 use mathlib.Core.Bool.{Bool, true, false}
-use mathlib.Core.Path.{_≡_, refl, sym, _∙_}
+use mathlib.Core.Path.{_≡_, refl, _∙_}
 use native.Mathlib.Omega.{arith}
 use Rattle.load.proofs.DrawnTrees.{taken-low, left-low, binary-many, shaped, inner-shaped}
-use Rattle.load.specs.Draw.{stepped, taken, drawn}
-use Rattle.load.specs.DrawnTree.{Drawn, drawnLeaf, unaryOver, drawnUnary, leftNodes, binaryBehind, drawnBinary, drawnInner, drawnIn, drawnTree}
+use Rattle.load.specs.Draw.{stepped, drawn}
+use Rattle.load.specs.DrawnTree.{Drawn, drawnLeaf, unaryOver, drawnUnary, leftNodes, binaryBehind, drawnBinary, drawnIn, drawnTree}
 use Rattle.load.specs.Inside.Shape.{shapeOf}
 use Rattle.question.proofs.WrittenTrees.{written-bytes, plain-legal}
 use Rattle.question.specs.Legal.{Legal}

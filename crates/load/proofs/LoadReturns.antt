@@ -5,7 +5,7 @@ use lib.Dec.{ltb, eqb}
 use lib.ListN.{length, replicate}
 use lib.Seq.{sets}
 use mathlib.Core.Bool.{Bool, true, false, true≢false, _||_}
-use mathlib.Core.List.{List, [], _∷_, _++_}
+use mathlib.Core.List.{List}
 use mathlib.Core.Path.{_≡_, refl, sym, ap, _∙_}
 use native.Mathlib.Omega.{arith}
 use Rattle.load.proofs.Order1.{load-fine}
@@ -16,8 +16,8 @@ use Rattle.load.specs.Order1.{LoadFine}
 use Rattle.question.specs.Parse.{mostNodes}
 use Rattle.question.specs.Write.{writeTree}
 use Rattle.ty.proofs.Choice.{choose-yes, choose-no}
-use Rattle.written.proofs.Outputs.{wrote-all, wrote-writes}
 use Rattle.written.proofs.ListFacts.{sets-append}
+use Rattle.written.proofs.Outputs.{wrote-all, wrote-writes}
 use Rattle.written.specs.Output.{Output, wrote, refused, tooShort, Writes}
 use Rattle.written.specs.declared.Written.{Written}
 

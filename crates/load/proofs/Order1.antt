@@ -8,7 +8,7 @@ use Rattle.load.specs.DrawnTree.{drawnTree}
 use Rattle.load.specs.Load.{loadQuestion}
 use Rattle.load.specs.Order1.{LoadFine}
 use Rattle.question.proofs.WrittenTrees.{reads-back}
-use Rattle.question.specs.Parse.{mostNodes, treeOf}
+use Rattle.question.specs.Parse.{mostNodes}
 use Rattle.question.specs.ReadBack.{ReadsBack}
 use Rattle.question.specs.Tree.{size}
 use Rattle.question.specs.Write.{writeSuspend, writeHeader, writeQuestion}

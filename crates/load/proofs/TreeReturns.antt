@@ -8,8 +8,8 @@ use mathlib.Core.Bool.{true, false}
 use mathlib.Core.List.{List, [], _∷_, _++_}
 use mathlib.Core.Path.{_≡_, sym, ap, _∙_}
 use native.Mathlib.Omega.{arith}
-use Rattle.load.proofs.Fits.{drawn-bytes}
 use Rattle.load.proofs.DrawnTrees.{left-low, binary-many, shaped, drawn-one, drawn-more}
+use Rattle.load.proofs.Fits.{drawn-bytes}
 use Rattle.load.specs.Draw.{stepped, taken}
 use Rattle.load.specs.DrawnTree.{Drawn, drawnLeaf, unaryOver, drawnUnary, leftNodes, binaryBehind, drawnBinary, drawnTree}
 use Rattle.load.specs.Inside.Shape.{shapeOf}

@@ -10,11 +10,11 @@ use native.Mathlib.Omega.{arith}
 use Rattle.question.proofs.NodeIds.{same-fault}
 use Rattle.question.proofs.NodeReading.{room-of, leaf-length, leaf-whole}
 use Rattle.question.proofs.Trees.{take-count, split-count, split-bytes, split-sizes}
-use Rattle.question.specs.Legal.{Legal, RowLegal}
 use Rattle.question.specs.Inside.Stands.{TreeStands, RowStands}
 use Rattle.question.specs.Inside.Top.{idFault, endlessFault, readFault}
-use Rattle.question.specs.Parse.{first, rest, takeRow, dropRow, onto, rowAt}
+use Rattle.question.specs.Legal.{Legal, RowLegal}
 use Rattle.question.specs.NodeRead.{nodeAt, ownBytes, children}
+use Rattle.question.specs.Parse.{first, rest, takeRow, dropRow, onto, rowAt}
 use Rattle.question.specs.QuestionRefused.{defined, nodeFault, moreFault, endFault, nodesFault}
 use Rattle.question.specs.Tree.{Row, leaf, binary, unary, named, member, call, method, nil, cons, size, sizes, count, bytes, bytess}
 use Rattle.question.specs.declared.Names.{Names}

@@ -8,9 +8,9 @@ use native.Mathlib.Omega.{arith}
 use Rattle.question.proofs.Accepted.{accepted}
 use Rattle.question.proofs.NodeReading.{Front, front-at}
 use Rattle.question.specs.Header.{headerBytes}
+use Rattle.question.specs.Inside.Stands.{TreeStands, RowStands}
 use Rattle.question.specs.Parse.{treeOf}
 use Rattle.question.specs.QuestionRefused.{questionFault}
-use Rattle.question.specs.Inside.Stands.{TreeStands, RowStands}
 use Rattle.question.specs.Tree.{Node, Row, leaf, binary, unary, named, member, call, method, nil, cons, bytes, bytess, count}
 use Rattle.question.specs.Write.{writeTree, writeRow}
 use Rattle.question.specs.declared.Names.{Names}

@@ -13,7 +13,7 @@ use Rattle.question.specs.Header.{headerBytes, headerOf}
 use Rattle.question.specs.Inside.Stands.{TreeStands, RowStands}
 use Rattle.question.specs.Legal.{LeafLegal, Legal, RowLegal}
 use Rattle.question.specs.NodeRead.{lastBinary, lastUnary, mostArguments, leafOf, nodeOf, nodeIn, nodeAt}
-use Rattle.question.specs.Parse.{mostNodes, treeOf}
+use Rattle.question.specs.Parse.{mostNodes}
 use Rattle.question.specs.QuestionRefused.{noneOrDefined, questionFault}
 use Rattle.question.specs.ReadBack.{ReadsBack}
 use Rattle.question.specs.Tree.{Node, Row, leaf, binary, unary, named, member, call, method, nil, cons, size, sizes, bytes, bytess, count}

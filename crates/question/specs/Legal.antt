@@ -4,8 +4,8 @@ use Prim.Native.Nat.{ℕ, _≤_}
 use lib.ListN.{length}
 use mathlib.Core.Bool.{Bool, true}
 use mathlib.Core.Path.{_≡_}
-use Rattle.question.specs.QuestionRefused.{defined}
 use Rattle.question.specs.NodeRead.{lastBinary, lastUnary, mostArguments}
+use Rattle.question.specs.QuestionRefused.{defined}
 use Rattle.question.specs.Tree.{Node, Row, leaf, binary, unary, named, member, call, method, nil, cons, count}
 use Rattle.question.specs.declared.Names.{Names}
 use Rattle.ty.specs.Bytes.{Ty}

@@ -1,5 +1,5 @@
 -- What is read of a question that was written. `reads-back` has it of every legal tree of at most 64 nodes.
-use Prim.Native.Nat.{ℕ, _+_}
+use Prim.Native.Nat.{_+_}
 use lib.ListN.{length}
 use mathlib.Core.Bool.{true}
 use mathlib.Core.Path.{_≡_}

@@ -1,6 +1,6 @@
 -- How an output grows in a cleared buffer, and a writing part's returns.
 use Prim.Native.Nat.{ℕ, _+_, _-_, _≤_}
-use lib.ListN.{length, replicate, length-append, length-replicate}
+use lib.ListN.{length, replicate, length-append}
 use lib.Seq.{sets}
 use mathlib.Core.List.{List, [], _++_}
 use mathlib.Core.Path.{_≡_, refl, sym, ap, _∙_}

@@ -9,10 +9,10 @@ use Rattle.load.proofs.+write_tree.Tie.{close}
 use Rattle.load.proofs.+write_tree.{statement}
 use Rattle.load.proofs.DrawnTrees.{binary-many}
 use Rattle.load.proofs.TreeReturns.{leaf-written, unary-written, binary-written, left-is}
-use Rattle.load.proofs.take_of.Reads as take-of-reads
 use Rattle.load.proofs.put_node.Reads as put-node-reads
 use Rattle.load.proofs.shape_of.Reads as shape-of-reads
 use Rattle.load.proofs.step.Reads as step-reads
+use Rattle.load.proofs.take_of.Reads as take-of-reads
 use Rattle.load.proofs.write_tree.Kinds as write-tree-kinds
 use Rattle.load.proofs.write_tree.Reads as write-tree
 use Rattle.load.specs.Draw.{taken, stepped}
