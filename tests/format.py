@@ -342,8 +342,8 @@ def load_faults(load, run, run_load):
             return [f"{load.line}: the page has {load.written.hex()}, written is {written.hex()} with exit status {code}"]
         printed = run(bytes(2) + written)[1]
         return [] if printed.startswith("0 ") else [f"{load.line}: what is written is judged {printed!r}"]
-    refused = code != 0 and not written and load.number in re.findall(r"\d+", said)
-    return [] if refused else [f"{load.line}: not refused with {load.number}: {said!r} with exit status {code}"]
+    refused = not written and load.number in re.findall(r"\d+", said)
+    return [] if refused else [f"{load.line}: not refused with {load.number}: {said!r}, written is {written.hex() or 'nothing'}"]
 
 
 def findings(text, true, run, run_load):
@@ -459,7 +459,7 @@ TRUE = Sources({
 }, ["0", "1", "2", "3", "4 .. 5"], 6)
 ANSWERS = {"010009ffffffff000000": "2 0 0 - 0\n", "0000ffffffff00000d00": "0 0 2 0d00 1\n7 1 258\n",
            "0000ffffffff000000": "0 1 1 00 0\n", "0000ffffffff00000c00": "0 1 2 0c00 0\n"}
-LOADS = {"5 1": (0, bytes.fromhex("ffffffff000000"), ""), "5 0": (1, b"", "14: no such count"), "6 1": (0, bytes.fromhex("ffffffff000700"), "")}
+LOADS = {"5 1": (0, bytes.fromhex("ffffffff000000"), ""), "5 0": (0, b"", "14: no such count"), "6 1": (0, bytes.fromhex("ffffffff000700"), "")}
 
 
 def load(asked):
@@ -545,8 +545,8 @@ class Small(unittest.TestCase):
         self.finds("writes   FFFFFFFF00 0000", "writes   FFFFFFFF00 0700",
                    "71: the page has ffffffff000700, written is ffffffff000000 with exit status 0")
         self.finds("load     5 1\nwrites   FFFFFFFF00 0000", "load     6 1\nwrites   FFFFFFFF00 0700", "71: what is written is judged '8 0 0 - 0\\n'")
-        self.finds("load     5 0", "load     5 1", "73: not refused with 14: '' with exit status 0")
-        self.finds("refused  14", "refused  15", "73: not refused with 15: '14: no such count' with exit status 1",
+        self.finds("load     5 0", "load     5 1", "73: not refused with 14: '', written is ffffffff000000")
+        self.finds("refused  14", "refused  15", "73: not refused with 15: '14: no such count', written is nothing",
                    " Numbers of refusals: no example prints 14")
         self.finds("writes   FFFFFFFF00 0000", "writes   -", "71: the page has , written is ffffffff000000 with exit status 0")
 
