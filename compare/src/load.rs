@@ -12,8 +12,11 @@ use std::ops::Range;
 /// How many start numbers CI asks for, each with every node count.
 pub const CI_STARTS: u64 = 10_000;
 
-/// So many of them are asked with every buffer length and with node counts that are refused too.
+/// The first of them are asked with every buffer length and with node counts that are refused too.
 const WIDELY: u64 = 12;
+
+/// The stream of the random start numbers, which no profile has.
+const STREAM: u64 = 64;
 
 /// The longest buffer that is lent.
 const LONGEST: usize = 160;
@@ -122,7 +125,7 @@ pub fn compare(yardsticks: &[Yardstick], seed: u64, places: Range<u64>, threads:
     let work = |first: u64| {
         let mut space = Space::new();
         for place in (places.start + first..places.end).step_by(threads) {
-            let start = start(place, &mut Rng::new(seed, COUNTS, place));
+            let start = start(place, &mut Rng::new(seed, STREAM, place));
             space.around_the_limit(yardsticks, start, place)?;
             if place < WIDELY {
                 space.widely(yardsticks, start)?;
