@@ -6,7 +6,7 @@ use mathlib.Core.Bool.{Bool, true, false, true≢false}
 use mathlib.Core.Path.{_≡_, refl, sym, ap, _∙_}
 use native.Mathlib.Nat.{mod-lt}
 use native.Mathlib.Omega.{arith}
-use Rattle.load.specs.Draw.{stepped, taken, drawn}
+use Rattle.load.specs.Draw.{stepped, takenFrom, drawn}
 use Rattle.load.specs.DrawnTree.{Drawn, drawnLeaf, unaryOver, drawnUnary, leftNodes, binaryBehind, drawnBinary, drawnInner, drawnIn, drawnTree}
 use Rattle.load.specs.Inside.Shape.{shapeOf}
 use Rattle.load.specs.declared.Shape.{Shape}
@@ -14,8 +14,8 @@ use Rattle.ty.proofs.Choice.{by-choice, choose-yes, choose-no}
 use Rattle.ty.specs.Choose.{choose}
 
 -- a draw is below what it is drawn of
-pub taken-low : (n s : ℕ) → 1 ≤ n → taken n s < n
-unfolding taken
+pub taken-low : (n s : ℕ) → 1 ≤ n → takenFrom n s < n
+unfolding takenFrom
 taken-low n s h = mod-lt _ h
 
 -- both sides of a binary have at least one node, and fewer than it

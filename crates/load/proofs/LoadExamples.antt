@@ -1,7 +1,7 @@
 -- Worked questions, computed from the definitions.
 use mathlib.Core.List.{[], _∷_}
 use mathlib.Core.Path.{_≡_, refl}
-use Rattle.load.specs.Draw.{stepped, taken}
+use Rattle.load.specs.Draw.{stepped, takenFrom}
 use Rattle.load.specs.DrawnTree.{drawnLeaf, unaryOver, drawnUnary, leftNodes, binaryBehind, drawnBinary, drawnInner, drawnIn, drawnTree}
 use Rattle.load.specs.Load.{loadQuestion, loadOf}
 use Rattle.question.specs.Tree.{size}
@@ -25,5 +25,5 @@ record Worked : Type 0 where
   all : size (drawnTree 64 4_294_967_295 .tree) ≡ 64
 
 worked : Worked
-unfolding stepped taken drawnLeaf unaryOver drawnUnary leftNodes binaryBehind drawnBinary drawnInner drawnIn drawnTree loadQuestion loadOf size writeTree choose lentAfter
+unfolding stepped takenFrom drawnLeaf unaryOver drawnUnary leftNodes binaryBehind drawnBinary drawnInner drawnIn drawnTree loadQuestion loadOf size writeTree choose lentAfter
 worked = record { one = refl; five = refl; three = refl; none = refl; many = refl; short = refl; zeros = refl; all = refl }

@@ -10,7 +10,7 @@ use mathlib.Core.Path.{_≡_, sym, ap, _∙_}
 use native.Mathlib.Omega.{arith}
 use Rattle.load.proofs.DrawnTrees.{left-low, binary-many, shaped, drawn-one, drawn-more}
 use Rattle.load.proofs.Fits.{drawn-bytes}
-use Rattle.load.specs.Draw.{stepped, taken}
+use Rattle.load.specs.Draw.{stepped, takenFrom}
 use Rattle.load.specs.DrawnTree.{Drawn, drawnLeaf, unaryOver, drawnUnary, leftNodes, binaryBehind, drawnBinary, drawnTree}
 use Rattle.load.specs.Inside.Shape.{shapeOf}
 use Rattle.load.specs.Inside.WritesTree.{WritesTree}
@@ -28,12 +28,12 @@ pub shape-two : (k s : ℕ) → k ≤ 2 → record { binary = false; state = s }
 unfolding shapeOf
 shape-two k s h = sym (choose-yes (leb k 2) _ _ (le-leb k 2 h))
 
-pub shape-drawn : (k s t d : ℕ) → 2 < k → t ≡ stepped s → d ≡ taken 2 t → record { binary = eqb d 1; state = t } ≡ shapeOf k s
+pub shape-drawn : (k s t d : ℕ) → 2 < k → t ≡ stepped s → d ≡ takenFrom 2 t → record { binary = eqb d 1; state = t } ≡ shapeOf k s
 unfolding shapeOf
 shape-drawn k s t d h e f = rw (f, e) (sym (choose-no (leb k 2) _ _ (lt-leb k 2 h)))
 
 -- the left side, as it is drawn
-pub left-is : (k s t d : ℕ) → t ≡ stepped s → d ≡ taken (k - 2) t → 1 + d ≡ leftNodes k s
+pub left-is : (k s t d : ℕ) → t ≡ stepped s → d ≡ takenFrom (k - 2) t → 1 + d ≡ leftNodes k s
 unfolding leftNodes
 left-is k s t d e f = rw (f, e)
 
@@ -42,12 +42,12 @@ module _ (k state at : ℕ) (before after : List ℕ) (r : ℕ) where
   by-tree : (x : Drawn) → drawnTree k state ≡ x → r ≡ x .state → after ≡ sets before at (writeTree (x .tree)) → WritesTree k state at before after r
   by-tree x e s b = record { behind = s ∙ ap (λ (y : Drawn). y .state) (sym e); buffer = b ∙ ap (λ (y : Drawn). sets before at (writeTree (y .tree))) (sym e) }
 
-  pub leaf-written : k ≡ 1 → r ≡ stepped state → (d : ℕ) → d ≡ taken 12 (stepped state) → after ≡ sets before at (0 ∷ d ∷ []) → WritesTree k state at before after r
+  pub leaf-written : k ≡ 1 → r ≡ stepped state → (d : ℕ) → d ≡ takenFrom 12 (stepped state) → after ≡ sets before at (0 ∷ d ∷ []) → WritesTree k state at before after r
   unfolding drawnLeaf writeTree
   leaf-written e s d f b = by-tree (drawnLeaf state) (ap (λ (m : ℕ). drawnTree m state) e ∙ drawn-one state) s (b ∙ ap (λ (z : ℕ). sets before at (0 ∷ z ∷ [])) f)
 
   module _ (more : 2 ≤ k) (s : ℕ) (s-is : s ≡ stepped (shapeOf k state .state)) (mid : List ℕ) where
-    pub unary-written : shapeOf k state .binary ≡ false → (d : ℕ) → d ≡ taken 7 s → mid ≡ sets before at (2 ∷ d ∷ []) → WritesTree (k - 1) s (at + 2) mid after r
+    pub unary-written : shapeOf k state .binary ≡ false → (d : ℕ) → d ≡ takenFrom 7 s → mid ≡ sets before at (2 ∷ d ∷ []) → WritesTree (k - 1) s (at + 2) mid after r
         → WritesTree k state at before after r
     unfolding shaped drawnUnary unaryOver writeTree
     unary-written n d f m g =
@@ -56,7 +56,7 @@ module _ (k state at : ℕ) (before after : List ℕ) (r : ℕ) where
         (g .buffer ∙ ap (λ (b : List ℕ). sets b (at + 2) (writeTree (drawnTree (k - 1) s .tree))) m
         ∙ sets-append (2 ∷ d ∷ []) (writeTree (drawnTree (k - 1) s .tree)) before at)
 
-    pub binary-written : shapeOf k state .binary ≡ true → (d : ℕ) → d ≡ taken 23 s → mid ≡ sets before at (1 ∷ d ∷ []) → (left t : ℕ) → t ≡ stepped s
+    pub binary-written : shapeOf k state .binary ≡ true → (d : ℕ) → d ≡ takenFrom 23 s → mid ≡ sets before at (1 ∷ d ∷ []) → (left t : ℕ) → t ≡ stepped s
         → left ≡ leftNodes k s → (u : ℕ) (late : List ℕ) → WritesTree left t (at + 2) mid late u → WritesTree (k - 1 - left) u (at + 2 + 2 * left) late after r
         → WritesTree k state at before after r
     unfolding shaped drawnBinary binaryBehind writeTree

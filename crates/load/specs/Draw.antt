@@ -6,9 +6,9 @@ unfoldable pub stepped : ℕ → ℕ
 stepped state = (state * 1_664_525 + 1_013_904_223) % 2 ^ 32
 
 -- what is taken of that state
-unfoldable pub taken : ℕ → ℕ → ℕ
-taken n state = state / 65_536 % n
+unfoldable pub takenFrom : ℕ → ℕ → ℕ
+takenFrom n state = state / 65_536 % n
 
 -- a draw of n, by the state before it
 abbrev pub drawn : ℕ → ℕ → ℕ
-drawn n state = taken n (stepped state)
+drawn n state = takenFrom n (stepped state)

@@ -1,4 +1,5 @@
--- What order 1 claims of every start number and every node count from 1 to 64. Document 02: "Each question written is accepted and has exactly the wanted nodes."
+-- What order 1 claims, for every start number and every node count from 1 to 64. Document 02: "Each question written is accepted and has exactly the wanted
+-- nodes."
 use Prim.Native.Nat.{ℕ}
 use lib.ListN.{length}
 use mathlib.Core.Path.{_≡_}

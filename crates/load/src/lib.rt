@@ -9,7 +9,7 @@ ghost use mathlib.Core.List.{[], _∷_};
 ghost use Prim.Native.Nat.{_+_, _*_, _%_, _^_, _≤_, _<_};
 ghost use lib.ListN.{length};
 ghost use lib.Seq.{sets};
-ghost use Rattle.load.specs.Draw.{stepped, taken};
+ghost use Rattle.load.specs.Draw.{stepped, takenFrom};
 ghost use Rattle.load.specs.Load.{loadOf};
 ghost use Rattle.load.specs.Order1.{LoadFine};
 ghost use Rattle.load.specs.Inside.Shape.{shapeOf};
@@ -47,7 +47,7 @@ fn step(state: u32) -> u32
 // What a draw of n takes of the state behind it.
 fn take_of(state: u32, n: u32) -> u32
     requires { ⌜ 1 ≤ n ⌝ }
-    ensures { λ r. ⌜ (r ≡ taken n state) × (r < n) ⌝ }
+    ensures { λ r. ⌜ (r ≡ takenFrom n state) × (r < n) ⌝ }
 {
     state / 65_536 % n
 }

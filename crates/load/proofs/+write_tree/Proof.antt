@@ -15,7 +15,7 @@ use Rattle.load.proofs.step.Reads as step-reads
 use Rattle.load.proofs.take_of.Reads as take-of-reads
 use Rattle.load.proofs.write_tree.Kinds as write-tree-kinds
 use Rattle.load.proofs.write_tree.Reads as write-tree
-use Rattle.load.specs.Draw.{taken, stepped}
+use Rattle.load.specs.Draw.{takenFrom, stepped}
 use Rattle.load.specs.declared.Shape.{Shape}
 
 abbrev μ-write-tree : Measures 1 write-tree-kinds.ps ℕ
@@ -48,7 +48,7 @@ module _ (t : ℕ) where
   returns : write-tree-lts.Need-returns (told t) (write-tree-at t) write-tree.Post
   returns c =
       leaf-written _ _ _ _ _ _ (c .before .before .before .before .before .before .if1 .taken) (c .before .before .before .before .before .step .ensures) _
-      ((c .before .before .before .before .take-of .ensures) .0 ∙ ap (taken 12) (c .before .before .before .before .before .step .ensures))
+      ((c .before .before .before .before .take-of .ensures) .0 ∙ ap (takenFrom 12) (c .before .before .before .before .before .step .ensures))
       (c .before .before .put-node .ensures)
 
   shape-of-requires : write-tree-lts.Need-shape-of-requires (told t) (write-tree-at t) write-tree.Post
