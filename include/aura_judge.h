@@ -36,6 +36,22 @@ uint8_t aura_judge(const uint8_t *table, size_t table_length,
                    uint8_t *diagnostics, size_t diagnostics_length,
                    uint8_t *answer, size_t answer_length);
 
+/* How many bytes the longest question that aura_load writes has: 5, and 2 for each of 64 nodes. */
+#define AURA_LOAD_LONGEST 133
+
+/* Why aura_load refuses: a node count outside 1 to 64; an output buffer that is too short. */
+#define AURA_LOAD_NODE_COUNT 14
+#define AURA_LOAD_TOO_SHORT 15
+
+/* Writes a question to test with: the one that a start number and a node count from 1 to 64 give, on every machine the
+   same. It begins with FF FF FF FF 00, has 5 + 2 * nodes bytes and exactly that many nodes. No id occurs in it, so that
+   it is accepted (draws none of 8 to 11) under every accepted table. The question is written to `out`, and all bytes
+   behind it are set to zero; its length is written to `len`. Answers 0.
+   Where the node count is not 1 to 64 the answer is 14, else where `out` has fewer bytes than the question 15; every
+   byte of `out` is then zero, and so is `len`.
+   `out` has as many bytes behind it as its length says; neither pointer is null, and the two do not overlap. */
+uint8_t aura_load(uint32_t start, size_t nodes, uint8_t *out, size_t out_length, size_t *len);
+
 #ifdef __cplusplus
 }
 #endif

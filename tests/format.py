@@ -1,9 +1,10 @@
 #!/usr/bin/env python3
 """Tests that docs/FORMAT.md says what the program does, and that its tables are those of the sources.
 
-    tests/format.py PROGRAM
+    tests/format.py PROGRAM LOAD_PROGRAM
 
-Each example of the page is one run of PROGRAM; what it prints is compared byte for byte. Examples are
+Each example of the page is one run of PROGRAM, and of LOAD_PROGRAM for a test load; what it prints is compared byte for byte. Examples
+are
 
 - the blocks marked `aura`. A line begins with the name of a field, an indented line goes on with the field above it, and `#` begins a
   comment. `table` and `question`, or `input` for all that PROGRAM reads, are bytes in hex: `-` is none, `XX*N` is N times the bytes XX.
@@ -11,7 +12,9 @@ Each example of the page is one run of PROGRAM; what it prints is compared byte 
   behind it are what the C function writes; they are held against what was printed and the header's places;
 - the questions of the blocks marked `aura-text`, in the form of tools/aura_text.py, with their answers. A block marked `aura` has each of
   them in bytes;
-- the types in the table of kinds, each as a leaf.
+- the types in the table of kinds, each as a leaf;
+- the blocks marked `aura-load`: `load` has the arguments of LOAD_PROGRAM, `writes` what it writes, in hex, which PROGRAM must not refuse;
+  `refused` has the number that it says where it writes nothing.
 
 The exit status is 1 where an example does not agree or cannot be read, where there is none, where none prints some number of a refusal
 or some kind of a diagnostic, where a table of the page has not what the sources have (`sources`), and where a link inside the page leads
@@ -34,7 +37,7 @@ import replay  # noqa: E402
 
 PAGE = "docs/FORMAT.md"
 TYPES, DIAGNOSTICS, REFUSALS = "Kinds of types", "Kinds of diagnostics", "Numbers of refusals"
-NOT_DRAWN = {"13"}  # by no input
+NOT_DRAWN = {"13", "15"}  # 13 by no input, 15 not by LOAD_PROGRAM, whose buffer is long enough
 BLOCK = re.compile(r"^```([^\n]*)\n(.*?)^```$", re.S | re.M)
 LEAF = bytes.fromhex("ffffffff00 00")
 
@@ -56,6 +59,14 @@ class Example:
     answer: bytes = None
     diagnostics: bytes = None
     text: bool = False
+
+
+@dataclasses.dataclass
+class Load:
+    line: int
+    asked: list
+    written: bytes = b""
+    number: str = "0"
 
 
 def unhex(text):
@@ -121,6 +132,25 @@ def text_examples(start, lines):
     return examples
 
 
+def load_examples(start, lines):
+    out, asked = [], None
+    for number, name, parts in fields(start, lines):
+        if (name == "load") != (asked is None) or name not in ("load", "writes", "refused"):
+            raise Fault(number, f"`{name}` has no meaning here")
+        words = " ".join(parts)
+        try:
+            if name == "load":
+                asked = words.split()
+                continue
+            out.append(Load(number, asked, unhex(words)) if name == "writes" else Load(number, asked, number=str(int(words))))
+        except ValueError:
+            raise Fault(number, f"`{name}` has not what it needs") from None
+        asked = None
+    if asked:
+        raise Fault(start + len(lines), "the end in place of `writes`")
+    return out
+
+
 def type_end(data, at, sizes):
     """Where the type at `at` ends, by each kind's bytes of body and its children."""
     body, children = sizes[data[at]]
@@ -146,16 +176,25 @@ def type_example(line, cells, rows):
     return Example(line, bytes(2) + LEAF + data, f"0 {int(text != 'Error')} {len(data)} {data.hex()} 0\n")
 
 
-def examples_of(text):
-    """The examples of the page, and what is wrong with those that cannot be read."""
+def blocks_of(text, readers):
+    """What is read in the blocks with some marks, and what is wrong with those that cannot be read."""
     out, faults = [], []
-    readers = {"aura": block_examples, "aura-text": text_examples}
     for found in BLOCK.finditer(text):
         try:
             if found[1] in readers:
                 out += readers[found[1]](text.count("\n", 0, found.start(2)) + 1, found[2].splitlines())
         except Fault as fault:
             faults.append(str(fault))
+    return out, faults
+
+
+def loads_of(text):
+    return blocks_of(text, {"aura-load": load_examples})
+
+
+def examples_of(text):
+    """The examples that PROGRAM runs, and what is wrong with those that cannot be read."""
+    out, faults = blocks_of(text, {"aura": block_examples, "aura-text": text_examples})
     inputs = [example.given for example in out if not example.text]
     faults += [f"{example.line}: no block has these bytes" for example in out if example.text and example.given not in inputs]
     rows = tables_of(text).get(TYPES, [])
@@ -261,10 +300,10 @@ def link_faults(text):
     return [f" there is no heading #{link}" for link in re.findall(r"\]\(#(.*?)\)", text) if link not in anchors]
 
 
-def not_shown(examples, tables):
+def not_shown(examples, loads, tables):
     """The numbers and kinds that no example prints."""
     lines = [example.printed.splitlines() for example in examples]
-    shown = {REFUSALS: {first.split()[0] for first, *_ in lines} | NOT_DRAWN,
+    shown = {REFUSALS: {first.split()[0] for first, *_ in lines} | {load.number for load in loads} | NOT_DRAWN,
              DIAGNOSTICS: {line.split()[0] for _, *others in lines for line in others}}
     return [f" {section}: no example prints {number}" for section in shown for number in tables[section][1] if number not in shown[section]]
 
@@ -296,16 +335,28 @@ def example_faults(example, run, places):
     return out
 
 
-def findings(text, true, run):
+def load_faults(load, run, run_load):
+    code, written, said = run_load(load.asked)
+    if load.number == "0":
+        if (code, written, said) != (0, load.written, ""):
+            return [f"{load.line}: the page has {load.written.hex()}, written is {written.hex()} with exit status {code}"]
+        printed = run(bytes(2) + written)[1]
+        return [] if printed.startswith("0 ") else [f"{load.line}: what is written is judged {printed!r}"]
+    refused = not written and load.number in re.findall(r"\d+", said)
+    return [] if refused else [f"{load.line}: not refused with {load.number}: {said!r}, written is {written.hex() or 'nothing'}"]
+
+
+def findings(text, true, run, run_load):
     """How many examples there are, how many of them agree, and each fault of the page."""
-    examples, out = examples_of(text)
-    faults = [example_faults(example, run, true.places) for example in examples]
+    (examples, out), (loads, more) = examples_of(text), loads_of(text)
+    out += more
+    faults = [example_faults(example, run, true.places) for example in examples] + [load_faults(load, run, run_load) for load in loads]
     for some in faults:
         out += some
     if not examples:
         out.append(" there is no example")
-    out += not_shown(examples, true.tables) + table_faults(text, true.tables) + link_faults(text)
-    return len(examples), faults.count([]), [f"{PAGE}:{fault}" for fault in out]
+    out += not_shown(examples, loads, true.tables) + table_faults(text, true.tables) + link_faults(text)
+    return len(faults), faults.count([]), [f"{PAGE}:{fault}" for fault in out]
 
 
 def runner(program):
@@ -313,6 +364,13 @@ def runner(program):
         done = subprocess.run([program], input=given, capture_output=True, check=False)
         return done.returncode, done.stdout.decode("utf-8", "replace")
     return run
+
+
+def load_runner(program):
+    def run_load(asked):
+        done = subprocess.run([program, *asked], capture_output=True, check=False)
+        return done.returncode, done.stdout, done.stderr.decode("utf-8", "replace")
+    return run_load
 
 
 # Tests of this test: a small page with one fault at a time, and this page with each row and each example changed
@@ -341,6 +399,7 @@ See [Names](#names).
 |---|---|
 | 2 | the table's writer |
 | 13 | the judge |
+| 14 | the caller |
 
 ## Kinds of diagnostics
 
@@ -383,59 +442,71 @@ question q
 leaf Int
 answer passed Int
 ```
+
+```aura-load
+load     5 1
+writes   FFFFFFFF00 0000
+load     5 0
+refused  14
+```
 """
 TRUE = Sources({
     TYPES: (1, {"0": "Int", "12": "Nullable"}),
     "Names": (None, {"0": "Pair", "1": "List", "2": "Set"}),
-    REFUSALS: (1, {"2": "the table's writer", "13": "the judge"}),
+    REFUSALS: (1, {"2": "the table's writer", "13": "the judge", "14": "the caller"}),
     DIAGNOSTICS: (1, {"7": "bitwise"}),
     "The answer in 6 bytes": (1, {"0": "number", "1": "pass mark", "2": "length", "3": "count", "4 .. 5": "type"}),
 }, ["0", "1", "2", "3", "4 .. 5"], 6)
 ANSWERS = {"010009ffffffff000000": "2 0 0 - 0\n", "0000ffffffff00000d00": "0 0 2 0d00 1\n7 1 258\n",
            "0000ffffffff000000": "0 1 1 00 0\n", "0000ffffffff00000c00": "0 1 2 0c00 0\n"}
+LOADS = {"5 1": (0, bytes.fromhex("ffffffff000000"), ""), "5 0": (0, b"", "14: no such count"), "6 1": (0, bytes.fromhex("ffffffff000700"), "")}
+
+
+def load(asked):
+    return LOADS[" ".join(asked)]
 
 
 class Small(unittest.TestCase):
     def finds(self, old, new, *faults, counts=None):
         """What is found in the small page with one change."""
         self.assertIn(old, SMALL)
-        *found, lines = findings(SMALL.replace(old, new, 1), TRUE, lambda given: (0, ANSWERS.get(given.hex(), "8 0 0 - 0\n")))
+        *found, lines = findings(SMALL.replace(old, new, 1), TRUE, lambda given: (0, ANSWERS.get(given.hex(), "8 0 0 - 0\n")), load)
         self.assertEqual(lines, [PAGE + ":" + fault for fault in faults])
         if counts:
             self.assertEqual(found, counts)
 
     def test_a_sound_page(self):
-        self.finds("", "", counts=[7, 7])
+        self.finds("", "", counts=[9, 9])
 
     def test_a_wrong_byte(self):
-        first = "46: the page has '2 0 0 - 0\\n', printed is '8 0 0 - 0\\n' with exit status 0"
-        self.finds("table    09 ", "table    08 ", first, counts=[7, 6])
+        first = "47: the page has '2 0 0 - 0\\n', printed is '8 0 0 - 0\\n' with exit status 0"
+        self.finds("table    09 ", "table    08 ", first, counts=[9, 8])
         self.finds("         00 00 ", "         00 01 ", first)
-        self.finds("FF*4 00", "FF*5 00", "52: the page has '0 0 2 0d00 1\\n7 1 258\\n', printed is '8 0 0 - 0\\n' with exit status 0")
-        self.finds("leaf Int", "leaf Long", "63: no block has these bytes",
-                   "63: the page has '0 1 1 00 0\\n', printed is '8 0 0 - 0\\n' with exit status 0")
-        self.finds("00 0000", "00 0001", "63: no block has these bytes",
-                   "59: the page has '0 1 1 00 0\\n', printed is '8 0 0 - 0\\n' with exit status 0")
+        self.finds("FF*4 00", "FF*5 00", "53: the page has '0 0 2 0d00 1\\n7 1 258\\n', printed is '8 0 0 - 0\\n' with exit status 0")
+        self.finds("leaf Int", "leaf Long", "64: no block has these bytes",
+                   "64: the page has '0 1 1 00 0\\n', printed is '8 0 0 - 0\\n' with exit status 0")
+        self.finds("00 0000", "00 0001", "64: no block has these bytes",
+                   "60: the page has '0 1 1 00 0\\n', printed is '8 0 0 - 0\\n' with exit status 0")
 
     def test_a_wrong_line(self):
-        self.finds("prints   2 0", "prints   3 0", "46: the page has '3 0 0 - 0\\n', printed is '2 0 0 - 0\\n' with exit status 0",
+        self.finds("prints   2 0", "prints   3 0", "47: the page has '3 0 0 - 0\\n', printed is '2 0 0 - 0\\n' with exit status 0",
                    " Numbers of refusals: no example prints 2")
-        self.finds("         7 1 258\n", "", "52: the page has '0 0 2 0d00 1\\n', printed is '0 0 2 0d00 1\\n7 1 258\\n' with exit status 0",
+        self.finds("         7 1 258\n", "", "53: the page has '0 0 2 0d00 1\\n', printed is '0 0 2 0d00 1\\n7 1 258\\n' with exit status 0",
                    " Kinds of diagnostics: no example prints 7")
-        self.assertTrue(findings(SMALL, TRUE, lambda given: (1, ANSWERS.get(given.hex(), "8 0 0 - 0\n")))[2])
+        self.assertTrue(findings(SMALL, TRUE, lambda given: (1, ANSWERS.get(given.hex(), "8 0 0 - 0\n")), load)[2])
 
     def test_a_wrong_type(self):
-        self.finds("| `00` |", "| `0C 00` |", "9: the example is no type of this kind, as this table has it", counts=[6, 6])
+        self.finds("| `00` |", "| `0C 00` |", "9: the example is no type of this kind, as this table has it", counts=[8, 8])
         self.finds("`0C 00`", "`0C 00 00`", "10: the example is no type of this kind, as this table has it")
         self.finds("`0C 00`", "`0C 0C 00`", "10: the example is Nullable(Nullable(Int))")
         self.finds("`0C 00`", "`0C`", "10: the example cannot be read as a type")
         self.finds("| 1 | `0C", "| 0 | `0C", "10: the example is no type of this kind, as this table has it")
 
     def test_wrong_bytes_of_the_c_function(self):
-        self.finds("answer   00", "answer   01", "52: the C function's answer is 00 00 02 01 0d 00")
-        self.finds("0D 00\ndiag", "0D 00 00\ndiag", "52: the C function's answer is 00 00 02 01 0d 00")
-        self.finds("02 01 00*3", "01 02 00*3", "52: the C function's diagnostics are 07 01 00 02 01, then zeros")
-        self.finds("02 01 00*3", "02", "52: the C function's diagnostics are 07 01 00 02 01, then zeros")
+        self.finds("answer   00", "answer   01", "53: the C function's answer is 00 00 02 01 0d 00")
+        self.finds("0D 00\ndiag", "0D 00 00\ndiag", "53: the C function's answer is 00 00 02 01 0d 00")
+        self.finds("02 01 00*3", "01 02 00*3", "53: the C function's diagnostics are 07 01 00 02 01, then zeros")
+        self.finds("02 01 00*3", "02", "53: the C function's diagnostics are 07 01 00 02 01, then zeros")
 
     def test_a_missing_name(self):
         self.finds("| 1 | List |", "| | |", " Names: 1 List is missing")
@@ -448,35 +519,54 @@ class Small(unittest.TestCase):
     def test_a_missing_kind_number_or_field(self):
         self.finds("| 12 | Nullable | 0 | | 1 | `0C 00` | `Nullable(Int)` |\n", "", " Kinds of types: 12 Nullable is missing")
         self.finds("| 7 | bitwise |", "| | |", " Kinds of diagnostics: 7 bitwise is missing")
-        self.finds("| 7 |", "| 6 |", "30: Kinds of diagnostics: 6 bitwise, where the sources have no such number",
+        self.finds("| 7 |", "| 6 |", "31: Kinds of diagnostics: 6 bitwise, where the sources have no such number",
                    " Kinds of diagnostics: 7 bitwise is missing")
         self.finds("| 13 | the judge |\n", "", " Numbers of refusals: 13 the judge is missing")
         self.finds("| 2 | length |\n| 3 | count |", "| 3 | count |", " The answer in 6 bytes: 2 length is missing")
-        self.finds("| 4 .. 5 |", "| 4 .. 6 |", "40: The answer in 6 bytes: 4 .. 6 type, where the sources have no such number",
+        self.finds("| 4 .. 5 |", "| 4 .. 6 |", "41: The answer in 6 bytes: 4 .. 6 type, where the sources have no such number",
                    " The answer in 6 bytes: 4 .. 5 type is missing")
 
     def test_examples_that_cannot_be_read(self):
         two = " Numbers of refusals: no example prints 2"
-        self.finds("prints   2 0 0 - 0\n", "", "46: the end in place of `prints`", two, counts=[6, 6])
-        self.finds("table    09", "tables   09", "43: `tables` has no meaning here", two)
-        self.finds("table    09", "         09", "43: the name of a field is wanted", two)
-        self.finds("table    09", "table    0x", "43: `table` has no bytes in hex", two)
-        self.finds("table    09", "table    00*65536", "43: the program's input has no longer table than 65,535 bytes", two)
-        self.finds("table    09", "question 09", "44: `question` in place of `prints`", two)
-        rest = ["63: no block has these bytes", " Kinds of diagnostics: no example prints 7"]
-        self.finds("input    -", "input", "56: `input` has no bytes in hex", *rest)
-        self.finds("input    -\n", "\n", "57: `prints`, but there is no question", *rest)
-        self.finds("answer passed Int\n", "", "63: a question without an answer, or none")
-        self.finds("leaf Int", "leaf Ink", "63: line 2: `Ink` is neither a built-in name nor one of the table's (write `name Ink` above)")
+        self.finds("prints   2 0 0 - 0\n", "", "47: the end in place of `prints`", two, counts=[8, 8])
+        self.finds("table    09", "tables   09", "44: `tables` has no meaning here", two)
+        self.finds("table    09", "         09", "44: the name of a field is wanted", two)
+        self.finds("table    09", "table    0x", "44: `table` has no bytes in hex", two)
+        self.finds("table    09", "table    00*65536", "44: the program's input has no longer table than 65,535 bytes", two)
+        self.finds("table    09", "question 09", "45: `question` in place of `prints`", two)
+        rest = ["64: no block has these bytes", " Kinds of diagnostics: no example prints 7"]
+        self.finds("input    -", "input", "57: `input` has no bytes in hex", *rest)
+        self.finds("input    -\n", "\n", "58: `prints`, but there is no question", *rest)
+        self.finds("answer passed Int\n", "", "64: a question without an answer, or none")
+        self.finds("leaf Int", "leaf Ink", "64: line 2: `Ink` is neither a built-in name nor one of the table's (write `name Ink` above)")
+
+    def test_a_wrong_load(self):
+        self.finds("load     5 1", "load     6 1", "71: the page has ffffffff000000, written is ffffffff000700 with exit status 0", counts=[9, 8])
+        self.finds("writes   FFFFFFFF00 0000", "writes   FFFFFFFF00 0700",
+                   "71: the page has ffffffff000700, written is ffffffff000000 with exit status 0")
+        self.finds("load     5 1\nwrites   FFFFFFFF00 0000", "load     6 1\nwrites   FFFFFFFF00 0700", "71: what is written is judged '8 0 0 - 0\\n'")
+        self.finds("load     5 0", "load     5 1", "73: not refused with 14: '', written is ffffffff000000")
+        self.finds("refused  14", "refused  15", "73: not refused with 15: '14: no such count', written is nothing",
+                   " Numbers of refusals: no example prints 14")
+        self.finds("writes   FFFFFFFF00 0000", "writes   -", "71: the page has , written is ffffffff000000 with exit status 0")
+
+    def test_loads_that_cannot_be_read(self):
+        gone = " Numbers of refusals: no example prints 14"
+        self.finds("load     5 1\n", "", "70: `writes` has no meaning here", gone, counts=[7, 7])
+        self.finds("writes   FFFFFFFF00 0000\n", "", "71: `load` has no meaning here", gone)
+        self.finds("writes   FF", "writes   F", "71: `writes` has not what it needs", gone)
+        self.finds("refused  14", "refused  -", "73: `refused` has not what it needs", gone)
+        self.finds("refused  14", "prints   14", "73: `prints` has no meaning here", gone)
+        self.finds("refused  14\n", "", "73: the end in place of `writes`", gone)
 
     def test_no_example(self):
-        *counts, found = findings("# Formats\n\n| a |\n|---|\n| 1 |\n", TRUE, None)
+        *counts, found = findings("# Formats\n\n| a |\n|---|\n| 1 |\n", TRUE, None, None)
         self.assertEqual(counts, [0, 0])
         self.assertIn(f"{PAGE}: there is no example", found)
 
 
 class ThePage(unittest.TestCase):
-    run_it = None
+    run_it = run_load = None
 
     def setUp(self):
         self.text, self.true = (ROOT / PAGE).read_text(encoding="utf-8"), sources()
@@ -501,14 +591,18 @@ class ThePage(unittest.TestCase):
         for example in examples_of(self.text)[0]:
             other = dataclasses.replace(example, printed=example.printed.replace("0", "1", 1))
             self.assertTrue(example_faults(other, ThePage.run_it, self.true.places), example)
+        for load in loads_of(self.text)[0]:
+            other = dataclasses.replace(load, asked=["1", *load.asked[1:]]) if load.written else dataclasses.replace(load, number="15")
+            self.assertTrue(load_faults(other, ThePage.run_it, ThePage.run_load), load)
 
 
 def main():
-    if len(sys.argv) != 2 or sys.argv[1].startswith("-"):
+    if len(sys.argv) != 3 or sys.argv[1].startswith("-"):
         sys.exit(__doc__)
+    ThePage.run_load = run_load = load_runner(sys.argv.pop())
     ThePage.run_it = run = runner(sys.argv.pop())
     tested = unittest.main(exit=False).result
-    count, agree, found = findings((ROOT / PAGE).read_text(encoding="utf-8"), sources(), run)
+    count, agree, found = findings((ROOT / PAGE).read_text(encoding="utf-8"), sources(), run, run_load)
     for line in found:
         print(line)
     print(f"format: {agree} of {count} examples agree, faults: {len(found)}" if found else f"format: {count} examples agree")

@@ -12,7 +12,7 @@ holds what routines hand each other. Found are:
 - a file to be believed that imports or names one of an Inside;
 - an import, in definitions, code or proofs, of a module of specs/ that is not there;
 - a contract for the products that names something of an Inside. These are the contracts of the public functions of judge,
-  judge_text, console and aura_c: those in lib.rt, and those of other modules that lib.rt passes on or another crate uses.
+  judge_text, console, load and aura_c: those in lib.rt, and those of other modules that lib.rt passes on or another crate uses.
 """
 
 import argparse
@@ -20,7 +20,7 @@ import pathlib
 import re
 import sys
 
-PRODUCTS = "judge judge_text console aura_c".split()
+PRODUCTS = "judge judge_text console load aura_c".split()
 BEGIN, END = "<!-- believed: begin -->", "<!-- believed: end -->"
 HEAD = "| crate | files | lines to be believed | files inside | lines inside |\n|---|---|---|---|---|\n"
 NAME = r"[^\s(){}.;,@\"«»]"

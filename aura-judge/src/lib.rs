@@ -35,6 +35,8 @@
 //! assert!(!answer.passed());
 //! ```
 //!
+//! [`load`] writes questions to test with, the same ones on every machine.
+//!
 //! The judge uses the caller's stack and no heap; what this crate allocates is the [`Type`]. [`raw::judge`] allocates
 //! nothing.
 
@@ -124,7 +126,7 @@ pub fn judge<'d>(table: &[u8], question: &[u8], diagnostics: &'d mut [u8]) -> An
     let fields = Fields::of(&answer);
     if fields.number != 0 {
         let refusal = Refusal::from_number(fields.number);
-        return Answer::Refused(refusal.expect("the library's numbers are 0 to 13"));
+        return Answer::Refused(refusal.expect("the library's numbers are those of a refusal"));
     }
     let ty = fields.ty.get(..fields.len as usize).map(Type::from_bytes);
     let reported = usize::try_from(fields.count).ok().and_then(|count| count.checked_mul(DIAGNOSTIC_SIZE));
@@ -135,5 +137,35 @@ pub fn judge<'d>(table: &[u8], question: &[u8], diagnostics: &'d mut [u8]) -> An
         diagnostics: Diagnostics::of(
             reported.and_then(|len| diagnostics.get(..len)).expect("the library's diagnostics are in the buffer"),
         ),
+    }
+}
+
+/// Writes a question to test with: the one that a start number and a node count from 1 to 64 give, on every machine the
+/// same. It uses no name, so that it is accepted under every accepted table, and it has exactly that many nodes.
+///
+/// The question stands at the front of `out` and has 5 + 2 × `nodes` bytes, at most [`raw::LOAD_LONGEST`]. The whole of
+/// `out` is written: zeros behind the question, or zeros alone where it is refused.
+///
+/// ```
+/// use aura_judge::{judge, load, raw, Refusal};
+///
+/// let mut out = [0; raw::LOAD_LONGEST];
+/// let question = load(7, 20, &mut out)?;
+/// assert_eq!(question.len(), 5 + 2 * 20);
+/// assert_eq!(judge(&[], question, &mut [0; 320]).number(), 0);
+///
+/// assert_eq!(load(7, 65, &mut out), Err(Refusal::NodeCount));
+/// assert_eq!(load(7, 20, &mut out[..44]), Err(Refusal::OutputBufferTooShort));
+/// # Ok::<(), Refusal>(())
+/// ```
+///
+/// # Panics
+///
+/// Where the linked library's number or length is none that `docs/FORMAT.md` has.
+pub fn load(start: u32, nodes: usize, out: &mut [u8]) -> Result<&[u8], Refusal> {
+    let mut len = 0;
+    match raw::load(start, nodes, out, &mut len) {
+        0 => Ok(out.get(..len).expect("the library's output is in the buffer")),
+        number => Err(Refusal::from_number(number).expect("the library's numbers are those of a refusal")),
     }
 }

@@ -12,6 +12,15 @@
 //! assert_eq!((fields.number, fields.pass, fields.len, fields.count), (0, 0, 1, 1));
 //! assert_eq!(diagnostics, [13, 0, 0, 0, 0, 0, 0, 0, 0, 0]);
 //! ```
+//!
+//! ```
+//! use aura_judge::raw::load;
+//!
+//! // The test load of start number 0 and two nodes: a Minus on a Float.
+//! let (mut out, mut len) = ([7; 10], 0);
+//! assert_eq!(load(0, 2, &mut out, &mut len), 0);
+//! assert_eq!((out, len), ([255, 255, 255, 255, 0, 2, 0, 0, 4, 0], 9));
+//! ```
 
 extern "C" {
     fn aura_judge_answer_size() -> usize;
@@ -25,6 +34,7 @@ extern "C" {
         answer: *mut u8,
         answer_length: usize,
     ) -> u8;
+    fn aura_load(start: u32, nodes: usize, out: *mut u8, out_length: usize, len: *mut usize) -> u8;
 }
 
 /// How many bytes an answer has.
@@ -35,6 +45,9 @@ pub const TOO_SHORT: u8 = 255;
 
 /// How many bytes a diagnostic has.
 pub const DIAGNOSTIC_SIZE: usize = 5;
+
+/// How many bytes the longest question of [`load`] has: a header of 5, and 2 for each of 64 nodes.
+pub const LOAD_LONGEST: usize = 133;
 
 /// Where the fields of an answer stand. Numbers are low byte first.
 pub mod field {
@@ -70,6 +83,14 @@ pub fn judge(table: &[u8], question: &[u8], diagnostics: &mut [u8], answer: &mut
             answer.len(),
         )
     }
+}
+
+/// Writes the test load of a start number and a node count. Every byte of `out` is written: the question, with zeros
+/// behind it. Answers 0, with the question's length in `len`; or the number of a refusal, with 0 there and zeros alone.
+pub fn load(start: u32, nodes: usize, out: &mut [u8], len: &mut usize) -> u8 {
+    // SAFETY: the pointer comes with the length of its slice. Both are borrowed mutably, so they do not overlap. The
+    // function keeps no pointer.
+    unsafe { aura_load(start, nodes, out.as_mut_ptr(), out.len(), len) }
 }
 
 /// The fields of an answer of [`ANSWER_SIZE`] bytes.

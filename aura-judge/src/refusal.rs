@@ -1,4 +1,4 @@
-//! Refusals, and by whose doing they are.
+//! Refusals of the judge and of what writes, and by whose doing they are.
 
 use std::fmt;
 
@@ -22,7 +22,8 @@ impl fmt::Display for Doer {
     }
 }
 
-/// Why nothing was judged: the numbers 1 to 13 of `docs/FORMAT.md`, "Refusals".
+/// Why nothing was judged or written: the numbers 1 to 15 of `docs/FORMAT.md`, "Refusals". The judge has 1 to 13, and
+/// [`load`](crate::load) has 14 and 15.
 ///
 /// ```
 /// use aura_judge::{Doer, Refusal};
@@ -60,11 +61,15 @@ pub enum Refusal {
     BufferTooShort,
     /// 13: the root's type has over 256 bytes.
     RootTypeTooLong,
+    /// 14: the node count is not 1 to 64.
+    NodeCount,
+    /// 15: the output buffer has fewer bytes than the output.
+    OutputBufferTooShort,
 }
 
 impl Refusal {
     /// All of them, by number from 1.
-    pub const ALL: [Refusal; 13] = [
+    pub const ALL: [Refusal; 15] = [
         Refusal::TableTooLong,
         Refusal::MalformedRecord,
         Refusal::RecordKindFalls,
@@ -78,14 +83,16 @@ impl Refusal {
         Refusal::LeafTypeWithoutEnd,
         Refusal::BufferTooShort,
         Refusal::RootTypeTooLong,
+        Refusal::NodeCount,
+        Refusal::OutputBufferTooShort,
     ];
 
-    /// The refusal with this number; none for 0 and for 14 upward.
+    /// The refusal with this number; none for 0 and for 16 upward.
     pub fn from_number(number: u8) -> Option<Refusal> {
         Refusal::ALL.get((number as usize).checked_sub(1)?).copied()
     }
 
-    /// Its number, 1 to 13.
+    /// Its number, 1 to 15.
     pub fn number(self) -> u8 {
         self as u8 + 1
     }
@@ -95,8 +102,8 @@ impl Refusal {
         match self.number() {
             1..=7 => Doer::TableWriter,
             8..=11 => Doer::ScriptAuthor,
-            12 => Doer::Caller,
-            _ => Doer::Judge,
+            13 => Doer::Judge,
+            _ => Doer::Caller,
         }
     }
 
@@ -116,6 +123,8 @@ impl Refusal {
             Refusal::LeafTypeWithoutEnd => "leaf type without end in 192 bytes",
             Refusal::BufferTooShort => "5 × diagnostics exceeds the buffer",
             Refusal::RootTypeTooLong => "root type over 256 bytes",
+            Refusal::NodeCount => "a node count outside 1 to 64",
+            Refusal::OutputBufferTooShort => "an output buffer that is too short",
         }
     }
 }

@@ -1,6 +1,8 @@
 //! The functions that Rattle exports (crates/aura_c), that the header declares and that `src/raw.rs` declares are the
-//! same, parameter by parameter; so are the built-in names, those of the judge's definition.
+//! same, parameter by parameter; so are sizes and numbers, and the built-in names, those of the judge's definition.
 
+use aura_judge::raw::{ANSWER_SIZE, LOAD_LONGEST, TOO_SHORT};
+use aura_judge::Refusal;
 use std::collections::BTreeMap;
 
 fn read(path: &str) -> String {
@@ -33,6 +35,7 @@ fn functions(text: &str, mark: &str, parameter: impl Fn(&str, &str) -> String) -
 fn c_number(ty: &str) -> &str {
     match ty {
         "u8" => "uint8_t",
+        "u32" => "uint32_t",
         "usize" => "size_t",
         other => panic!("{other} has no place in the interface"),
     }
@@ -42,6 +45,7 @@ fn exported() -> Functions {
     functions(&read("crates/aura_c/src/lib.rt"), "pub extern \"C\" fn ", |name, ty| match ty {
         "&[u8]" => format!("const uint8_t *{name}, size_t {name}_length"),
         "&mut [u8]" => format!("uint8_t *{name}, size_t {name}_length"),
+        "&mut usize" => format!("size_t *{name}"),
         number => format!("{} {name}", c_number(number)),
     })
 }
@@ -52,6 +56,7 @@ fn declared_in_rust() -> Functions {
     functions(block, "fn ", |name, ty| match ty {
         "*const u8" => format!("const uint8_t *{name}"),
         "*mut u8" => format!("uint8_t *{name}"),
+        "*mut usize" => format!("size_t *{name}"),
         number => format!("{} {name}", c_number(number)),
     })
 }
@@ -59,7 +64,7 @@ fn declared_in_rust() -> Functions {
 #[test]
 fn rust_declares_what_rattle_exports() {
     let exported = exported();
-    assert!(exported.contains_key("aura_judge"), "{exported:?}");
+    assert!(exported.contains_key("aura_judge") && exported.contains_key("aura_load"), "{exported:?}");
     assert_eq!(declared_in_rust(), exported);
 }
 
@@ -75,15 +80,19 @@ fn the_header_declares_what_rattle_exports() {
 }
 
 #[test]
-fn the_sizes_are_those_of_the_code_and_the_header() {
-    let (code, header) = (read("crates/aura_c/src/lib.rt"), read("include/aura_judge.h"));
-    for (size, code_has, header_has) in [
-        (aura_judge::raw::ANSWER_SIZE, "const ANSWER_SIZE: usize = ", "#define AURA_JUDGE_ANSWER_SIZE "),
-        (aura_judge::raw::TOO_SHORT as usize, "const TOO_SHORT: u8 = ", "#define AURA_JUDGE_TOO_SHORT "),
+fn the_numbers_are_those_of_the_code_and_the_header() {
+    let (judge, load, written) = ("crates/aura_c", "crates/load", "crates/written");
+    let header = read("include/aura_judge.h");
+    for (number, code, code_has, header_has) in [
+        (ANSWER_SIZE, judge, "const ANSWER_SIZE: usize = ", "AURA_JUDGE_ANSWER_SIZE "),
+        (TOO_SHORT.into(), judge, "const TOO_SHORT: u8 = ", "AURA_JUDGE_TOO_SHORT "),
+        (Refusal::NodeCount.number().into(), load, "const BAD_COUNT: u8 = ", "AURA_LOAD_NODE_COUNT "),
+        (Refusal::OutputBufferTooShort.number().into(), written, "const TOO_SHORT: u8 = ", "AURA_LOAD_TOO_SHORT "),
     ] {
-        assert!(code.contains(&format!("{code_has}{size};")), "{code_has}{size};");
-        assert!(header.contains(&format!("{header_has}{size} ")), "{header_has}{size}");
+        assert!(read(&format!("{code}/src/lib.rt")).contains(&format!("{code_has}{number};")), "{code_has}{number};");
+        assert!(header.contains(&format!("#define {header_has}{number} ")), "{header_has}{number}");
     }
+    assert!(header.contains(&format!("#define AURA_LOAD_LONGEST {LOAD_LONGEST} ")));
 }
 
 /// The definition has each name as `inTwentyFour (80 ∷ 97 ∷ 105 ∷ 114 ∷ [])`, in the order of the ids.

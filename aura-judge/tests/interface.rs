@@ -1,8 +1,8 @@
 //! What this crate declares, held against what the linked library does: sizes, every field, an answer of each number,
-//! an answer slice of every length, and all lent bytes.
+//! an answer slice of every length, loads of every node count, and all lent bytes.
 
-use aura_judge::raw::{self, field, Fields, ANSWER_SIZE, DIAGNOSTIC_SIZE, TOO_SHORT};
-use aura_judge::{judge, Answer, Diagnostic, DiagnosticKind, Doer, Refusal, Type, BUILT_IN};
+use aura_judge::raw::{self, field, Fields, ANSWER_SIZE, DIAGNOSTIC_SIZE, LOAD_LONGEST, TOO_SHORT};
+use aura_judge::{judge, load, Answer, Diagnostic, DiagnosticKind, Doer, Refusal, Type, BUILT_IN};
 
 const NO_HEADER: [u8; 5] = [0xff, 0xff, 0xff, 0xff, 0];
 const FILL: u8 = 0xa5;
@@ -217,14 +217,57 @@ fn the_stored_answers() {
     assert!(kinds[1..].iter().all(|&count| count > 0), "a kind of diagnostic is not among them: {kinds:?}");
 }
 
+/// The raw call on a slice and a length that hold something before.
+fn write_load(start: u32, nodes: usize, room: usize) -> (u8, usize, Vec<u8>) {
+    let (mut out, mut len) = (vec![FILL; room], usize::MAX);
+    let number = raw::load(start, nodes, &mut out, &mut len);
+    (number, len, out)
+}
+
+/// Start number 2^32 − 1 draws 15445, 12311, 8835, 41343, 47029: a binary, its operator 6, leaves of the kinds 3 and 1.
+#[test]
+fn a_load_in_a_buffer_of_every_length() {
+    let written = [&NO_HEADER[..], &[1, 6, 0, 3, 0, 1]].concat();
+    for room in 0..40 {
+        let mut expected = vec![0; room];
+        if room < 11 {
+            assert_eq!(write_load(u32::MAX, 3, room), (15, 0, expected));
+        } else {
+            expected[..11].copy_from_slice(&written);
+            assert_eq!(write_load(u32::MAX, 3, room), (0, 11, expected));
+        }
+        let mut out = vec![FILL; room];
+        let safe = load(u32::MAX, 3, &mut out);
+        assert_eq!(safe, if room < 11 { Err(Refusal::OutputBufferTooShort) } else { Ok(&written[..]) });
+    }
+}
+
+#[test]
+fn a_load_of_every_node_count() {
+    for nodes in 1..=64 {
+        let mut out = [FILL; LOAD_LONGEST];
+        let written = load(1, nodes, &mut out).unwrap();
+        assert_eq!((written.len(), &written[..5]), (5 + 2 * nodes, &NO_HEADER[..]));
+        assert_eq!(judge(&[], written, &mut [0; 640]).number(), 0, "{nodes} nodes");
+    }
+    assert_eq!(load(1, 64, &mut [0; LOAD_LONGEST - 1]), Err(Refusal::OutputBufferTooShort));
+    for nodes in [0, 65, 66, usize::MAX / 2 + 1, usize::MAX] {
+        for room in [0, 3, 200] {
+            assert_eq!(write_load(1, nodes, room), (14, 0, vec![0; room]));
+            assert_eq!(load(1, nodes, &mut vec![FILL; room]), Err(Refusal::NodeCount));
+        }
+    }
+}
+
 #[test]
 fn refusals_by_number() {
     for (i, refusal) in Refusal::ALL.into_iter().enumerate() {
         assert_eq!(refusal.number() as usize, i + 1);
         assert_eq!(Refusal::from_number(refusal.number()), Some(refusal));
     }
-    assert_eq!((Refusal::from_number(0), Refusal::from_number(14)), (None, None));
-    let by = [&[Doer::TableWriter; 7][..], &[Doer::ScriptAuthor; 4], &[Doer::Caller, Doer::Judge]].concat();
+    assert_eq!((Refusal::from_number(0), Refusal::from_number(16)), (None, None));
+    let others = [Doer::Caller, Doer::Judge, Doer::Caller, Doer::Caller];
+    let by = [&[Doer::TableWriter; 7][..], &[Doer::ScriptAuthor; 4], &others].concat();
     assert_eq!(Refusal::ALL.map(Refusal::by).to_vec(), by);
 }
 

@@ -1,9 +1,11 @@
 //! The inputs: tables by make and size, questions by node count and depth, inputs that are refused.
 
 use crate::collide;
+use aura_judge::raw::LOAD_LONGEST;
 use reading::bytes::*;
 use reading::name::{BUILT_IN, NONE};
 use reading::rng::Rng;
+use reading::words::load::load;
 
 /// What a table is made of.
 #[derive(Debug, Clone, Copy, PartialEq, Eq)]
@@ -305,7 +307,25 @@ pub fn turn(make: Make, size: usize) -> Vec<Input> {
     (0..TURN / size).map(|_| input()).collect()
 }
 
-/// Every table with every question.
+fn nodes_in_words(count: usize) -> String {
+    format!("{} node{}", count, if count == 1 { "" } else { "s" })
+}
+
+/// The start number of the load's questions.
+const START: u32 = 1;
+
+/// Questions of the test load without a table, as the second reading writes them.
+fn loads() -> impl Iterator<Item = Input> {
+    let input = |count: usize| Input {
+        make: Make::Nothing,
+        asked: format!("load of {}", nodes_in_words(count)),
+        table: Vec::new(),
+        question: load(START, count, LOAD_LONGEST).expect("1 to 64 nodes fit"),
+    };
+    [1, 8, 32, 64].into_iter().map(input)
+}
+
+/// Every table with every question, and the load's questions.
 pub fn all() -> Vec<Input> {
     let mut tables = vec![(Make::Nothing, 0)];
     for make in MAKES {
@@ -316,12 +336,13 @@ pub fn all() -> Vec<Input> {
         let table = table(make, size);
         let mut add = |asked: String, question| inputs.push(Input { make, asked, table: table.clone(), question });
         for count in [1, 8, 32, 64] {
-            add(format!("{} node{}", count, if count == 1 { "" } else { "s" }), nodes(count, make));
+            add(nodes_in_words(count), nodes(count, make));
         }
         for depth in [1, 30] {
             add(format!("calls {} deep", depth), nested(depth, make));
         }
     }
+    inputs.extend(loads());
     inputs
 }
 

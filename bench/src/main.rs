@@ -4,6 +4,8 @@
 //!     cargo run --release -- --write    also writes docs/SPEED.md and docs/speed.svg
 //!     cargo run --release -- --quick    a short run, to see that it works
 //!     cargo run --release -- --lines    prints a line for each row instead of the page, for tools/turns.py
+//!
+//! With --no-default-features it links a library from before the test load, whose writer is then not measured.
 
 mod collide;
 mod inputs;
@@ -11,12 +13,20 @@ mod measure;
 mod plot;
 mod report;
 mod stack;
+#[cfg_attr(not(feature = "load"), allow(dead_code))]
+mod writing;
 
 use inputs::{Input, Make, CHOSEN, MAKES};
 use measure::{judging, least, parts, Case, Effort, Times, BUFFER};
 use plot::{Panel, Series};
 use report::{Growth, NodeGrowth, RefusedRow, Report, Row};
 use std::time::Duration;
+use writing::Writing;
+#[cfg(feature = "load")]
+use {
+    aura_judge::raw::{self, LOAD_LONGEST},
+    std::hint::black_box,
+};
 
 const DOCS: &str = concat!(env!("CARGO_MANIFEST_DIR"), "/../docs");
 const COMMAND: &str = "rt staticlib aura_c && cd bench && cargo run --release -- --write";
@@ -79,6 +89,36 @@ fn buffers(effort: Effort) -> Vec<(usize, f64)> {
     let question = inputs::nodes(1, Make::Nothing);
     let time = |bytes: usize| (bytes, least(&mut [judging(&[&[]], &question, bytes)], effort)[0]);
     [0, BUFFER, 4096, 65_535].map(time).to_vec()
+}
+
+/// The library's writer of the test load beside the plain one, which have to write the same.
+#[cfg(feature = "load")]
+fn writing(effort: Effort) -> Vec<Writing> {
+    let starts = writing::starts();
+    let row = |nodes: usize| {
+        for start in &starts {
+            let (mut out, mut right) = ([7; LOAD_LONGEST], [0; LOAD_LONGEST]);
+            let written = aura_judge::load(*start, nodes, &mut out).map(<[u8]>::len);
+            assert_eq!(written, Ok(writing::plain(*start, nodes, &mut right)), "{start} {nodes}");
+            assert_eq!(out, right, "{start} {nodes}");
+        }
+        let library = measure::writing(&starts, |start, out| {
+            let mut len = 0;
+            raw::load(start, nodes, out, &mut len);
+            black_box(len);
+        });
+        let plain = measure::writing(&starts, |start, out| {
+            black_box(writing::plain(start, nodes, out));
+        });
+        let times = least(&mut [library, plain], effort);
+        Writing { nodes, library: times[0], plain: times[1] }
+    };
+    writing::COUNTS.map(row).into()
+}
+
+#[cfg(not(feature = "load"))]
+fn writing(_: Effort) -> Vec<Writing> {
+    Vec::new()
 }
 
 /// The machine and the compiler, as far as they can be told.
@@ -148,6 +188,7 @@ fn main() {
         nodes: nodes(effort),
         refused: refused(effort),
         buffers: buffers(effort),
+        writing: writing(effort),
         stack: stack::smallest(),
     };
     let page = report::page(&report);

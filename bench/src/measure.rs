@@ -60,8 +60,8 @@ impl Times {
     }
 }
 
-/// Something timed: runs it so many times, each time on the next of the tables that take turns, and says how long that
-/// took, without what is thrown away afterwards.
+/// Something timed: runs it so many times, each time on the next of the tables (or start numbers) that take turns, and
+/// says how long that took, without what is thrown away afterwards.
 pub struct Part<'a> {
     tables: usize,
     run: Box<dyn FnMut(usize) -> Duration + 'a>,
@@ -96,6 +96,21 @@ pub fn judging<'a>(tables: &'a [&'a [u8]], question: &'a [u8], buffer: usize) ->
         began.elapsed()
     });
     Part { tables: tables.len(), run }
+}
+
+/// Times a writer of the test load, each time with the next start number.
+#[cfg(feature = "load")]
+pub fn writing<'a>(starts: &'a [u32], write: impl Fn(u32, &mut [u8]) + 'a) -> Part<'a> {
+    let mut out = [0; raw::LOAD_LONGEST];
+    let mut turn = starts.iter().cycle();
+    let run = Box::new(move |batch| {
+        let began = Instant::now();
+        for start in turn.by_ref().take(batch) {
+            write(black_box(*start), black_box(&mut out));
+        }
+        began.elapsed()
+    });
+    Part { tables: starts.len(), run }
 }
 
 impl Part<'_> {

@@ -3,6 +3,8 @@
 use crate::collide::SAME;
 use crate::inputs::{Make, TURN};
 use crate::measure::Times;
+use crate::writing::{Writing, STARTS};
+use aura_judge::raw::LOAD_LONGEST;
 use std::fmt::Write;
 
 /// How many characters a line of prose may have.
@@ -62,11 +64,14 @@ pub struct Report {
     pub refused: Vec<RefusedRow>,
     /// The lent buffer's length, and the time of a question of one node without a table.
     pub buffers: Vec<(usize, f64)>,
+    /// Empty where the library has no such writer.
+    pub writing: Vec<Writing>,
     pub stack: Option<usize>,
 }
 
 /// A line for each measured row: its name, and nanoseconds of the judge and of the Rust's filling and methods (nothing where
-/// there is no such side). tools/turns.py reads them.
+/// there is no such side). tools/turns.py reads them. The rows of the test load's writer are left out, since a library from
+/// before it has none.
 pub fn lines(report: &Report) -> String {
     let mut out = String::new();
     let mut line = |name: String, judge: f64, rust: Option<f64>| {
@@ -130,6 +135,22 @@ fn bars(report: &Report) -> String {
         let last = factors.last().copied().unwrap_or(0.0);
         let bar = format!("twice the table, at most 2.3 times the time: {}", growth.make.words());
         verdict(&mut out, &bar, format!("at most {worst:.2}; {last:.2} for the longest"), worst <= 2.3);
+    }
+    if let Some(longest) = report.writing.last() {
+        let bar = format!("a load of {} nodes, at most 1.5 times the plainest Rust writer's time", longest.nodes);
+        verdict(&mut out, &bar, format!("{:.2}", longest.ratio()), longest.ratio() <= 1.5);
+    }
+    out
+}
+
+fn writing(report: &Report) -> String {
+    if report.writing.is_empty() {
+        return "Not measured in this run.\n".to_string();
+    }
+    let mut out = String::from("| Nodes | Library | Plain Rust | Library / plain Rust |\n|--:|--:|--:|--:|\n");
+    for row in &report.writing {
+        let Writing { nodes, library, plain } = row;
+        let _ = writeln!(out, "| {nodes} | {library:.0} | {plain:.0} | {:.2} |", row.ratio());
     }
     out
 }
@@ -239,6 +260,8 @@ The tables of the last five bars have keys chosen against the index (`bench/src/
 
 `cargo run --release -- --lines`, in `bench/`, prints every measured row, also those of the plot and
 of refused inputs: its name, and the nanoseconds of the judge and of the Rust's filling and methods.
+The rows under [Writing](#writing) are not among them, so that `tools/turns.py` can compare with a
+library from before the test load (`--no-default-features` links it).
 
 ## Bars
 
@@ -250,6 +273,13 @@ of refused inputs: its name, and the nanoseconds of the judge and of the Rust's 
 
 ![Time by table size and by nodes](speed.svg)
 
+## Writing
+
+A question of the test load, written to a buffer of {LOAD_LONGEST} bytes by the library (`aura_load`) and
+by the plainest Rust writer of the same bytes (`bench/src/writing.rs`). The two take turns, and so
+do {STARTS} start numbers; a time is that of one question, here in nanoseconds.
+
+{}
 ## Stack
 
 {}
@@ -259,6 +289,7 @@ of refused inputs: its name, and the nanoseconds of the judge and of the Rust's 
         wrapped(&buffers, "  "),
         bars(report),
         rows(report),
+        writing(report),
         wrapped(&stack, ""),
         turn = TURN / 1000,
     )
@@ -278,8 +309,20 @@ mod tests {
             nodes: vec![],
             refused: vec![],
             buffers: [0, 320, 4096, 65_535].map(|bytes| (bytes, 123_456.7)).to_vec(),
+            writing: vec![Writing { nodes: 64, library: 1500.0, plain: 1000.0 }],
             stack: Some(4096),
         }
+    }
+
+    #[test]
+    fn a_writer_has_its_bar_and_its_row() {
+        let text = page(&report());
+        assert!(text.contains("| a load of 64 nodes, at most 1.5 times the plainest Rust writer's time | 1.50 | met |"));
+        assert!(text.contains("| 64 | 1500 | 1000 | 1.50 |"));
+        let slow = page(&Report { writing: vec![Writing { nodes: 64, library: 1501.0, plain: 1000.0 }], ..report() });
+        assert!(slow.contains("time | 1.50 | **not met** |"));
+        assert!(!lines(&report()).contains("load"));
+        assert!(!page(&Report { writing: vec![], ..report() }).contains("a load of"));
     }
 
     #[test]

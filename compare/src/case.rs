@@ -10,7 +10,7 @@ use reading::{print_answer, Answer, Said, Yardstick};
 pub const POISON: u8 = 0xa5;
 
 /// Bytes before and behind a lent slice, which a call must leave alone.
-const GUARD: usize = 64;
+pub(crate) const GUARD: usize = 64;
 
 /// The longest buffer that is lent.
 const LONGEST: usize = 66_000;
@@ -105,7 +105,7 @@ impl Space {
         let answer = &mut self.answer[GUARD..end];
         let number = raw::judge(&case.table, &case.question, &mut lent[GUARD..GUARD + length], answer);
         let around = [&lent[..GUARD], &lent[GUARD + length..], &self.answer[..GUARD], &self.answer[end..]];
-        if around.iter().any(|part| part.iter().any(|b| *b != POISON)) {
+        if !untouched(&around) {
             return Err(described(case, length, "bytes outside the lent slices were written"));
         }
         Ok(number)
@@ -117,6 +117,11 @@ impl Space {
         let given = Given { number, answer, buffer: &self.lent[GUARD..GUARD + length] };
         agrees(sayings, &given, &mut self.expected[..length]).map_err(|what| described(case, length, &what))
     }
+}
+
+/// Whether these bytes are as they were before a call.
+pub(crate) fn untouched(around: &[&[u8]]) -> bool {
+    around.iter().all(|part| part.iter().all(|b| *b == POISON))
 }
 
 /// What differs, with the case's bytes before it.

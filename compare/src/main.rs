@@ -3,14 +3,17 @@
 //!
 //! compare [--profile P] [--seed S] [--count N] [--first I] [--threads T]
 //!
-//! P is a profile of reading/src/gen, `mixed` (those without an end), `sweeps` (each whole) or `all` (the sweeps, then
-//! N mixed cases; the default). The first difference ends the run with status 1.
+//! P is a profile of reading/src/gen, `mixed` (those without an end), `sweeps` (each whole), `writing` (the test loads of
+//! N start numbers) or `all` (the test loads, the sweeps, then N mixed cases; the default). The first difference ends the
+//! run with status 1.
 
+use compare::load::{self, CI_STARTS};
 use compare::run::{sweeps, Batch, Run, CI_COUNT, CI_SEED};
 use compare::yardstick;
 use reading::gen::Profile;
+use std::ops::Range;
 use std::sync::atomic::Ordering::Relaxed;
-use std::time::Duration;
+use std::time::{Duration, Instant};
 
 fn stop(message: &str) -> ! {
     eprintln!("compare: {}", message);
@@ -24,6 +27,7 @@ fn batches(profile: &str, first: u64, count: Option<u64>) -> Vec<Batch> {
         "all" => sweeps().into_iter().chain([mixed]).collect(),
         "mixed" => vec![mixed],
         "sweeps" => sweeps(),
+        "writing" => Vec::new(),
         name => match Profile::by_name(name) {
             Some(profile) => {
                 let whole = profile.count().map(|n| n as u64).unwrap_or(CI_COUNT);
@@ -32,6 +36,20 @@ fn batches(profile: &str, first: u64, count: Option<u64>) -> Vec<Batch> {
             None => stop(&format!("no profile {}", name)),
         },
     }
+}
+
+/// The places of the start numbers whose loads are compared.
+fn places(profile: &str, first: u64, count: Option<u64>) -> Range<u64> {
+    match profile {
+        "all" => 0..CI_STARTS,
+        "writing" => first..first + count.unwrap_or(CI_STARTS),
+        _ => 0..0,
+    }
+}
+
+fn difference(what: String) -> ! {
+    println!("compare: DIFFERENCE\n{}", what);
+    std::process::exit(1)
 }
 
 fn main() {
@@ -50,8 +68,25 @@ fn main() {
             _ => stop(&format!("unknown option {}", option)),
         }
     }
+    let batches = batches(&profile, first, count);
+    let places = places(&profile, first, count);
+    if !places.is_empty() {
+        let (starts, began) = (places.end - places.start, Instant::now());
+        let counts = load::compare(yardstick::ALL, seed, places, threads).unwrap_or_else(|what| difference(what));
+        println!(
+            "compare: loads of {} start numbers (seed {}), {} calls, {} of them written, {:.1} s: no difference",
+            starts,
+            seed,
+            counts.calls,
+            counts.written,
+            began.elapsed().as_secs_f64()
+        );
+    }
+    if batches.is_empty() {
+        return;
+    }
     let run = Run::new(yardstick::ALL, seed, threads);
-    let result = run.compare(&batches(&profile, first, count), Some(Duration::from_secs(10)));
+    let result = run.compare(&batches, Some(Duration::from_secs(10)));
     println!("compare: {} (profile {}, seed {}, {} threads)", run.said(), profile, seed, threads);
     let numbers: Vec<String> = run.counts.numbers.iter().map(|n| n.load(Relaxed).to_string()).collect();
     println!("compare: numbers 0 to 13 were drawn {} times", numbers.join(", "));
@@ -61,9 +96,6 @@ fn main() {
     }
     match result {
         Ok(()) => println!("compare: no difference"),
-        Err(what) => {
-            println!("compare: DIFFERENCE\n{}", what);
-            std::process::exit(1);
-        }
+        Err(what) => difference(what),
     }
 }

@@ -1,15 +1,20 @@
 //! What the proved judge is compared with.
 
-use reading::words::{self, lent};
+use reading::words::{self, lent, load};
 use reading::{Said, Yardstick};
 
 /// The second reading of the documents: a yardstick everywhere.
-pub const WORDS: Yardstick =
-    Yardstick { name: "the words", says: |table, question| Some(words::said(table, question)), answer: lent::answer };
+pub const WORDS: Yardstick = Yardstick {
+    name: "the words",
+    says: |table, question| Some(words::said(table, question)),
+    answer: lent::answer,
+    load: |start, nodes, out| Some(load::write(start, nodes, out)),
+};
 
-/// The Rust's own methods: a yardstick inside the compared domain.
+/// The Rust's own methods: a yardstick inside the compared domain. They write nothing.
 #[cfg(feature = "rust")]
-pub const RUST: Yardstick = Yardstick { name: "the Rust", says: oracle::answer::said_inside, answer: lent::answer };
+pub const RUST: Yardstick =
+    Yardstick { name: "the Rust", says: oracle::answer::said_inside, answer: lent::answer, load: |_, _, _| None };
 
 /// Those that are built in.
 #[cfg(feature = "rust")]

@@ -2,6 +2,7 @@
 
 use aura_judge::raw::{answer_size, judge, ANSWER_SIZE, TOO_SHORT};
 use compare::case::read;
+use compare::load;
 use compare::run::{sweeps, Batch, Run};
 use compare::yardstick;
 use reading::gen::PROFILES;
@@ -24,6 +25,15 @@ fn every_profile_agrees() {
     let batches: Vec<Batch> = every.chain([Batch { profile: None, first: 0, count: 4_000 }]).collect();
     Run::new(yardstick::ALL, 3, 2).compare(&batches, None).unwrap_or_else(|what| panic!("{}", what));
     assert!(sweeps().len() >= 6);
+}
+
+/// Twelve start numbers with 73 node counts and 161 buffer lengths, and 88 more: each with 64 counts at two lengths.
+#[test]
+fn loads_agree() {
+    let counts = load::compare(yardstick::ALL, 3, 0..100, 2).unwrap_or_else(|what| panic!("{}", what));
+    assert_eq!(counts.calls, 12 * 73 * 161 + 100 * 64 * 2);
+    let long_enough: u64 = (1..=64).map(|nodes| 161 - (5 + 2 * nodes)).sum();
+    assert_eq!(counts.written, 12 * long_enough + 100 * 64);
 }
 
 #[test]

@@ -1,7 +1,9 @@
 //! The comparison can fail: each wrong version of the words is found by it, in its CI length.
 
+use compare::load;
 use compare::run::{sweeps, Batch, Run, CI_COUNT, CI_SEED};
-use wrong_words::WRONG;
+use std::time::Instant;
+use wrong_words::{Wrong, WRONG};
 
 /// CI's cases; the mixed ones come first, since most differences show there.
 fn batches() -> Vec<Batch> {
@@ -9,17 +11,25 @@ fn batches() -> Vec<Batch> {
     [mixed].into_iter().chain(sweeps()).collect()
 }
 
+/// The first difference: the first of CI's loads, then its cases.
+fn found(wrong: &Wrong) -> Result<(), String> {
+    let only = std::slice::from_ref(&wrong.yardstick);
+    load::compare(only, CI_SEED, 0..4, 2)?;
+    Run::new(only, CI_SEED, 2).compare(&batches(), None)
+}
+
 #[test]
 fn every_wrong_version_is_found() {
     let mut missed = Vec::new();
     for wrong in WRONG {
-        let run = Run::new(std::slice::from_ref(&wrong.yardstick), CI_SEED, 2);
-        match run.compare(&batches(), None) {
+        let began = Instant::now();
+        match found(wrong) {
             Ok(()) => missed.push(wrong.what),
             Err(what) => {
                 let head = what.lines().next().unwrap_or("");
-                println!("{} ({}): found at {}; {}", wrong.yardstick.name, wrong.what, head, run.said());
-                assert!(what.contains(&format!("answer by {}", wrong.yardstick.name)), "{}", what);
+                let name = wrong.yardstick.name;
+                println!("{} ({}): found at {}; {:.1} s", name, wrong.what, head, began.elapsed().as_secs_f64());
+                assert!(what.contains(&format!("by {}", name)), "{}", what);
             }
         }
     }

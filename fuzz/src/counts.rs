@@ -9,6 +9,8 @@ static INPUTS: AtomicU64 = AtomicU64::new(0);
 static RUST: AtomicU64 = AtomicU64::new(0);
 /// How many compared calls drew each number.
 static NUMBERS: [AtomicU64; 14] = [const { AtomicU64::new(0) }; 14];
+/// How many test loads were compared.
+static LOADS: AtomicU64 = AtomicU64::new(0);
 static BEGAN: OnceLock<Instant> = OnceLock::new();
 static SHOWN: AtomicU64 = AtomicU64::new(0);
 
@@ -18,6 +20,11 @@ const EVERY: u64 = 30;
 /// A call whose answer agrees.
 pub fn call(number: u8) {
     NUMBERS[number as usize].fetch_add(1, Relaxed);
+}
+
+/// A test load that agrees.
+pub fn load() {
+    LOADS.fetch_add(1, Relaxed);
 }
 
 /// An input whose calls are done.
@@ -47,6 +54,6 @@ fn calls() -> u64 {
 
 /// `fuzz/run` adds these lines up.
 pub extern "C" fn print_totals() {
-    let numbers: Vec<String> = NUMBERS.iter().map(|n| n.load(Relaxed).to_string()).collect();
+    let numbers: Vec<String> = NUMBERS.iter().chain([&LOADS]).map(|n| n.load(Relaxed).to_string()).collect();
     eprintln!("fuzz: total {} {} {} {}", INPUTS.load(Relaxed), calls(), RUST.load(Relaxed), numbers.join(" "));
 }

@@ -1,6 +1,8 @@
 //! A wrong judge in the proved one's place, to try that a run can fail. AURA_FUZZ_FAULT says which.
 
 use aura_judge::raw;
+use compare::load::Asked;
+use reading::Written;
 use std::arch::asm;
 use std::hint::black_box;
 
@@ -29,9 +31,11 @@ pub enum Fault {
     ReadBehind,
     /// One byte before the question is read so.
     ReadBefore,
+    /// One bit of the last byte of a test load's buffer.
+    Load,
 }
 
-const NAMES: [(&str, Fault); 12] = [
+const NAMES: [(&str, Fault); 13] = [
     ("number", Fault::Number),
     ("answer", Fault::Answer),
     ("buffer", Fault::Buffer),
@@ -44,6 +48,7 @@ const NAMES: [(&str, Fault); 12] = [
     ("write-behind", Fault::WriteBehind),
     ("read-behind", Fault::ReadBehind),
     ("read-before", Fault::ReadBefore),
+    ("load", Fault::Load),
 ];
 
 extern "C" {
@@ -68,7 +73,7 @@ impl Fault {
         let number = raw::judge(table, question, buffer, answer);
         let last = buffer.len().wrapping_sub(1);
         match self {
-            Fault::None => {}
+            Fault::None | Fault::Load => {}
             Fault::Number => return number ^ 1,
             Fault::Answer => answer[12] ^= 1,
             Fault::Buffer => {
@@ -86,6 +91,15 @@ impl Fault {
             _ => unsafe { self.overstep(table, question, buffer) },
         }
         number
+    }
+
+    /// The proved library's load, made wrong.
+    pub fn load(self, asked: Asked, out: &mut [u8]) -> Written {
+        let written = asked.write(out);
+        if let (Fault::Load, Some(byte)) = (self, out.last_mut()) {
+            *byte ^= 1;
+        }
+        written
     }
 
     /// Called by pointer, so that the compiler puts no check of its own in the place of `memset` and `memcpy`: the proved

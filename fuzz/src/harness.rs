@@ -5,6 +5,7 @@ use crate::fault::Fault;
 use crate::pages::{At, Pages};
 use aura_judge::raw::ANSWER_SIZE;
 use compare::case::{agrees, described, limits, Given, POISON};
+use compare::load::Asked;
 use compare::yardstick::{Sayings, ALL};
 use reading::gen::Case;
 use reading::hex::hex;
@@ -76,8 +77,25 @@ impl Harness {
         if case.table != table || case.question != question {
             return Err(String::from("the table or the question was written"));
         }
+        self.load(input)?;
         // The Rust is the first of the yardsticks.
         counts::input(sayings.speaks(0));
+        Ok(())
+    }
+
+    /// A test load whose start number, node count and buffer length are the input's last bytes. The buffer touches a
+    /// forbidden page.
+    fn load(&mut self, input: &[u8]) -> Result<(), String> {
+        let Some((_, [start @ .., nodes, length])) = input.split_last_chunk::<6>() else { return Ok(()) };
+        let asked = Asked { start: u32::from_le_bytes(*start), nodes: *nodes as usize % 70 };
+        let (length, at) = (*length as usize, [At::End, At::Start][input.len() % 2]);
+        let out = self.buffer.lend(length, at);
+        let given = self.fault.load(asked, out);
+        asked.agrees(ALL, given, out, &mut self.expected[..length])?;
+        if !self.buffer.untouched(length, at) {
+            return Err(asked.described(length, "bytes outside the lent buffer were written"));
+        }
+        counts::load();
         Ok(())
     }
 

@@ -13,9 +13,9 @@ extern "C" {
     fn __sanitizer_symbolize_pc(place: *const c_void, form: *const c_char, out: *mut c_char, size: usize);
 }
 
-/// The sources that judge, by the end of their paths; the generator's are of no concern. `cut.rs` is the Rust's own
+/// The sources that judge or write, by the end of their paths; the generator's are of no concern. `cut.rs` is the Rust's own
 /// text.
-const FILES: [&str; 23] = [
+const FILES: [&str; 25] = [
     "/cut.rs",
     "/oracle/src/rust.rs",
     "/oracle/src/stubs.rs",
@@ -31,6 +31,7 @@ const FILES: [&str; 23] = [
     "/words/clean.rs",
     "/words/judgement.rs",
     "/words/lent.rs",
+    "/words/load.rs",
     "/words/member.rs",
     "/words/operator.rs",
     "/words/parameter.rs",
@@ -39,6 +40,7 @@ const FILES: [&str; 23] = [
     "/words/table.rs",
     "/words/types.rs",
     "/words/unary.rs",
+    "/words/written.rs",
 ];
 
 /// The edges of a file, and its lines with whether one of their edges was reached.

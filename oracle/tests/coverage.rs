@@ -27,9 +27,15 @@ fn profiles_have_their_names_and_places() {
 
 #[test]
 fn accepted_profiles_are_accepted() {
-    for profile in
-        [Profile::Rich, Profile::Calls, Profile::Wide, Profile::Members, Profile::Operators, Profile::Outside]
-    {
+    for profile in [
+        Profile::Rich,
+        Profile::Calls,
+        Profile::Wide,
+        Profile::Members,
+        Profile::Operators,
+        Profile::Outside,
+        Profile::Load,
+    ] {
         for index in 0..3_000 {
             let case = gen::case(profile, 5, index);
             let number = reading::words::refusal(&case.table, &case.question);
@@ -61,7 +67,7 @@ fn the_same_seed_gives_the_same_bytes() {
     assert_ne!(gen::mixed(1, 0), gen::mixed(2, 0));
 }
 
-const CHECKSUM: u64 = 0x8c85_d2b7_fc2a_d21b;
+const CHECKSUM: u64 = 0x7fc4_d5d7_24ae_2a65;
 
 #[test]
 fn the_type_list_has_at_least_60_types() {

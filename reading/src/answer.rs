@@ -35,6 +35,13 @@ impl Diagnostic {
     }
 }
 
+/// The answer of a writing part: 0 and the output's length, or the number of a refusal and 0.
+#[derive(Debug, Clone, Copy, PartialEq, Eq)]
+pub struct Written {
+    pub number: u8,
+    pub len: usize,
+}
+
 /// What a yardstick says of a table and a question, whatever buffer is lent.
 #[derive(Debug, Clone, PartialEq, Eq)]
 pub enum Said {
@@ -55,6 +62,9 @@ pub struct Yardstick {
     pub says: fn(&[u8], &[u8]) -> Option<Said>,
     /// The answer that this is under a lent buffer, which is written whole.
     pub answer: fn(&Said, &mut [u8]) -> Answer,
+    /// The load for a start number and a node count in a lent buffer, which is written whole; none where it is no
+    /// yardstick.
+    pub load: fn(u32, usize, &mut [u8]) -> Option<Written>,
 }
 
 /// The table and the question of the program's input.

@@ -1,4 +1,4 @@
-//! A second reading of the documents: the whole judgement from their words (`words`), apart from the
+//! A second reading of the documents: the whole judgement and the test load from their words (`words`), apart from the
 //! proved code's definitions and from the Rust's text, with a generator of cases and named examples.
 //! Nothing here needs the AuraLang sources.
 
@@ -11,4 +11,4 @@ pub mod name;
 pub mod rng;
 pub mod words;
 
-pub use answer::{join_input, print_answer, split_input, Answer, Diagnostic, Said, Yardstick, BUFFER};
+pub use answer::{join_input, print_answer, split_input, Answer, Diagnostic, Said, Written, Yardstick, BUFFER};

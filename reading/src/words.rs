@@ -1,5 +1,6 @@
-//! Document 01's words, read a second time: each module quotes the sentences that it stands for. Where
-//! document 01 names a method of the Rust and says no more, the method's own text is what is read.
+//! The documents' words, read a second time: each module quotes the sentences that it stands for, document 01's where
+//! it names no other. Where document 01 names a method of the Rust and says no more, the method's own text is what is
+//! read.
 //!
 //! Types are their bytes. The modules name each other by `super`, so that a changed copy of this folder
 //! is a reading of its own (wrong/).
@@ -11,6 +12,7 @@ pub mod calls;
 pub mod clean;
 pub mod judgement;
 pub mod lent;
+pub mod load;
 pub mod member;
 pub mod operator;
 pub mod parameter;
@@ -20,6 +22,7 @@ pub mod symbols;
 pub mod table;
 pub mod types;
 pub mod unary;
+pub mod written;
 
 use crate::answer::{print_answer, Answer, Said, BUFFER};
 use clean::Typing;

@@ -82,7 +82,8 @@ fn main() {
         let Edit { label, what, .. } = &edit;
         modules.push_str(&format!("#[path = {:?}]\nmod {};\n", folder.join("words.rs"), label));
         let says = format!("|table, question| Some({}::said(table, question))", label);
-        let yardstick = format!("name: {:?}, says: {}, answer: {}::lent::answer", label, says, label);
+        let load = format!("|start, nodes, out| Some({}::load::write(start, nodes, out))", label);
+        let yardstick = format!("name: {:?}, says: {}, answer: {}::lent::answer, load: {}", label, says, label, load);
         list.push_str(&format!(
             "    Wrong {{ what: {:?}, yardstick: answer::Yardstick {{ {} }} }},\n",
             what, yardstick

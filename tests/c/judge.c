@@ -1,4 +1,4 @@
-/* The C interface on document 01's sample, `!!` on an Int. From the repository's root:
+/* The C interface on document 01's sample, `!!` on an Int, and on a test load. From the repository's root:
    cc -Iinclude tests/c/judge.c target/staticlib/libaura_c.a -o target/judge_c && target/judge_c */
 #include "aura_judge.h"
 
@@ -14,6 +14,28 @@ static int is_zero(const uint8_t *bytes, size_t length) {
     while (length > 0)
         if (bytes[--length] != 0) return 0;
     return 1;
+}
+
+/* A load of two nodes, judged; then a node count and a buffer that are refused. */
+static int load(void) {
+    const uint8_t written[] = {255, 255, 255, 255, 0, 2, 0, 0, 4};
+    uint8_t out[AURA_LOAD_LONGEST], diagnostics[320], answer[AURA_JUDGE_ANSWER_SIZE];
+    size_t length = 7;
+
+    memset(out, 7, sizeof out);
+    if (aura_load(0, 2, out, sizeof out, &length) != 0 || length != sizeof written) return wrong("no load");
+    if (memcmp(out, written, length) != 0 || !is_zero(out + length, sizeof out - length)) return wrong("another load");
+    if (aura_judge(out, 0, out, length, diagnostics, sizeof diagnostics, answer, sizeof answer) != 0)
+        return wrong("a load is refused");
+
+    memset(out, 7, sizeof out);
+    if (aura_load(0, 65, out, 8, &length) != AURA_LOAD_NODE_COUNT || length != 0 || !is_zero(out, 8) || out[8] != 7)
+        return wrong("a load of 65 nodes");
+    memset(out, 7, sizeof out);
+    length = 7;
+    if (aura_load(0, 2, out, 8, &length) != AURA_LOAD_TOO_SHORT || length != 0 || !is_zero(out, 8) || out[8] != 7)
+        return wrong("a load in too few bytes");
+    return 0;
 }
 
 int main(void) {
@@ -45,6 +67,7 @@ int main(void) {
         || !is_zero(diagnostics, sizeof diagnostics) || !is_zero(answer, AURA_JUDGE_ANSWER_SIZE - 1)
         || answer[AURA_JUDGE_ANSWER_SIZE - 1] != 7)
         return wrong("too short an answer");
+    if (load() != 0) return 1;
     printf("tests/c/judge.c: as the header says\n");
     return 0;
 }

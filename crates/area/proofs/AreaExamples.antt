@@ -4,11 +4,11 @@ use mathlib.Core.List.{[], _∷_}
 use mathlib.Core.Path.{_≡_, refl}
 use Rattle.area.specs.Diagnostic.{Diag, recordOf, records, putOne, putAll}
 use Rattle.area.specs.Inside.Slot.{slotOf, store, storeLen}
-use Rattle.area.specs.Padding.{paddedTo}
 use Rattle.area.specs.Source.{typeFrom}
 use Rattle.area.specs.declared.Source.the-variants.{ListOf, Name, Inner, Pointer, Part, Function}
 use Rattle.ty.specs.Bytes.{innerOf}
 use Rattle.ty.specs.Choose.{choose}
+use Rattle.written.specs.Padding.{paddedTo}
 
 -- a tie of 300 overloads at node 63: low bytes first
 abbrev pub tie : Diag

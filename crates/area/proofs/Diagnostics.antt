@@ -9,11 +9,11 @@ use mathlib.Core.Path.{_≡_, refl, sym, ap, _∙_}
 use native.Mathlib.Nat.{add-zero}
 use native.Mathlib.Numerals.{towards-suc}
 use native.Mathlib.Omega.{arith}
-use Rattle.area.proofs.ListFacts.{stored-length, sets-zeros}
 use Rattle.area.specs.Diagnostic.{Diag, recordOf, records, putOne, putAll}
-use Rattle.area.specs.Padding.{paddedTo}
 use Rattle.ty.proofs.Choice.{by-choice, chosen, passed}
 use Rattle.ty.specs.Bytes.{twoBytes}
+use Rattle.written.proofs.ListFacts.{stored-length, sets-zeros}
+use Rattle.written.specs.Padding.{paddedTo}
 
 pub record-length : (d : Diag) → length (recordOf d) ≡ 5
 unfolding recordOf

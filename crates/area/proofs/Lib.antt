@@ -1,7 +1,5 @@
-pub mod Paddings
 pub mod Diagnostics
 pub mod Slots
 pub mod Stores
 pub mod Sources
 pub mod AreaExamples
-pub mod ListFacts

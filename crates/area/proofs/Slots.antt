@@ -5,9 +5,9 @@ use lib.Seq.{sets, sets-eq, length-sets, length-take-le, getD-set-same, getD-set
 use mathlib.Core.List.{List, [], _∷_, _++_, append-assoc}
 use mathlib.Core.Path.{_≡_, refl, sym, ap, _∙_, subst}
 use native.Mathlib.Omega.{arith}
-use Rattle.area.proofs.ListFacts.{part-length, part-sets}
 use Rattle.area.specs.Inside.Slot.{Lent, Slot, Stored, SlotHolds, SlotsHold, store, storeLen, slotOf}
 use Rattle.ty.specs.Bytes.{Ty}
+use Rattle.written.proofs.ListFacts.{part-length, part-sets}
 
 -- ---- reading a slot
 -- no length, no type

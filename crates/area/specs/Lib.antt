@@ -1,4 +1,3 @@
 pub mod Diagnostic
-pub mod Padding
 pub mod Source
 pub mod Inside

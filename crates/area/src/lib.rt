@@ -2,7 +2,7 @@
 ghost use mathlib.Core.Path.{_≡_};
 ghost use mathlib.Core.List.{_∷_};
 ghost use Prim.Native.Nat.{_+_, _≤_, _<_};
-ghost use lib.ListN.{length, replicate, take, drop, getD};
+ghost use lib.ListN.{length, take, drop, getD};
 ghost use lib.Seq.{sets};
 ghost use Rattle.ty.specs.Kind.{errorKind, pointerKind, listKind, namedKind, functionKind};
 ghost use Rattle.ty.specs.Bytes.{plainTy, innerOf, sameBytes, twoBytes};
@@ -11,6 +11,8 @@ ghost use Rattle.area.specs.Inside.Slot.{Lent, Slot, Stored, StoredOf, s
 ghost use Rattle.area.specs.Source.{bytesFrom};
 ghost use Rattle.area.specs.Inside.Storable.{Storable, sourceType};
 use ty::Kind;
+use written::copy_in;
+use written::put_two;
 
 // Where a node's type comes from: a kind without body, a List of one, a name, a child's type, what the first child's type holds, a Pointer to it, a
 // part of the table, or a Function without parameters whose result is such a part.
@@ -26,15 +28,6 @@ pub enum Source {
     Function { start: usize, len: usize },
 }
 
-// n goes into two bytes from `at` on, low byte first.
-pub fn put_two(n: usize, out: &mut [u8], at: usize)
-    requires { ⌜ at + 2 ≤ length (now out) ⌝ }
-    ensures { λ _. ⌜ now (out .exit) ≡ sets (now (out .entry)) at (twoBytes n) ⌝ }
-{
-    out[at] = (n % 256) as u8;
-    out[at + 1] = (n / 256 % 256) as u8;
-}
-
 // Reports a diagnostic, count having been reported before, and answers the new count.
 pub fn report(buf: &mut [u8], count: usize, kind: u8, node: usize, number: usize) -> usize
     requires { ⌜ count < countLimit ⌝ }
@@ -48,17 +41,6 @@ pub fn report(buf: &mut [u8], count: usize, kind: u8, node: usize, number: usize
     put_two(node, buf, p + 1);
     put_two(number, buf, p + 3);
     count + 1
-}
-
-// Zeros everywhere.
-pub fn clear(buf: &mut [u8])
-    ensures { λ _. ⌜ now (buf .exit) ≡ replicate (length (now (buf .entry))) 0 ⌝ }
-{
-    let mut i = 0;
-    while i < buf.len() {
-        buf[i] = 0;
-        i += 1;
-    }
 }
 
 // So many bytes from start on, or as many as there are.
@@ -90,18 +72,6 @@ pub fn is_error(s: &[u8]) -> bool
     ensures { λ r. ⌜ r ≡ sameBytes (now (s .entry)) (plainTy errorKind) ⌝ }
 {
     ty::same_bytes(s, &[Kind::ERROR])
-}
-
-// The bytes of s go to a place of some bytes.
-pub fn copy_in(area: &mut [u8], to: usize, s: &[u8])
-    requires { ⌜ to + length (now s) ≤ length (now area) ⌝ }
-    ensures { λ _. ⌜ now (area .exit) ≡ sets (now (area .entry)) to (now (s .entry)) ⌝ }
-{
-    let mut i = 0;
-    while i < s.len() {
-        area[to + i] = s[i];
-        i += 1;
-    }
 }
 
 // Bytes of the area go to an earlier place. A child's slot is behind its parent's, so no other direction is needed.

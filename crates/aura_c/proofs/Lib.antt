@@ -1,3 +1,4 @@
 pub mod Stored
 pub mod Results
 pub mod NumberBytes
+pub mod LoadJudged

@@ -7,14 +7,14 @@ use lib.Seq.{sets}
 use mathlib.Core.Bool.{true, false}
 use mathlib.Core.List.{List, [], _++_}
 use mathlib.Core.Path.{_≡_, refl, sym, ap, _∙_, subst}
-use Rattle.area.specs.Padding.{paddedTo}
 use Rattle.aura_c.proofs.Stored.{joined}
-use Rattle.aura_c.specs.AnswerBytes.{bytesOf, answerSize, tooShort, resultOf, answerSlice, diagnosticsSlice}
+use Rattle.aura_c.specs.AnswerBytes.{bytesOf, answerSize, answerTooShort, resultOf, answerSlice, diagnosticsSlice}
 use Rattle.judge.specs.Answered.{outcomeIs}
 use Rattle.judge.specs.declared.Outcome.{Outcome}
 use Rattle.ty.proofs.Choice.{chosen, passed}
 use Rattle.typing.proofs.Sized.{Sized, sized}
 use Rattle.typing.specs.Answer.{Answer, zeros, answerOf, bufferOf}
+use Rattle.written.specs.Padding.{paddedTo}
 
 pub cleared-length : {z : List ℕ} (b : List ℕ) → z ≡ replicate (length b) 0 → length z ≡ length b
 cleared-length b e = ap length e ∙ length-replicate {A = ℕ} (length b) 0
@@ -24,11 +24,11 @@ abbrev Told : List ℕ → List ℕ → ℕ → ℕ → ℕ → List ℕ → Lis
 Told t q lent room r b d = (r ≡ resultOf t q lent room) × ((b ≡ answerSlice t q lent room) × (d ≡ diagnosticsSlice t q lent room))
 
 module _ (t q : List ℕ) (lent room : ℕ) where
-  pub told-short : {b d : List ℕ} → room < answerSize → b ≡ replicate room 0 → d ≡ replicate lent 0 → Told t q lent room tooShort b d
+  pub told-short : {b d : List ℕ} → room < answerSize → b ≡ replicate room 0 → d ≡ replicate lent 0 → Told t q lent room answerTooShort b d
   unfolding resultOf answerSlice diagnosticsSlice
   told-short {b} {d} h e f =
       let k : ltb room answerSize ≡ true = lt-ltb room answerSize h in
-      (chosen _ tooShort tooShort _ k refl, (chosen _ b (zeros room) _ k e, chosen _ d (zeros lent) _ k f))
+      (chosen _ answerTooShort answerTooShort _ k refl, (chosen _ b (zeros room) _ k e, chosen _ d (zeros lent) _ k f))
 
   pub told : {b d z : List ℕ} (a : Outcome) (ty : List ℕ) → answerSize ≤ room → outcomeIs a ty ≡ answerOf t q lent → z ≡ replicate room 0
       → b ≡ sets (take 12 z ++ (ty ++ drop 256 (drop 12 z))) 0 (bytesOf (outcomeIs a [])) → d ≡ bufferOf t q lent → Told t q lent room (a .number) b d

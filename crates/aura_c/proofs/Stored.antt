@@ -5,12 +5,12 @@ use lib.Seq.{sets}
 use mathlib.Core.List.{List, [], _∷_, _++_}
 use mathlib.Core.Path.{_≡_, refl, ap, _∙_}
 use native.Mathlib.Omega.{arith}
-use Rattle.area.proofs.ListFacts.{stored-length, drop-replicate}
-use Rattle.area.specs.Padding.{paddedTo}
 use Rattle.aura_c.specs.AnswerBytes.{littleEndian, bytesOf, answerSize}
 use Rattle.judge.specs.Answered.{outcomeIs}
 use Rattle.judge.specs.declared.Outcome.{Outcome}
 use Rattle.ty.specs.Bytes.{twoBytes}
+use Rattle.written.proofs.ListFacts.{stored-length, drop-replicate}
+use Rattle.written.specs.Padding.{paddedTo}
 
 module _ (b : List ℕ) (a : Outcome) {b₁ : List ℕ} (first : b₁ ≡ sets (set (set b 0 (a .number)) 1 (a .pass)) 2 (twoBytes (a .len))) where
   pub first-length : length b₁ ≡ length b

@@ -3,9 +3,9 @@
 use Prim.Native.Nat.{ℕ, zero, suc, _/_, _%_}
 use lib.Dec.{ltb}
 use mathlib.Core.List.{List, [], _∷_, _++_}
-use Rattle.area.specs.Padding.{paddedTo}
 use Rattle.ty.specs.Choose.{choose}
 use Rattle.typing.specs.Answer.{Answer, zeros, answerOf, bufferOf}
+use Rattle.written.specs.Padding.{paddedTo}
 
 -- n in k bytes, low byte first
 unfoldable pub littleEndian : ℕ → ℕ → List ℕ
@@ -21,13 +21,13 @@ abbrev pub answerSize : ℕ
 answerSize = 268
 
 -- what a caller gets whose answer slice is shorter: no number of document 01
-abbrev pub tooShort : ℕ
-tooShort = 255
+abbrev pub answerTooShort : ℕ
+answerTooShort = 255
 
 -- Table t and question q are judged with `lent` bytes for diagnostics and `room` for the answer. With too little room nothing is judged, and both slices are
 -- zero.
 unfoldable pub resultOf : List ℕ → List ℕ → ℕ → ℕ → ℕ
-resultOf t q lent room = choose (ltb room answerSize) tooShort (answerOf t q lent .number)
+resultOf t q lent room = choose (ltb room answerSize) answerTooShort (answerOf t q lent .number)
 
 unfoldable pub answerSlice : List ℕ → List ℕ → ℕ → ℕ → List ℕ
 answerSlice t q lent room = choose (ltb room answerSize) (zeros room) (paddedTo room (bytesOf (answerOf t q lent)))

@@ -1,4 +1,4 @@
-// The judge for C and Rust: a static library whose functions take numbers and byte slices. include/aura_judge.h declares them.
+// The judge and the test load for C and Rust: a static library whose functions take numbers and byte slices. include/aura_judge.h declares them.
 ghost use mathlib.Core.Path.{_≡_};
 ghost use mathlib.Core.List.{[]};
 ghost use Prim.Native.Nat.{_+_, _≤_};
@@ -6,10 +6,14 @@ ghost use lib.ListN.{length};
 ghost use lib.Seq.{sets};
 ghost use Rattle.judge.specs.Answered.{outcomeIs};
 ghost use Rattle.aura_c.specs.AnswerBytes.{littleEndian, bytesOf, answerSize, resultOf, answerSlice, diagnosticsSlice};
-use area::clear;
-use area::put_two;
+ghost use Rattle.aura_c.specs.LoadAccepted.{LoadAccepted};
+ghost use Rattle.load.specs.Load.{loadOf};
+ghost use Rattle.written.specs.Output.{writtenOf, lentAfter};
 use judge::Outcome;
 use judge::judge_into;
+use load::write_load;
+use written::clear;
+use written::put_two;
 
 const ANSWER_SIZE: usize = 268;
 
@@ -83,4 +87,18 @@ pub extern "C" fn aura_judge(
     );
     put_outcome(a, answer);
     a.number
+}
+
+// Writes a question of so many nodes, drawn from the start number, into the lent slice, with zeros behind it, and its length into `len`. Answers 0, or 14 where
+// the nodes are not 1 to 64, or 15 where the slice is too short; length and slice are then zero.
+#[no_mangle]
+pub extern "C" fn aura_load(start: u32, nodes: usize, out: &mut [u8], len: &mut usize) -> u8
+    ensures { λ r. ⌜ r ≡ writtenOf (loadOf start nodes (length (now (out .entry)))) .number ⌝ }
+    ensures { λ _. ⌜ now (len .exit) ≡ writtenOf (loadOf start nodes (length (now (out .entry)))) .len ⌝ }
+    ensures { λ _. ⌜ now (out .exit) ≡ lentAfter (length (now (out .entry))) (loadOf start nodes (length (now (out .entry)))) ⌝ }
+    ensures { λ _. ⌜ LoadAccepted start nodes ⌝ }
+{
+    let w = write_load(start, nodes, out);
+    *len = w.len;
+    w.number
 }

@@ -7,7 +7,6 @@ use lib.Seq.{sets, set-out, take-suc}
 use mathlib.Core.Bool.{Bool, true, false}
 use mathlib.Core.List.{List, [], _∷_, _++_, append-assoc, append-nil}
 use mathlib.Core.Path.{_≡_, refl, sym, ap, _∙_}
-use native.Mathlib.Nat.{add-zero}
 use native.Mathlib.Numerals.{add-one}
 use native.Mathlib.Omega.{arith}
 use Rattle.console.specs.AnswerText.{lineAt, linesOf, recordsIn}
@@ -22,13 +21,6 @@ sets-past [] l i h = refl
 sets-past (v ∷ vs) l i h =
     let e : set l i v ≡ l = set-out l i v h in
     ap (λ (k : List ℕ). sets k (suc i) vs) e ∙ sets-past vs l (suc i) (omega arith)
-
--- one run behind another
-pub sets-append : (xs ys l : List ℕ) (i : ℕ) → sets l i (xs ++ ys) ≡ sets (sets l i xs) (i + length xs) ys
-sets-append [] ys l i = ap (λ (k : ℕ). sets l k ys) (sym (add-zero i))
-sets-append (x ∷ xs) ys l i =
-    let e : suc i + length xs ≡ i + suc (length xs) = omega arith in
-    sets-append xs ys (set l i x) (suc i) ∙ ap (λ (k : ℕ). sets (sets (set l i x) (suc i) xs) k ys) e
 
 sets-cons : (vs l : List ℕ) (x i : ℕ) → sets (x ∷ l) (suc i) vs ≡ x ∷ sets l i vs
 sets-cons [] l x i = refl

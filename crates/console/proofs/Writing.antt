@@ -8,12 +8,13 @@ use mathlib.Core.Bool.{Bool, true, false}
 use mathlib.Core.List.{List, [], _∷_, _++_}
 use mathlib.Core.Path.{_≡_, refl, sym, ap, _∙_}
 use native.Mathlib.Omega.{arith}
-use Rattle.console.proofs.TextLists.{sets-past, sets-append, sets-zeros, decimal-one, decimal-more, hex-next, lines-next}
+use Rattle.console.proofs.TextLists.{sets-past, sets-zeros, decimal-one, decimal-more, hex-next, lines-next}
 use Rattle.console.specs.AnswerText.{blank, lineBreak, dash, fieldText, typeText, lineOf, lineAt, linesOf}
 use Rattle.console.specs.Buffer.{Filled}
 use Rattle.console.specs.Inside.Wrote.{Wrote}
 use Rattle.console.specs.Text.{decimal, hexDigit, hexByte, hexBytes}
 use Rattle.ty.specs.Bytes.{idAt}
+use Rattle.written.proofs.ListFacts.{sets-append}
 
 -- nothing written
 pub wrote-none : (b : List ℕ) (at : ℕ) → Wrote b b at at []
@@ -35,7 +36,7 @@ wrote-then {b} {b₁} {b₂} {at} {next} {r} {xs} {ys} w z =
     let same : length b₁ ≡ length b = ap length (w .bytes) ∙ length-sets b at xs in
     let both : length (xs ++ ys) ≡ length xs + length ys = length-append xs ys in
     record {
-      bytes = z .bytes ∙ ap (λ (l : List ℕ). sets l next ys) (w .bytes) ∙ go (leb (at + length xs) (length b)) refl ∙ sym (sets-append xs ys b at);
+      bytes = z .bytes ∙ ap (λ (l : List ℕ). sets l next ys) (w .bytes) ∙ go (leb (at + length xs) (length b)) refl ∙ sets-append xs ys b at;
       next = omega arith;
     }
   where

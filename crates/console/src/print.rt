@@ -7,9 +7,9 @@ ghost use Rattle.console.specs.Text.{decimal, hexDigit, hexByte, hexByte
 ghost use Rattle.console.specs.AnswerText.{fieldText, typeText, firstLine, lineAt, linesOf, recordsIn, printed};
 ghost use Rattle.console.specs.Buffer.{Filled};
 ghost use Rattle.console.specs.Inside.Wrote.{Wrote};
-use area::clear;
 use ty::byte_at;
 use ty::id_at;
+use written::clear;
 
 const BLANK: u8 = 32;
 

@@ -33,7 +33,7 @@ use Rattle.question.proofs.Finds.{skips}
 use Rattle.question.proofs.NodeReading.{room-of}
 use Rattle.question.proofs.Standing.{is-call, is-method, at-ends}
 use Rattle.question.proofs.Trees.{after-size, afters-sizes, some-size}
-use Rattle.question.specs.Inside.Legal.{Legal, RowLegal}
+use Rattle.question.specs.Legal.{Legal, RowLegal}
 use Rattle.question.specs.NodeRead.{nodeAt}
 use Rattle.question.specs.Inside.Skip.{skipAt}
 use Rattle.question.specs.Inside.Stands.{RowStands}

@@ -23,7 +23,7 @@ use Rattle.scoring.specs.Inside.Args.{nameIn, argAt, argsRow, argsIn}
 use Rattle.scoring.specs.declared.args.Args.{Args}
 use Rattle.question.proofs.Standing.{is-nil, is-cons}
 use Rattle.question.proofs.Trees.{after-size}
-use Rattle.question.specs.Inside.Legal.{Legal, RowLegal}
+use Rattle.question.specs.Legal.{Legal, RowLegal}
 use Rattle.question.specs.QuestionRefused.{defined}
 use Rattle.question.specs.Inside.Stands.{TreeStands}
 use Rattle.question.specs.Tree.{Node, Row, leaf, binary, unary, named, member, call, method, nil, cons, numberAfter, numberAfterRow, size, sizes, count, bytes, bytess, argumentName}

@@ -20,7 +20,7 @@ use Rattle.nodes.specs.declared.progress.State.{State}
 use Rattle.question.proofs.NodeReading.{room-of}
 use Rattle.question.proofs.Standing.{is-bad, is-endless, is-leaf, is-binary, is-unary, is-named, is-member, at-ends}
 use Rattle.question.proofs.Trees.{after-size, some-size}
-use Rattle.question.specs.Inside.Legal.{Legal}
+use Rattle.question.specs.Legal.{Legal}
 use Rattle.question.specs.NodeRead.{nodeAt}
 use Rattle.question.specs.Inside.Stands.{TreeStands}
 use Rattle.question.specs.Tree.{Node, binary, unary, named, member, call, numberAfter, size, count, bytes}
@@ -225,7 +225,7 @@ module _ {t : List ℕ} {index : List ℕ} (ok : IndexedTable t index) (H : Head
         let (c, e, st) = is-unary q (s .at) (x .tree) op (x .stands) h in
         let sz : size (x .tree) ≡ suc (size c) = ap size e in
         let lg : Legal (x .names) (unary op c) = rw e at (x .legal) in
-        asked-inside x 2 i c st lg (omega arith)
+        asked-inside x 2 i c st (lg .0) (omega arith)
 
     module _ {a a₁ l l₁ b b₁ : List ℕ} {r₁ : State} (lent : Space q a₁ l₁) (is : (y : NodeAsked q s₁) → NodeIs t H s₁ a a₁ l l₁ b b₁ r₁ (y .tree)) where
       pub unary-ready : RuleAsked a₁ l₁ (s .node) (s .node + 1) r₁ (unaryOut op (slotOf a₁ l₁ (s .node + 1)))
@@ -233,7 +233,7 @@ module _ {t : List ℕ} {index : List ℕ} (ok : IndexedTable t index) (H : Head
       unary-ready =
           let (c, e, st) = is-unary q (s .at) (x .tree) op (x .stands) h in
           let lg : Legal (x .names) (unary op c) = rw e at (x .legal) in
-          only-rule 2 i c st lg (ap size e) lent is (λ (u : Ty). unaryOut op u) (ap (λ (z : Node). judge (symbolsOf t) H z (s .node) .ty) e)
+          only-rule 2 i c st (lg .0) (ap size e) lent is (λ (u : Ty). unaryOut op u) (ap (λ (z : Node). judge (symbolsOf t) H z (s .node) .ty) e)
 
       pub ret-unary : {a′ l′ b′ : List ℕ} {r : State}
           → Finished r₁ (s .node) (unaryOut op (slotOf a₁ l₁ (s .node + 1)) .ty) (atNode (s .node) (unaryOut op (slotOf a₁ l₁ (s .node + 1)) .reports)) a₁ a′ l₁ l′ b₁ b′ r
@@ -242,7 +242,7 @@ module _ {t : List ℕ} {index : List ℕ} (ok : IndexedTable t index) (H : Head
       ret-unary f =
           let (c, e, st) = is-unary q (s .at) (x .tree) op (x .stands) h in
           let lg : Legal (x .names) (unary op c) = rw e at (x .legal) in
-          only-ruled 2 i c st lg (ap size e) lent is (λ (u : Ty). unaryOut op u) (ap (λ (z : Node). judge (symbolsOf t) H z (s .node)) e) (ap bytes e) (ap (λ (z : Node). numberAfter z (s .node)) e) f
+          only-ruled 2 i c st (lg .0) (ap size e) lent is (λ (u : Ty). unaryOut op u) (ap (λ (z : Node). judge (symbolsOf t) H z (s .node)) e) (ap bytes e) (ap (λ (z : Node). numberAfter z (s .node)) e) f
 
   module _ (id : ℕ) (h : nodeAt q (s .at) ≡ Named id) {s₁ : State} (i : s₁ ≡ insideOf s 3) where
     pub asked-named : NodeAsked q s₁

@@ -9,7 +9,7 @@ use mathlib.Core.List.{List, [], _∷_}
 use mathlib.Core.Path.{_≡_, refl, sym, ap, subst, _∙_}
 use native.Mathlib.Omega.{arith}
 use Rattle.area.proofs.Diagnostics.{putAll-length, put-padded}
-use Rattle.area.proofs.ListFacts.{sets-zeros}
+use Rattle.written.proofs.ListFacts.{sets-zeros}
 use Rattle.area.specs.Diagnostic.{Diag, recordLength, records, putAll}
 use Rattle.cycle.proofs.Spaces.{tree-room}
 use Rattle.judge.specs.Answered.{outcomeIs, Answered, AcceptedDemand3}
@@ -18,7 +18,7 @@ use Rattle.cycle.proofs.Holding.{space-behind, tree-held}
 use Rattle.cycle.specs.Inside.Contract.{Space, NodeAsked, NodeIs}
 use Rattle.index.specs.Inside.IndexedTable.{IndexedTable}
 use Rattle.nodes.specs.Inside.AreaFilled.{AreaFilled}
-use Rattle.area.specs.Padding.{paddedTo}
+use Rattle.written.specs.Padding.{paddedTo}
 use Rattle.area.specs.Inside.Slot.{SlotHolds, slotOf}
 use Rattle.judge.specs.declared.Outcome.{Outcome}
 use Rattle.nodes.specs.declared.progress.State.{State}

@@ -2,8 +2,8 @@
 mod room;
 mod root;
 
-use area::clear;
 use room::judge_sized;
+use written::clear;
 ghost use mathlib.Core.Path.{_≡_};
 ghost use Rattle.typing.specs.Answer.{answerBytes, zeros};
 ghost use Rattle.area.specs.Inside.Slot.{Lent};

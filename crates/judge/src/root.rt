@@ -1,9 +1,9 @@
 // The answer once the root is judged: its number, its mark and its type, or a refusal.
 use crate::Outcome;
-use area::clear;
-use area::copy_in;
 use area::slot;
 use nodes::progress::State;
+use written::clear;
+use written::copy_in;
 ghost use Prim.Native.Nat.{_≤_, _<_};
 ghost use mathlib.Core.Path.{_≡_};
 ghost use lib.ListN.{length};

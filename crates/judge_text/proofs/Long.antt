@@ -7,7 +7,7 @@ use mathlib.Core.Bool.{Bool, true, false}
 use mathlib.Core.List.{List}
 use mathlib.Core.Path.{_≡_, refl, sym, ap, _∙_}
 use Rattle.area.specs.Diagnostic.{records}
-use Rattle.area.specs.Padding.{paddedTo}
+use Rattle.written.specs.Padding.{paddedTo}
 use Rattle.console.proofs.InputParts.{table-kept, question-kept, question-long}
 use Rattle.console.specs.Input.{tableOf, questionOf, Bytes, inputLimit}
 use Rattle.judge_text.specs.ProgramText.{textOf, answerText, inputText}

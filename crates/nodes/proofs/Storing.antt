@@ -10,7 +10,7 @@ use mathlib.Core.Logic.{_⊎_, inl, inr}
 use mathlib.Core.Option.{none, some}
 use mathlib.Core.Path.{_≡_, refl, sym, ap, _∙_}
 use native.Mathlib.Omega.{arith}
-use Rattle.area.proofs.ListFacts.{part-sets, sets-behind}
+use Rattle.written.proofs.ListFacts.{part-sets, sets-behind}
 use Rattle.area.proofs.Slots.{held-here, lent-stored}
 use Rattle.area.specs.Inside.Slot.{Lent, SlotHolds, store, storeLen, slotOf}
 use Rattle.nodes.proofs.Filling.{filled-long}

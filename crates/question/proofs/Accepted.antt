@@ -11,7 +11,7 @@ use Rattle.question.proofs.Finds.{finds, passes, only}
 use Rattle.question.proofs.Found.{Found, both-none, found}
 use Rattle.question.proofs.Standing.{at-fits}
 use Rattle.question.specs.Header.{headerBytes, suspendByte, headerOf}
-use Rattle.question.specs.Inside.Legal.{Legal, RowLegal}
+use Rattle.question.specs.Legal.{Legal, RowLegal}
 use Rattle.question.specs.Inside.Stands.{TreeStands, RowStands}
 use Rattle.question.specs.Parse.{mostNodes, first, treeOf}
 use Rattle.question.specs.QuestionRefused.{longestQuestion, noneOrDefined, headerFault, endFault, treeFault, questionFault}

@@ -6,7 +6,7 @@ use native.Mathlib.Omega.{arith}
 use Rattle.question.proofs.NodeIds.{same-fault}
 use Rattle.question.proofs.Opened.{inside, opened}
 use Rattle.question.proofs.Trees.{some-size}
-use Rattle.question.specs.Inside.Legal.{RowLegal}
+use Rattle.question.specs.Legal.{RowLegal}
 use Rattle.question.specs.Inside.Skip.{skipFrom, skipAt}
 use Rattle.question.specs.Inside.Stands.{TreeStands, RowStands}
 use Rattle.question.specs.Inside.Top.{readFault}

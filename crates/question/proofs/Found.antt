@@ -8,13 +8,13 @@ use mathlib.Core.List.{List}
 use mathlib.Core.Path.{_≡_, refl, sym, ap, _∙_}
 use native.Mathlib.Omega.{arith}
 use Rattle.question.proofs.NodeIds.{same-fault}
-use Rattle.question.proofs.NodeReading.{leaf-length, leaf-whole}
+use Rattle.question.proofs.NodeReading.{room-of, leaf-length, leaf-whole}
 use Rattle.question.proofs.Trees.{take-count, split-count, split-bytes, split-sizes}
-use Rattle.question.specs.Inside.Legal.{Legal, RowLegal}
 use Rattle.question.specs.Inside.Stands.{TreeStands, RowStands}
 use Rattle.question.specs.Inside.Top.{idFault, endlessFault, readFault}
-use Rattle.question.specs.Parse.{first, rest, takeRow, dropRow, onto, rowAt}
+use Rattle.question.specs.Legal.{Legal, RowLegal}
 use Rattle.question.specs.NodeRead.{nodeAt, ownBytes, children}
+use Rattle.question.specs.Parse.{first, rest, takeRow, dropRow, onto, rowAt}
 use Rattle.question.specs.QuestionRefused.{defined, nodeFault, moreFault, endFault, nodesFault}
 use Rattle.question.specs.Tree.{Row, leaf, binary, unary, named, member, call, method, nil, cons, size, sizes, count, bytes, bytess}
 use Rattle.question.specs.declared.Names.{Names}
@@ -105,7 +105,7 @@ module _ (N : Names) (q : List ℕ) (at p f : ℕ) where
         ends = omega (arith, w .ends);
         counted = omega (arith, w .counted);
         few = omega (arith, w .few);
-        legal = ((g .0, g .1 .0), g .1 .1);
+        legal = ((g .0, g .1 .0, room-of q at (Binary op) h .1), g .1 .1);
       }
 
   found-unary : (op : ℕ) → nodeAt q at ≡ Unary op → (r : Row) → Found N q (at + 2) (p + 1) f r → Found N q at (suc p) (suc f) (cons (unary op (first r)) (rest r))
@@ -120,7 +120,7 @@ module _ (N : Names) (q : List ℕ) (at p f : ℕ) where
         ends = omega (arith, w .ends);
         counted = omega (arith, w .counted);
         few = omega (arith, w .few);
-        legal = (g .0, g .1);
+        legal = ((g .0, room-of q at (Unary op) h .1), g .1);
       }
 
   found-named : (id : ℕ) → nodeAt q at ≡ Named id → defined N id ≡ true → (r : Row) → Found N q (at + 3) (p + 1) f r
@@ -167,7 +167,7 @@ module _ (N : Names) (q : List ℕ) (at p f : ℕ) where
         ends = omega (arith, w .ends, split-bytes n r);
         counted = omega (arith, w .counted, split-count n r m);
         few = omega (arith, w .few, split-sizes n r);
-        legal = ((k, g .0), g .1);
+        legal = ((k, g .0, omega (arith, take-count n r m, room-of q at (Call id n) h .1)), g .1);
       }
 
   found-method : (id n : ℕ) → nodeAt q at ≡ Method id n → defined N id ≡ true → (r : Row) → Found N q (at + 4) (p + suc n) f r
@@ -183,7 +183,7 @@ module _ (N : Names) (q : List ℕ) (at p f : ℕ) where
         ends = omega (arith, w .ends, split-bytes n r);
         counted = omega (arith, w .counted, split-count n r m);
         few = omega (arith, w .few, split-sizes n r);
-        legal = ((k, w .legal .0, g .0), g .1);
+        legal = ((k, w .legal .0, g .0, omega (arith, take-count n r m, room-of q at (Method id n) h .1)), g .1);
       }
 
   found-node : (h : NodeRead) → nodeAt q at ≡ h → readFault N h ≡ 0 → (r : Row) → Found N q (at + ownBytes h) (p + children h) f r → Found N q at (suc p) (suc f) (onto h q at r)

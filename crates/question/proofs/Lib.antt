@@ -10,3 +10,5 @@ pub mod QuestionCases
 pub mod NodesMoved
 pub mod NodeReading
 pub mod NodeIds
+pub mod WrittenTrees
+pub mod Rewritten

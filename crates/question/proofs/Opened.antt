@@ -7,7 +7,7 @@ use mathlib.Core.Path.{_≡_, refl, sym, ap, _∙_}
 use native.Mathlib.Omega.{arith}
 use Rattle.question.proofs.NodeReading.{leaf-whole}
 use Rattle.question.proofs.Trees.{joined, joined-count, joined-bytes, joined-sizes, take-joined, drop-joined}
-use Rattle.question.specs.Inside.Legal.{Legal, RowLegal}
+use Rattle.question.specs.Legal.{Legal, RowLegal}
 use Rattle.question.specs.Inside.Stands.{LeafStands, TreeStands, RowStands}
 use Rattle.question.specs.Inside.Top.{idFault, readFault}
 use Rattle.question.specs.Parse.{first, rest, takeRow, dropRow, onto}
@@ -105,7 +105,7 @@ opened q at (unary op x) r s ss =
       ends = omega arith;
       sized = omega arith;
       built = refl;
-      fine = λ N g gs. (refl, (g, gs));
+      fine = λ N g gs. (refl, (g .0, gs));
     }
 opened q at (named id x) r s ss =
     let a : at + (3 + bytes x) ≡ at + 3 + bytes x = omega arith in

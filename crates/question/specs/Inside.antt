@@ -1,4 +1,3 @@
 pub mod Top
 pub mod Stands
 pub mod Skip
-pub mod Legal

@@ -4,3 +4,6 @@ pub mod Parse
 pub mod Inside
 pub mod NodeRead
 pub mod QuestionRefused
+pub mod Legal
+pub mod Write
+pub mod ReadBack

@@ -8,7 +8,7 @@ use mathlib.Core.List.{List, []}
 use mathlib.Core.Path.{_≡_, refl, ap, _∙_}
 use native.Mathlib.Omega.{arith}
 use Rattle.area.specs.Diagnostic.{recordLength, records}
-use Rattle.area.specs.Padding.{paddedTo}
+use Rattle.written.specs.Padding.{paddedTo}
 use Rattle.question.specs.QuestionRefused.{questionFault}
 use Rattle.record.specs.TableRefused.{tableFault}
 use Rattle.ty.proofs.Choice.{and-left}

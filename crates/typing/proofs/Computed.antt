@@ -1,6 +1,6 @@
 -- What the cases in Marked, Drawn and Wrong are computed with: to unfold `computed` is to unfold what its line names.
 use Rattle.area.specs.Diagnostic.{recordOf, records}
-use Rattle.area.specs.Padding.{paddedTo}
+use Rattle.written.specs.Padding.{paddedTo}
 use Rattle.scoring.specs.Arity.{anyOwn, own, usable, required, endsVararg, fits, fitting}
 use Rattle.overload.specs.Before.{suspendReport}
 use Rattle.overload.specs.Best.{better, chosen}

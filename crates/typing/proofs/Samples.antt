@@ -3,7 +3,7 @@ use Prim.Native.Nat.{ℕ}
 use lib.ListN.{length, replicate}
 use mathlib.Core.List.{List, [], _∷_, _++_}
 use mathlib.Core.Path.{_≡_}
-use Rattle.area.specs.Padding.{paddedTo}
+use Rattle.written.specs.Padding.{paddedTo}
 use Rattle.typing.specs.Answer.{answerBytes, answerOf, bufferOf}
 
 -- record kind 1: a name of one letter

@@ -8,7 +8,7 @@ use mathlib.Core.List.{List}
 use mathlib.Core.Path.{_≡_, refl}
 use native.Mathlib.Omega.{arith}
 use Rattle.area.specs.Diagnostic.{recordLength}
-use Rattle.area.specs.Padding.{paddedTo}
+use Rattle.written.specs.Padding.{paddedTo}
 use Rattle.ty.specs.Choose.{choose}
 use Rattle.typing.specs.Answer.{Answer, answerBytes, faultOf, judgementOf, refused, given, answered, answerOf}
 use Rattle.typing.specs.Judge.{Judged}

@@ -5,7 +5,7 @@ use mathlib.Core.List.{List, [], _∷_, _++_, head-eq-of-cons-eq}
 use mathlib.Core.Option.{some}
 use mathlib.Core.Path.{_≡_, refl, sym, _∙_}
 use native.Mathlib.Omega.{arith}
-use Rattle.area.specs.Padding.{paddedTo}
+use Rattle.written.specs.Padding.{paddedTo}
 use Rattle.question.specs.Header.{headerOf}
 use Rattle.question.specs.Parse.{treeOf}
 use Rattle.symbol.specs.Lookup.{symbolsOf}

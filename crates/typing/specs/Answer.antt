@@ -5,7 +5,7 @@ use lib.Dec.{eqb, ltb}
 use lib.ListN.{length, replicate}
 use mathlib.Core.List.{List}
 use Rattle.area.specs.Diagnostic.{recordLength, records}
-use Rattle.area.specs.Padding.{paddedTo}
+use Rattle.written.specs.Padding.{paddedTo}
 use Rattle.question.specs.Header.{headerOf}
 use Rattle.question.specs.Parse.{treeOf}
 use Rattle.question.specs.QuestionRefused.{questionFault}

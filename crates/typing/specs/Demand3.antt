@@ -10,7 +10,7 @@ use mathlib.Core.List.{List, [], List·Memᴰ}
 use mathlib.Core.Logic.{_≢_, _↔_}
 use mathlib.Core.Option.{some}
 use mathlib.Core.Path.{_≡_}
-use Rattle.area.specs.Padding.{paddedTo}
+use Rattle.written.specs.Padding.{paddedTo}
 use Rattle.question.specs.Header.{headerOf}
 use Rattle.question.specs.Parse.{treeOf}
 use Rattle.question.specs.QuestionRefused.{questionFault}

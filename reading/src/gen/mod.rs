@@ -2,6 +2,7 @@
 
 pub mod boundary;
 pub mod damage;
+pub mod load;
 pub mod model;
 pub mod sweep;
 pub mod typed;
@@ -51,9 +52,11 @@ pub enum Profile {
     Flips,
     /// Long trees built for a wanted type, most of which pass.
     Typed,
+    /// Questions of the test load, without a table and under generated ones.
+    Load,
 }
 
-pub const PROFILES: [(Profile, &str); 16] = [
+pub const PROFILES: [(Profile, &str); 17] = [
     (Profile::Rich, "rich"),
     (Profile::Calls, "calls"),
     (Profile::Wide, "wide"),
@@ -70,6 +73,7 @@ pub const PROFILES: [(Profile, &str); 16] = [
     (Profile::Assign, "assign"),
     (Profile::Flips, "flips"),
     (Profile::Typed, "typed"),
+    (Profile::Load, "load"),
 ];
 
 impl Profile {
@@ -132,13 +136,14 @@ pub fn case(profile: Profile, seed: u64, index: u64) -> Case {
         Profile::Assign => sweep::assign(at),
         Profile::Flips => sweep::flips(at),
         Profile::Typed => typed::typed(&mut rng),
+        Profile::Load => load::load(&mut rng, index),
     };
     Case { table, question, buffer: buffer_length(&mut rng) }
 }
 
 /// The profiles without an end, mixed.
 pub fn mixed(seed: u64, index: u64) -> Case {
-    const TURN: [Profile; 11] = [
+    const TURN: [Profile; 12] = [
         Profile::Rich,
         Profile::Calls,
         Profile::Wide,
@@ -150,6 +155,7 @@ pub fn mixed(seed: u64, index: u64) -> Case {
         Profile::Random,
         Profile::Outside,
         Profile::Typed,
+        Profile::Load,
     ];
-    case(TURN[(index % 11) as usize], seed, index / 11)
+    case(TURN[(index % 12) as usize], seed, index / 12)
 }

@@ -3,9 +3,9 @@ use borrow.Author.Needs.{needs}
 use lib.ListN.{length}
 use mathlib.Core.Path.{_≡_, refl}
 use native.Mathlib.Omega.{arith}
-use Rattle.area.proofs.Stores.{filled, fill-zero, fill-next, fill-past, fill-done}
 use Rattle.area.proofs.move_down.Statement.{statement}
 use Rattle.area.proofs.move_down.Tie as tie
+use Rattle.written.proofs.CopyLoops.{filled, fill-zero, fill-next, fill-past, fill-done}
 
 abbrev Inv-loop : tie.InvT-loop
 Inv-loop area₀ from to n i₀ area i = (i ≤ n) × (length area ≡ length area₀) × (area ≡ filled area₀ to area₀ from i)

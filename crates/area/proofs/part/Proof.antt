@@ -4,9 +4,9 @@ use lib.ListN.{take}
 use lib.Seq.{length-take-le}
 use mathlib.Core.List.{List}
 use mathlib.Core.Path.{sym, ap}
-use Rattle.area.proofs.ListFacts.{part-rest}
 use Rattle.area.proofs.part.Statement.{statement}
 use Rattle.area.proofs.part.Tie as tie
+use Rattle.written.proofs.ListFacts.{part-rest}
 
 pub part-spec : {M : Type 1} → statement M
 part-spec = tie.close (tie.spec

@@ -16,7 +16,7 @@ use Rattle.nodes.specs.declared.calls.RowJudged.{RowJudged}
 use Rattle.nodes.specs.declared.progress.State.{State}
 use Rattle.scoring.specs.Arg.{Arg}
 use Rattle.scoring.specs.declared.args.Args.{Args}
-use Rattle.question.specs.Inside.Legal.{Legal, RowLegal}
+use Rattle.question.specs.Legal.{Legal, RowLegal}
 use Rattle.question.specs.NodeRead.{mostArguments}
 use Rattle.question.specs.QuestionRefused.{longestQuestion}
 use Rattle.question.specs.Inside.Stands.{TreeStands, RowStands}

@@ -7,7 +7,7 @@ use mathlib.Core.Bool.{_&&_}
 use mathlib.Core.List.{List}
 use mathlib.Core.Path.{_≡_}
 use Rattle.area.specs.Diagnostic.{recordLength}
-use Rattle.area.specs.Padding.{paddedTo}
+use Rattle.written.specs.Padding.{paddedTo}
 use Rattle.area.specs.Inside.Slot.{slotOf}
 use Rattle.nodes.specs.declared.progress.State.{State}
 use Rattle.judge.specs.Answered.{outcomeIs}

@@ -1,8 +1,0 @@
--- Zeros behind some bytes. Document 01, "Answer": the type in 256 bytes with zeros behind its length; the rest of the buffer is zero.
-use Prim.Native.Nat.{ℕ, _-_}
-use mathlib.Core.List.{List, _++_}
-use lib.ListN.{length, replicate}
-
--- s in n bytes
-unfoldable pub paddedTo : ℕ → List ℕ → List ℕ
-paddedTo n s = s ++ replicate (n - length s) 0

@@ -1,0 +1,5 @@
+pub mod Draw
+pub mod DrawnTree
+pub mod Load
+pub mod Order1
+pub mod Inside
