@@ -69,26 +69,19 @@ fn respond(start: u32, nodes: usize, out: &mut [u8])
     io::write_all(2, b": the node count is not 1 to 64\n");
 }
 
-// Says what the arguments are.
-fn tell_usage() {
-    io::write_all(
-        2,
-        b"usage: aura_load START NODES (two numbers in decimal, START at most 4294967295)\n",
-    );
-}
-
 // The longest question has 133 bytes, so that no number but 14 is drawn.
 fn main() {
     let start = argument(1);
     let nodes = argument(2);
-    if (os::arg_count() != 3) | (nodes == NO_NUMBER) {
-        tell_usage();
-        return;
+    if (os::arg_count() == 3) & (nodes != NO_NUMBER) {
+        if start < TOO_LARGE {
+            let mut out = [0u8; 133];
+            respond(start as u32, nodes as usize, &mut out);
+            return;
+        }
     }
-    if TOO_LARGE <= start {
-        tell_usage();
-        return;
-    }
-    let mut out = [0u8; 133];
-    respond(start as u32, nodes as usize, &mut out);
+    io::write_all(
+        2,
+        b"usage: aura_load START NODES (two numbers in decimal, START at most 4294967295)\n",
+    );
 }
