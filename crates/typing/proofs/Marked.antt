@@ -79,6 +79,11 @@ pub record Marked : Type 0 where
   superclass-to-nullable : Related (namedClass 40) (nullable (namedClass 41)) true
   superclass-from-nullable : Related (nullable (namedClass 40)) (namedClass 41) true
   superclass-argument : Passes (related ++ function 42 int 1 (param 43 (namedClass 41))) (script (call 42 1 (leaf (namedClass 40)))) int
+  superclass-scores : scoresOf (related ++ function 42 int 1 (param 43 (namedClass 41))) 42 (arg none (namedClass 40) ∷ []) ≡ some 1 ∷ []
+  -- an overload that takes the superclass matches as well as any other that is accepted: f(p Any) and f(p y) tie
+  superclass-tie :
+      Fails (related ++ (function 42 int 1 (param 43 any) ++ function 42 int 1 (param 43 (namedClass 41)))) (script (call 42 1 (leaf (namedClass 40)))) int
+      (diagnostic 19 0 2)
   superclass-compared : Passes related (script (binary 5 (leaf (namedClass 41)) (leaf (namedClass 40)))) boolean
   -- where it does not compare types, they stay unrelated
   superclass-pointers : Related (pointer (namedClass 40)) (pointer (namedClass 41)) false
@@ -139,6 +144,8 @@ marked = record {
   superclass-to-nullable = refl;
   superclass-from-nullable = refl;
   superclass-argument = record { answer = refl; buffer = refl };
+  superclass-scores = refl;
+  superclass-tie = record { answer = refl; buffer = refl };
   superclass-compared = record { answer = refl; buffer = refl };
   superclass-pointers = refl;
   superclass-maps = refl;
