@@ -4,9 +4,9 @@ use borrow.Author.Tests.{eqb-true, eqb-false, eq-eqb, ne-eqb}
 use lib.Dec.{eqb}
 use mathlib.Core.Bool.{Bool, true, false, false≢true}
 use mathlib.Core.List.{List}
-use mathlib.Core.Logic.{_≢_, _↔_}
+use mathlib.Core.Logic.{_↔_}
 use mathlib.Core.Path.{_≡_, refl, _∙_}
-use Rattle.below.specs.Below.{HasSuper, Met, step, then, isBelow}
+use Rattle.below.specs.Below.{Met, step, then, isBelow}
 use Rattle.record.specs.TableRefused.{tableFault}
 use Rattle.symbol.proofs.Subclasses.{climb}
 use Rattle.symbol.specs.Lookup.{symbolsOf}

@@ -1,7 +1,7 @@
 -- Laws of assignability: each step goes to types that are shorter together, so the fuel does not matter, and `canAssign` unfolds into itself on them.
 --
 use mathlib.Core.Path.{_≡_, refl}
-use mathlib.Core.Bool.{Bool, true, false≢true}
+use mathlib.Core.Bool.{Bool, true, false, false≢true}
 use mathlib.Core.List.{[], _∷_}
 use mathlib.Core.Logic.{_⊎_, inl, inr}
 use Prim.Native.Nat.{ℕ, zero, suc, _+_, _<_}
@@ -19,7 +19,7 @@ use Rattle.operators.specs.declared.assign.Next.{Next}
 use Rattle.operators.specs.declared.assign.Next.the-variants.{Yes, No, Left, Right, Both, Climb}
 
 -- a type with a kind has a byte
-some : (a : Ty) (k : ℕ) → k < noKind → eqb (kindOf a) k ≡ true → 0 < length a
+pub some : (a : Ty) (k : ℕ) → k < noKind → eqb (kindOf a) k ≡ true → 0 < length a
 some [] k h e = let q : noKind ≡ k = eqb-true noKind k e in omega arith
 some (x ∷ a) k h e = omega arith
 
@@ -27,7 +27,7 @@ array : (a : Ty) → isArray a ≡ true → 0 < length a
 array [] e = absurd (false≢true e)
 array (x ∷ a) e = omega arith
 
-inner-shorter : (a : Ty) → 0 < length a → length (innerOf a) < length a
+pub inner-shorter : (a : Ty) → 0 < length a → length (innerOf a) < length a
 unfolding innerOf
 inner-shorter a h =
     by-choice (λ (t : Ty). length t < length a) (isArray a) (λ e. simp length-drop (omega arith)) (λ e. simp length-drop (omega arith))
@@ -36,7 +36,7 @@ inner-shorter a h =
 unfoldable pub Reason : Ty → Ty → Next → Type 0
 Reason a b Yes = Unit
 Reason a b No = Unit
-Reason a b Left = isKind nullableKind a ≡ true
+Reason a b Left = (isKind nullableKind a ≡ true) × (isKind nullableKind b ≡ false)
 Reason a b Right = isKind nullableKind b ≡ true
 Reason a b Both = ((isKind listKind a ≡ true) ⊎ (isArray a ≡ true)) × (isArray b ≡ true)
 Reason a b Climb = (isKind namedKind a ≡ true) × (isKind namedKind b ≡ true)
@@ -50,8 +50,8 @@ reason a b =
     by-choice (Reason a b) _ (λ e. (inr (and-left _ _ e), and-right (isArray a) _ e)) λ _.
     by-choice (Reason a b) _ (λ _. tt) λ _.
     by-choice (Reason a b) _ (λ _. tt) λ _.
-    by-choice (Reason a b) _ (λ e. e) λ _.
-    by-choice (Reason a b) _ (λ e. e) λ _.
+    by-choice (Reason a b) _ (λ e. e) λ n.
+    by-choice (Reason a b) _ (λ e. (e, n)) λ _.
     by-choice (Reason a b) _ (λ _. tt) λ _.
     by-choice (Reason a b) _ (λ e. (and-left _ _ e, and-right (isKind namedKind a) _ e)) (λ _. tt)
 
@@ -71,7 +71,7 @@ pub by-reason : (a b : Ty) (r : Next) → Reason a b r → Shorter a b r
 unfolding Reason Shorter
 by-reason a b Yes h = tt
 by-reason a b No h = tt
-by-reason a b Left h = inner-shorter a (some a nullableKind (omega arith) h)
+by-reason a b Left h = inner-shorter a (some a nullableKind (omega arith) (h .0))
 by-reason a b Right h = inner-shorter b (some b nullableKind (omega arith) h)
 by-reason a b Both (inl h, k) = (inner-shorter a (some a listKind (omega arith) h), inner-shorter b (array b k))
 by-reason a b Both (inr h, k) = (inner-shorter a (array a h), inner-shorter b (array b k))

@@ -1,5 +1,7 @@
 pub mod Arm
 pub mod Assigns
+pub mod Steps
+pub mod Opened
 pub mod Order2
 pub mod Climbs
 pub mod Each

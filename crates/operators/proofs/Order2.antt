@@ -1,7 +1,5 @@
 -- The claims of order 2.
 use Prim.Native.Nat.{ℕ, zero, suc, _+_, _<_}
-use borrow.Author.Tests.{eqb-true}
-use lib.Dec.{eqb}
 use lib.ListN.{length}
 use mathlib.Core.Bool.{Bool, true, false, false≢true}
 use mathlib.Core.List.{List}
@@ -12,7 +10,8 @@ use native.Mathlib.Omega.{arith}
 use Rattle.below.proofs.Belows.{below-then-met, met-below, none-below}
 use Rattle.below.specs.Below.{isBelow}
 use Rattle.operators.proofs.Assigns.{Reason, reason-by, by-reason, Shorter, left-shorter, right-shorter, both-shorter, assigns-by}
-use Rattle.operators.specs.Assign.{assignStep, answerBy, canAssign, assigns}
+use Rattle.operators.proofs.Steps.{one-kind, yes-or, step-arrays, step-right, step-left, step-climb}
+use Rattle.operators.specs.Assign.{assignStep, canAssign, assigns}
 use Rattle.operators.specs.Operand.{isKind}
 use Rattle.operators.specs.Order2.{ClassMet, named, arrays, list-array, to-nullable, from-nullable, assignsUnrelated, SubclassAssigns}
 use Rattle.operators.specs.declared.assign.Next.the-variants.{Yes, No, Left, Right, Both, Climb}
@@ -20,77 +19,12 @@ use Rattle.operators.specs.declared.assign.Next.{Next}
 use Rattle.record.specs.TableRefused.{tableFault}
 use Rattle.symbol.specs.Lookup.{symbolsOf}
 use Rattle.symbol.specs.Symbols.{Symbols}
-use Rattle.ty.proofs.Choice.{by-choice, and-left, and-right}
-use Rattle.ty.specs.Bytes.{Ty, nameOf, kindOf, isArray, innerOf}
+use Rattle.ty.specs.Bytes.{Ty, nameOf, isArray, innerOf}
 use Rattle.ty.specs.Kind.{nullableKind, listKind, arrayKind, namedKind}
 
 -- no class is below another
 abbrev unrelated : ℕ → ℕ → Bool
 unrelated c d = false
-
--- a type has one kind
-one-kind : {A : Type 0} (k m : ℕ) (t : Ty) → eqb k m ≡ false → isKind k t ≡ true → isKind m t ≡ true → A
-one-kind k m t d e h = absurd (false≢true (sym d ∙ rw (← eqb-true (kindOf t) k e) h))
-
--- a step is yes, or the one that is named
-abbrev YesOr : Next → Next → Type 0
-YesOr r s = (s ≡ Yes) ⊎ (s ≡ r)
-
-module _ (a b : Ty) where
-  -- ---- the steps by kind
-  step-arrays : (isKind listKind a ≡ true) ⊎ (isArray a ≡ true) → isArray b ≡ true → YesOr Both (assignStep a b)
-  unfolding assignStep
-  step-arrays (inl h) k =
-      by-choice (YesOr Both) _ (λ _. inl refl) λ _.
-      by-choice (YesOr Both) _ (λ _. inr refl) (λ e. absurd (false≢true (sym e ∙ rw (h, k))))
-  step-arrays (inr h) k =
-      by-choice (YesOr Both) _ (λ _. inl refl) λ _.
-      by-choice (YesOr Both) _ (λ _. inr refl) λ _.
-      by-choice (YesOr Both) _ (λ _. inl refl) λ _.
-      by-choice (YesOr Both) _ (λ _. inr refl) (λ e. absurd (false≢true (sym e ∙ rw (h, k))))
-
-  step-right : isKind nullableKind b ≡ true → YesOr Right (assignStep a b)
-  unfolding assignStep
-  step-right h =
-      by-choice (YesOr Right) _ (λ _. inl refl) λ _.
-      by-choice (YesOr Right) _ (λ e. one-kind nullableKind arrayKind b refl h (and-right (isKind listKind a) _ e)) λ _.
-      by-choice (YesOr Right) _ (λ _. inl refl) λ _.
-      by-choice (YesOr Right) _ (λ e. one-kind nullableKind arrayKind b refl h (and-right (isArray a) _ e)) λ _.
-      by-choice (YesOr Right) _ (λ _. inl refl) λ _.
-      by-choice (YesOr Right) _ (λ _. inl refl) λ _.
-      by-choice (YesOr Right) _ (λ _. inr refl) (λ e. absurd (false≢true (sym e ∙ h)))
-
-  step-left : isKind nullableKind a ≡ true → isKind nullableKind b ≡ false → YesOr Left (assignStep a b)
-  unfolding assignStep
-  step-left h k =
-      by-choice (YesOr Left) _ (λ _. inl refl) λ _.
-      by-choice (YesOr Left) _ (λ e. one-kind nullableKind listKind a refl h (and-left _ _ e)) λ _.
-      by-choice (YesOr Left) _ (λ _. inl refl) λ _.
-      by-choice (YesOr Left) _ (λ e. one-kind nullableKind arrayKind a refl h (and-left _ _ e)) λ _.
-      by-choice (YesOr Left) _ (λ _. inl refl) λ _.
-      by-choice (YesOr Left) _ (λ _. inl refl) λ _.
-      by-choice (YesOr Left) _ (λ e. absurd (false≢true (sym k ∙ e))) λ _.
-      by-choice (YesOr Left) _ (λ _. inr refl) (λ e. absurd (false≢true (sym e ∙ h)))
-
-  step-climb : isKind namedKind a ≡ true → isKind namedKind b ≡ true → YesOr Climb (assignStep a b)
-  unfolding assignStep
-  step-climb h k =
-      by-choice (YesOr Climb) _ (λ _. inl refl) λ _.
-      by-choice (YesOr Climb) _ (λ e. one-kind namedKind listKind a refl h (and-left _ _ e)) λ _.
-      by-choice (YesOr Climb) _ (λ _. inl refl) λ _.
-      by-choice (YesOr Climb) _ (λ e. one-kind namedKind arrayKind a refl h (and-left _ _ e)) λ _.
-      by-choice (YesOr Climb) _ (λ _. inl refl) λ _.
-      by-choice (YesOr Climb) _ (λ _. inl refl) λ _.
-      by-choice (YesOr Climb) _ (λ e. one-kind namedKind nullableKind b refl k e) λ _.
-      by-choice (YesOr Climb) _ (λ e. one-kind namedKind nullableKind a refl h e) λ _.
-      by-choice (YesOr Climb) _ (λ _. inl refl) λ _.
-      by-choice (YesOr Climb) _ (λ _. inr refl) (λ e. absurd (false≢true (sym e ∙ rw (h, k))))
-
-  -- where the step that is named says yes, so does assignability
-  yes-or : (below : ℕ → ℕ → Bool) (r : Next) → YesOr r (assignStep a b) → answerBy below r a b (λ x y. canAssign below x y) ≡ true
-      → canAssign below a b ≡ true
-  yes-or below r (inl e) h = assigns-by below a b Yes (sym e)
-  yes-or below r (inr e) h = assigns-by below a b r (sym e) ∙ h
 
 -- ---- what assigned by document 01 still does; each of the three claims is an induction over both lengths
 abbrev Kept : (ℕ → ℕ → Bool) → Ty → Ty → Type 0
@@ -132,7 +66,7 @@ module _ (S : Symbols) where
     known-by No e h = absurd (false≢true (sym (assigns-by (isBelow S) a b No e) ∙ h))
     known-by Left e h =
         let s = left-shorter a b e in
-        inside (innerOf a) b (assigns-by unrelated a b Left e) (from-nullable (reason-by a b Left e))
+        inside (innerOf a) b (assigns-by unrelated a b Left e) (from-nullable (reason-by a b Left e .0))
         (ih (innerOf a) b (omega arith) (sym (assigns-by (isBelow S) a b Left e) ∙ h))
     known-by Right e h =
         let s = right-shorter a b e in
@@ -188,7 +122,7 @@ module _ (t : List ℕ) (f : tableFault t ≡ 0) where
         yes-or a b below Both (step-arrays a b (inl h) i) (ih (innerOf a) (innerOf b) (omega (arith, s .0, s .1)) m)
     other-goes k (to-nullable h m) = absurd (false≢true (sym k ∙ h))
     other-goes k (from-nullable h m) =
-        let s = by-reason a b Left h in
+        let s = by-reason a b Left (h, k) in
         yes-or a b below Left (step-left a b h k) (ih (innerOf a) b (omega arith) m)
 
     goes-by : (q : Bool) → isKind nullableKind b ≡ q → Goes a b
