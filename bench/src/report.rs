@@ -259,7 +259,8 @@ pub fn page(report: &Report) -> String {
     let stack = match report.stack {
         Some(kib) => format!(
             "The questions of 64 nodes that go deepest (unary, member, named argument, call and method call, 63 in each \
-             other) run under full tables on a thread with a stack of {kib} KiB, which is the least in steps of 4 KiB; the \
+             other, under full tables; calls whose arguments and parameters are 189 Nullable over a class) run on a thread \
+             with a stack of {kib} KiB, which is the least in steps of 4 KiB; the \
              thread's own start is in it. The judge uses no heap: the library imports \
              block operations of the C library alone (`aura-judge/tests/imports.rs`)."
         ),
