@@ -189,7 +189,12 @@ fn chains(report: &Report) -> String {
         );
         half = Some(whole);
     }
-    out
+    out + "
+The judgement's time goes with classes × functions, which the last column divides it by, so that
+twice the table takes up to four times the time. It would be linear if the classes above an
+argument's class were found once a call, by one sweep over the class records, and marked: each
+overload would then take one look.
+"
 }
 
 fn writing(report: &Report) -> String {
@@ -337,11 +342,6 @@ two shares of the same bytes is largest where the shares are equal. The tables t
 The Rust does not have the rule, so that there is no ratio; no bar is set (order 6 sets it).
 
 {}
-The judgement's time goes with classes × functions, which the last column divides it by, so that
-twice the table takes up to four times the time. It would be linear if the classes above an
-argument's class were found once a call, by one sweep over the class records, and marked: each
-overload would then take one look.
-
 ## Writing
 
 A question of the test load, written to a buffer of {LOAD_LONGEST} bytes by the library (`aura_load`) and
