@@ -191,7 +191,7 @@ fn chains(report: &Report) -> String {
     }
     out + "
 The judgement's time goes with classes × functions, which the last column divides it by, so that
-twice the table takes up to four times the time. It would be linear if the classes above an
+twice the table takes about four times the time. It would be linear if the classes above an
 argument's class were found once a call, by one sweep over the class records, and marked: each
 overload would then take one look.
 "
