@@ -1,7 +1,8 @@
-//! Document 01's examples, its marked cases and its corners as cases, each with the answer that
-//! document 01 has for it, written by hand. The stored sample begins with them.
+//! Document 01's examples, its marked cases and its corners as cases, and those of the orders of document 02, each with
+//! the answer that the documents have for it, written by hand. The stored sample begins with them.
 
 mod question_edges;
+mod subclasses;
 mod table_edges;
 
 use crate::bytes::*;
@@ -116,6 +117,7 @@ pub fn all() -> Vec<Example> {
     question_refusals(&mut list);
     orders_of_refusal(&mut list);
     unsaid(&mut list);
+    subclasses::add(&mut list);
     table_edges::add(&mut list);
     question_edges::add(&mut list);
     list.all
@@ -152,12 +154,13 @@ fn ty(list: &mut List) {
         &array(None, &t(INT)),
         ASSIGNS,
     );
-    list.of("named_a_does_not_assign_to_named_b_although_b_is_its_superclass");
+    // Document 02, order 2: "the marked case turns round".
+    list.of("named_a_assigns_to_named_b_if_b_is_met_climbing_from_a");
     let mut table = base();
     table.class(B, NONE, NONE, true);
     table.class(A, B, NONE, true);
     table.plain(F, &[BOOLEAN], &[(P, 0, named(B))]);
-    list.tree("ty.marked.a-class-does-not-assign-to-its-superclass", &table, call(F, &[leaf(&named(A))]), DIFFERS);
+    list.tree("ty.marked.a-class-assigns-to-its-superclass", &table, call(F, &[leaf(&named(A))]), ASSIGNS);
     list.of("only_list_array_list_and_mutable_list_as_names_assign_among_themselves");
     for (from, x) in [("list", 1), ("array-list", 2), ("mutable-list", 3)] {
         for (to, y) in [("list", 1), ("array-list", 2), ("mutable-list", 3)] {
