@@ -12,7 +12,8 @@ const CASES: u64 = 20_000;
 /// In at least a tenth of the cases with a superclass the answer is another where the order's rule is left out.
 #[test]
 fn the_rule_decides_in_a_tenth_of_the_cases_with_superclasses() {
-    let left_out = WRONG.iter().find(|wrong| wrong.yardstick.name == "subclass_rule_left_out").expect("the wrong version");
+    let left_out =
+        WRONG.iter().find(|wrong| wrong.yardstick.name == "subclass_rule_left_out").expect("the wrong version");
     let (mut with, mut decided, mut without) = (0, 0, 0);
     for index in 0..CASES {
         let case = case(Profile::Classes, 1, index);
