@@ -264,9 +264,9 @@ pub fn page(report: &Report) -> String {
     let stack = match report.stack {
         Some(kib) => format!(
             "The questions of 64 nodes that go deepest (unary, member, named argument, call and method call, 63 in each \
-             other, under full tables; calls whose arguments and parameters are 189 Nullable over a class) run on a thread \
-             with a stack of {kib} KiB, which is the least in steps of 4 KiB; the \
-             thread's own start is in it. The judge uses no heap: the library imports \
+             other, under full tables; calls whose arguments and parameters are 189 Nullable, or 27 Nullable Arrays, over a \
+             class) run on a thread with a stack of {kib} KiB, which is the least in steps of 4 KiB; the thread's own start is \
+             in it. The judge uses no heap: the library imports \
              block operations of the C library alone (`aura-judge/tests/imports.rs`)."
         ),
         None => "Not measured in this run.".to_string(),

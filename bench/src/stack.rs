@@ -21,13 +21,13 @@ fn deepest() -> Vec<(Vec<u8>, Vec<u8>)> {
         (table(Make::Few, 60_000), repeat(&[5, 40, 0, 1])),
         (table(Make::Few, 60_000), repeat(&[6, 40, 0, 0])),
         (table(Make::BucketFields, 60_000), repeat(&[3, 40, 0])),
-        deepest_types(),
+        deepest_types(|class| nullables(189, &named(class))),
+        deepest_types(|class| (0..27).fold(named(class), |ty, _| nullable(&array(None, &ty)))),
     ]
 }
 
 /// Calls in each other, where assignability goes through all of two types of 192 bytes each to a class and its superclass.
-fn deepest_types() -> (Vec<u8>, Vec<u8>) {
-    let wide = |class: u16| nullables(189, &named(class));
+fn deepest_types(wide: impl Fn(u16) -> Bytes) -> (Vec<u8>, Vec<u8>) {
     let (mut t, above, class) = (Table::new(), 6, 7);
     t.class(above, NONE, NONE, true);
     t.class(class, above, NONE, true);
