@@ -1,7 +1,7 @@
 pub mod Arm
 pub mod Assigns
-pub mod Steps
-pub mod Opened
+pub mod AssignSteps
+pub mod NullablesOpened
 pub mod Order2
 pub mod Climbs
 pub mod Each

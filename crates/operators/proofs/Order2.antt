@@ -10,7 +10,7 @@ use native.Mathlib.Omega.{arith}
 use Rattle.below.proofs.Belows.{below-then-met, met-below, none-below}
 use Rattle.below.specs.Below.{isBelow}
 use Rattle.operators.proofs.Assigns.{Reason, reason-by, by-reason, Shorter, left-shorter, right-shorter, both-shorter, assigns-by}
-use Rattle.operators.proofs.Steps.{one-kind, yes-or, step-arrays, step-right, step-left, step-climb}
+use Rattle.operators.proofs.AssignSteps.{one-kind, yes-or, step-arrays, step-right, step-left, step-climb}
 use Rattle.operators.specs.Assign.{assignStep, canAssign, assigns}
 use Rattle.operators.specs.Operand.{isKind}
 use Rattle.operators.specs.Order2.{ClassMet, named, arrays, list-array, to-nullable, from-nullable, assignsUnrelated, SubclassAssigns}

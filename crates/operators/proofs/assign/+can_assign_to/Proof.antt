@@ -12,7 +12,7 @@ use Rattle.ty.proofs.inner.Reads as inner-reads
 use Rattle.ty.proofs.name_of.Reads as name-reads
 use Rattle.ty.proofs.tail.Reads as tail-reads
 use Rattle.operators.proofs.Assigns.{assigns-by, both-shorter}
-use Rattle.operators.proofs.Opened.{opened-right, left-opened, left-falls, right-falls}
+use Rattle.operators.proofs.NullablesOpened.{opened-right, left-opened, left-falls, right-falls}
 use Rattle.operators.proofs.assign.+can_assign_to.Lts-can_assign_to as lts
 use Rattle.operators.proofs.assign.+can_assign_to.Tie.{close}
 use Rattle.operators.proofs.assign.+can_assign_to.{statement}

@@ -4,7 +4,7 @@ use borrow.Author.Needs.{needs}
 use lib.ListN.{length, drop}
 use mathlib.Core.Path.{_≡_, sym, _∙_}
 use native.Mathlib.Omega.{arith}
-use Rattle.operators.proofs.Opened.{one-more, no-more, still-inside}
+use Rattle.operators.proofs.NullablesOpened.{one-more, no-more, still-inside}
 use Rattle.operators.proofs.assign.nullables.Statement.{statement}
 use Rattle.operators.proofs.assign.nullables.Tie as tie
 use Rattle.operators.specs.Inside.Nullables.{nullables}

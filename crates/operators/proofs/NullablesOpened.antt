@@ -9,7 +9,7 @@ use mathlib.Core.Path.{_≡_, refl, sym, ap, _∙_}
 use native.Mathlib.Nat.{not-suc-le-zero}
 use native.Mathlib.Omega.{arith}
 use Rattle.operators.proofs.Assigns.{Reason, reason-by, some, inner-shorter, assigns-step, assigns-by}
-use Rattle.operators.proofs.Steps.{one-kind, yes-or, step-right, step-left}
+use Rattle.operators.proofs.AssignSteps.{one-kind, yes-or, step-right, step-left}
 use Rattle.operators.specs.Assign.{isNamed, isGrowing, isListName, assignsAtOnce, assignStep, answerBy, canAssign}
 use Rattle.operators.specs.Inside.Nullables.{nullables}
 use Rattle.operators.specs.Operand.{isKind, numbers}
