@@ -14,7 +14,8 @@ sys.path.insert(0, str(ROOT / "tools"))
 sys.dont_write_bytecode = True
 import aura_text  # noqa: E402
 
-SAMPLES = sorted((ROOT / "samples").glob("words*.txt"))
+STORED = "answers.txt"  # the oracle's, in another form
+SAMPLES = sorted(path for path in (ROOT / "samples").glob("*.txt") if path.name != STORED)
 PROGRAM = None
 
 
@@ -32,13 +33,16 @@ def question(text):
 
 class Samples(unittest.TestCase):
     def test_the_bytes_are_what_the_text_says(self):
-        self.assertTrue(SAMPLES)
+        self.assertEqual([sample.stem for sample in SAMPLES], ["repair", "words"])
+        files = set()
         for sample in SAMPLES:
             text = aura_text.Text(sample.read_text(encoding="ascii"))
-            files = {sample.with_suffix(f".{q.name}.bin") for q in text.questions}
-            self.assertEqual(files, set(sample.parent.glob(f"{sample.stem}.*.bin")))
             for q in text.questions:
-                self.assertEqual(sample.with_suffix(f".{q.name}.bin").read_bytes(), text.input(q), q.name)
+                file = sample.with_suffix(f".{q.name}.bin")
+                files.add(file)
+                self.assertEqual(file.read_bytes(), text.input(q), file.name)
+                self.assertIsNotNone(q.printed(), f"{file.name} has no answer in the text")
+        self.assertEqual(files, set((ROOT / "samples").glob("*.bin")))
 
     def test_the_program_answers_as_the_text_says(self):
         if PROGRAM is None:

@@ -11,7 +11,8 @@ by from process to process is in that figure too (docs/DECISIONS.md, 46). A row 
 compared. Prints a page with every run; --write also stores it. Exit status 1 where a row is slower, 2 where the programs cannot
 be compared.
 
-A library from before the test load is linked with --no-default-features; do so for all.
+A library from before document 02's orders is linked with --no-default-features, one from before order 2 with --features load
+besides; do so for all.
 """
 
 import argparse

@@ -35,6 +35,43 @@
 //! assert!(!answer.passed());
 //! ```
 //!
+//! A class goes where a class above it is expected, whether its own superclass or one further up: as an argument, and in
+//! comparisons. So does an array or a list of it where an array of the class above is expected, and either may be nullable.
+//! The other way round it does not:
+//!
+//! ```
+//! use aura_judge::{judge, DiagnosticKind, Type};
+//!
+//! let name = |name: &str| {
+//!     let mut record = [&[1, name.len() as u8], name.as_bytes()].concat();
+//!     record.resize(26, 0);
+//!     record
+//! };
+//! let table = [
+//!     name("Page"),                                                  // 40
+//!     name("ScannedPage"),                                           // 41
+//!     name("repair"),                                                // 42
+//!     name("deskew"),                                                // 43
+//!     vec![2, 40, 0, 255, 255, 255, 255, 1],                         // class Page
+//!     vec![2, 41, 0, 40, 0, 255, 255, 1],                            // class ScannedPage, superclass Page
+//!     vec![4, 255, 255, 42, 0, 0, 0, 1, 11, 20, 0, 0, 17, 40, 0],    // repair(first: Page) -> Unit
+//!     vec![4, 255, 255, 43, 0, 0, 0, 1, 11, 20, 0, 0, 17, 41, 0],    // deskew(first: ScannedPage) -> Unit
+//! ]
+//! .concat();
+//! // A call with one argument, a leaf.
+//! let question = |function: u8, class: u8| [255, 255, 255, 255, 0, 5, function, 0, 1, 0, 17, class, 0];
+//! let mut buffer = [0; 320];
+//!
+//! let answer = judge(&table, &question(42, 41), &mut buffer); // repair(scan)
+//! assert!(answer.passed());
+//! assert_eq!(answer.ty(), Some(&Type::Unit));
+//!
+//! let answer = judge(&table, &question(43, 40), &mut buffer); // deskew(page)
+//! assert!(!answer.passed());
+//! let all: Vec<_> = answer.diagnostics().collect();
+//! assert_eq!((all.len(), all[0].kind, all[0].number), (1, DiagnosticKind::Mismatch, 1));
+//! ```
+//!
 //! [`load`] writes questions to test with, the same ones on every machine.
 //!
 //! The judge uses the caller's stack and no heap; what this crate allocates is the [`Type`]. [`raw::judge`] allocates

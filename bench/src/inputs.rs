@@ -6,6 +6,8 @@ use reading::bytes::*;
 use reading::name::{BUILT_IN, NONE};
 use reading::rng::Rng;
 use reading::words::load::load;
+#[cfg(any(feature = "subclass", test))]
+use reading::words::table::record_lengths;
 
 /// What a table is made of.
 #[derive(Debug, Clone, Copy, PartialEq, Eq)]
@@ -27,6 +29,8 @@ pub enum Make {
     Classes,
     /// Functions that all have one bucket; questions call the last.
     BucketFunctions,
+    /// Classes that are one chain, and functions of one list that take its top; questions pass its lowest class.
+    Chain,
 }
 
 impl Make {
@@ -42,7 +46,14 @@ impl Make {
             Make::BucketFields => "fields of few buckets",
             Make::Classes => "classes, superclass without a record",
             Make::BucketFunctions => "functions of one bucket",
+            Make::Chain => "one chain of classes, functions that take its top",
         }
+    }
+
+    /// Whether a class has a superclass, so that the Rust is no yardstick (document 02, order 2: "Runs beside the Rust use
+    /// tables without superclasses").
+    pub fn has_superclasses(self) -> bool {
+        matches!(self, Make::Classes | Make::Chain)
     }
 }
 
@@ -51,6 +62,8 @@ pub const MAKES: [Make; 4] = [Make::Names, Make::Fields, Make::Many, Make::Few];
 pub const CHOSEN: [Make; 5] =
     [Make::BucketNames, Make::DeepNames, Make::BucketFields, Make::Classes, Make::BucketFunctions];
 pub const SIZES: [usize; 3] = [2048, 16_384, 60_000];
+/// Each twice the one before.
+pub const DOUBLED: [usize; 6] = [1875, 3750, 7500, 15_000, 30_000, 60_000];
 /// The bytes of the tables that take turns where growth is measured.
 pub const TURN: usize = 240_000;
 
@@ -60,6 +73,12 @@ const NAME_RECORD: usize = 26;
 const CLASS_RECORD: usize = 8;
 /// The bytes of a function with one parameter and types of one byte.
 const CALLED: usize = 13;
+/// The chain's top; its lowest class is `FIRST`.
+const TOP: u16 = FIRST + 1;
+/// The calls among the 8 nodes of a question under a chain.
+pub const CHAIN_CALLS: usize = 7;
+/// Where a `Table` has its records of kind 2.
+const CLASSES: usize = 1;
 
 /// A table that grows while it has room.
 struct Filler {
@@ -127,17 +146,24 @@ fn records(make: Make, size: usize) -> Table {
         Make::BucketFields => bucket_fields(&mut f, size),
         Make::Classes => classes(&mut f, &page_names(named_classes(size))),
         Make::BucketFunctions => bucket_functions(&mut f, size),
+        Make::Chain => chain(&mut f, size),
     }
     f.table
 }
 
-/// The same records in a random order within each kind. The last one stays, since questions may ask for it. Ids mean
-/// names by place, so that other names stand for them.
-fn shuffled(mut table: Table, rng: &mut Rng) -> Vec<u8> {
+fn shuffle<T>(items: &mut [T], rng: &mut Rng) {
+    for i in (1..items.len()).rev() {
+        items.swap(i, rng.below(i + 1));
+    }
+}
+
+/// The same records in a random order within each kind. The last one stays, since questions may ask for it, and so do the
+/// classes of a chain, whose superclass has to come first. Ids mean names by place, so that other names stand for them.
+fn shuffled(mut table: Table, make: Make, rng: &mut Rng) -> Vec<u8> {
     let last = table.records.iter_mut().rev().find_map(Vec::pop);
-    for records in &mut table.records {
-        for i in (1..records.len()).rev() {
-            records.swap(i, rng.below(i + 1));
+    for (place, records) in table.records.iter_mut().enumerate() {
+        if make != Make::Chain || place != CLASSES {
+            shuffle(records, rng);
         }
     }
     [table.bytes(), last.unwrap_or_default()].concat()
@@ -250,6 +276,37 @@ fn bucket_functions(f: &mut Filler, size: usize) {
     f.put(called);
 }
 
+/// Half of the bytes are classes with their names. They are one chain, its ids in a random order but for the top and the
+/// lowest. The rest are functions of one list that take the top and give the lowest, so that a call that passes the lowest
+/// is a tie of them all.
+fn chain(f: &mut Filler, size: usize) {
+    let ids = f.names(size / 2 / (NAME_RECORD + CLASS_RECORD));
+    let mut between: Vec<u16> = (TOP + 1..ids).collect();
+    shuffle(&mut between, &mut Rng::new(1, 2, 6));
+    let mut above = NONE;
+    for class in [TOP].into_iter().chain(between).chain([FIRST]) {
+        f.put(|t| t.class(class, above, NONE, true));
+        above = class;
+    }
+    while f.put(|t| t.plain(FIRST, &named(FIRST), &[(20, 0, named(TOP))])) {}
+}
+
+/// The records of a table, one by one.
+#[cfg(any(feature = "subclass", test))]
+fn split(table: &[u8]) -> Vec<&[u8]> {
+    let mut rest = table;
+    let mut next = |len: usize| rest.split_off(..len).expect("a whole record");
+    record_lengths(table).into_iter().map(&mut next).collect()
+}
+
+/// How many classes and functions a table has.
+#[cfg(any(feature = "subclass", test))]
+pub fn counts(table: &[u8]) -> (usize, usize) {
+    let records = split(table);
+    let count = |kind: u8| records.iter().filter(|record| record[0] == kind).count();
+    (count(2), count(4))
+}
+
 /// What a question asks for under a table: two nodes.
 fn unit(make: Make) -> Bytes {
     match make {
@@ -270,15 +327,22 @@ fn tree(nodes: usize, make: Make) -> Bytes {
 
 /// A question of this many nodes that uses what the table has.
 pub fn nodes(count: usize, make: Make) -> Vec<u8> {
-    question(&tree(count, make))
+    match make {
+        Make::Chain => nested(count - 1, make),
+        _ => question(&tree(count, make)),
+    }
 }
 
-/// Calls in calls: of the table's function where it has functions, else method calls on an Any.
+/// Calls in calls: of the table's function where it has functions, else method calls on an Any. Under a chain they pass its
+/// lowest class.
 pub fn nested(depth: usize, make: Make) -> Vec<u8> {
-    let mut tree = leaf(&[INT]);
+    let mut tree = match make {
+        Make::Chain => leaf(&named(FIRST)),
+        _ => leaf(&[INT]),
+    };
     for _ in 0..depth {
         tree = match make {
-            Make::Many | Make::Few => call(FIRST, &[tree]),
+            Make::Many | Make::Few | Make::Chain => call(FIRST, &[tree]),
             _ => method(20, &tree, &[]),
         };
     }
@@ -301,7 +365,7 @@ pub fn turn(make: Make, size: usize) -> Vec<Input> {
     let mut input = || Input {
         make,
         asked: "8 nodes".to_string(),
-        table: shuffled(records.clone(), &mut rng),
+        table: shuffled(records.clone(), make, &mut rng),
         question: nodes(8, make),
     };
     (0..TURN / size).map(|_| input()).collect()
@@ -439,25 +503,46 @@ fn wide_leaves(last: &[u8]) -> Vec<u8> {
 mod tests {
     use super::*;
     use crate::measure::BUFFER;
-    use reading::words::table::record_lengths;
+    use reading::words::{self, lent};
 
-    /// The records of a table, one by one.
-    fn split(table: &[u8]) -> Vec<&[u8]> {
-        let mut rest = table;
-        let mut next = |len: usize| rest.split_off(..len).expect("a whole record");
-        record_lengths(table).into_iter().map(&mut next).collect()
-    }
-
-    /// What the Rust answers.
+    /// What the words answer.
     fn answered(input: &Input) -> String {
         let mut buffer = [0; BUFFER];
-        let a = oracle::answer(&input.table, &input.question, &mut buffer);
+        let a = lent::answer(&words::said(&input.table, &input.question), &mut buffer);
         format!("{:?}", (a.number, a.pass, a.len, a.count, a.ty, buffer))
+    }
+
+    /// The class and the superclass of each class record.
+    fn superclasses(table: &[u8]) -> Vec<(u16, u16)> {
+        let id = |record: &[u8], at: usize| u16::from_le_bytes([record[at], record[at + 1]]);
+        split(table).into_iter().filter(|record| record[0] == 2).map(|record| (id(record, 1), id(record, 3))).collect()
+    }
+
+    #[test]
+    fn superclasses_are_where_they_are_said_to_be() {
+        for make in MAKES.into_iter().chain(CHOSEN).chain([Make::Nothing, Make::Chain]) {
+            let found = superclasses(&table(make, 7500)).iter().any(|(_, above)| *above != NONE);
+            assert_eq!(found, make.has_superclasses(), "{}", make.words());
+        }
+    }
+
+    #[test]
+    fn a_chain_is_half_of_the_table() {
+        for (size, classes, functions) in [(1875, 27, 56), (7500, 110, 221), (60_000, 882, 1765)] {
+            let bytes = table(Make::Chain, size);
+            assert_eq!(counts(&bytes), (classes, functions));
+            let chain = superclasses(&bytes);
+            assert_eq!((chain[0], chain[classes - 1].0), ((TOP, NONE), FIRST));
+            assert!(chain.windows(2).all(|pair| pair[1].1 == pair[0].0));
+            assert!((classes * 34).abs_diff(functions * 17) < 34 + 17);
+            assert!(split(&bytes)[2 * classes..].iter().all(|record| record.ends_with(&named(TOP))));
+        }
+        assert_eq!(nodes(8, Make::Chain), nested(CHAIN_CALLS, Make::Chain));
     }
 
     #[test]
     fn tables_of_a_turn_differ_in_the_order_of_their_records() {
-        for make in MAKES.into_iter().chain(CHOSEN) {
+        for make in MAKES.into_iter().chain(CHOSEN).chain([Make::Chain]) {
             let plain = Input { make, asked: String::new(), table: table(make, 7500), question: nodes(8, make) };
             let mut records = split(&plain.table);
             let last = records[records.len() - 1];

@@ -5,7 +5,8 @@
 //!     cargo run --release -- --quick    a short run, to see that it works
 //!     cargo run --release -- --lines    prints a line for each row instead of the page, for tools/turns.py
 //!
-//! With --no-default-features it links a library from before the test load, whose writer is then not measured.
+//! With --no-default-features it links a library from before document 02's orders; --features load one from before order 2
+//! alone. What the library lacks is then not measured.
 
 mod collide;
 mod inputs;
@@ -16,10 +17,10 @@ mod stack;
 #[cfg_attr(not(feature = "load"), allow(dead_code))]
 mod writing;
 
-use inputs::{Input, Make, CHOSEN, MAKES};
+use inputs::{Input, Make, CHOSEN, DOUBLED, MAKES};
 use measure::{judging, least, parts, Case, Effort, Times, BUFFER};
 use plot::{Panel, Series};
-use report::{Growth, NodeGrowth, RefusedRow, Report, Row};
+use report::{ChainRow, Growth, NodeGrowth, RefusedRow, Report, Row};
 use std::time::Duration;
 use writing::Writing;
 #[cfg(feature = "load")]
@@ -46,12 +47,28 @@ fn rows(effort: Effort) -> Vec<Row> {
 
 fn growth(effort: Effort) -> Vec<Growth> {
     let of = |make: Make| {
-        let turns = [1875, 3750, 7500, 15_000, 30_000, 60_000].map(|size| inputs::turn(make, size));
+        let turns = DOUBLED.map(|size| inputs::turn(make, size));
         let times = parts(turns.iter().map(|inputs| Case::new(inputs)).collect(), effort);
         let lengths = turns.iter().map(|inputs| inputs[0].table.len());
         Growth { make, steps: lengths.zip(times).collect() }
     };
     MAKES.into_iter().chain(CHOSEN).map(of).collect()
+}
+
+/// Chains of classes by size: the judge alone.
+#[cfg(feature = "subclass")]
+fn chains(effort: Effort) -> Vec<ChainRow> {
+    let turns = DOUBLED.map(|size| inputs::turn(Make::Chain, size));
+    let row = |(inputs, (check, whole)): (&Vec<Input>, (f64, f64))| {
+        let (classes, functions) = inputs::counts(&inputs[0].table);
+        ChainRow { bytes: inputs[0].table.len(), classes, functions, check, whole }
+    };
+    turns.iter().zip(measure::judged(&turns, effort)).map(row).collect()
+}
+
+#[cfg(not(feature = "subclass"))]
+fn chains(_: Effort) -> Vec<ChainRow> {
+    Vec::new()
 }
 
 fn nodes(effort: Effort) -> Vec<NodeGrowth> {
@@ -185,6 +202,7 @@ fn main() {
         command: COMMAND.to_string(),
         rows: rows(effort),
         growth: growth(effort),
+        chains: chains(effort),
         nodes: nodes(effort),
         refused: refused(effort),
         buffers: buffers(effort),

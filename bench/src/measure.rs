@@ -24,6 +24,11 @@ pub struct Effort {
 }
 
 impl Effort {
+    /// That of so many inputs which are measured in turn.
+    fn of_all(self, inputs: usize) -> Effort {
+        Effort { time: self.time * inputs as u32, ..self }
+    }
+
     fn goes_on(self, rounds: usize, took: Duration) -> bool {
         rounds < 3 || took < self.time || (rounds < self.wanted && took < 10 * self.time)
     }
@@ -148,6 +153,10 @@ pub fn least(parts: &mut [Part], effort: Effort) -> Vec<f64> {
     times
 }
 
+fn tables(inputs: &[Input]) -> Vec<&[u8]> {
+    inputs.iter().map(|input| input.table.as_slice()).collect()
+}
+
 /// One question and the tables that take turns under it.
 pub struct Case<'a> {
     tables: Vec<&'a [u8]>,
@@ -162,7 +171,7 @@ impl<'a> Case<'a> {
     pub fn new(inputs: &'a [Input]) -> Case<'a> {
         inputs.iter().for_each(same_answer);
         let asked = inputs[0].question.as_slice();
-        let tables: Vec<&[u8]> = inputs.iter().map(|input| input.table.as_slice()).collect();
+        let tables = tables(inputs);
         let filled: Vec<_> = tables.iter().map(|bytes| table::fill(bytes)).collect();
         let names: Vec<_> = filled.iter().map(|filled| filled.names.clone()).collect();
         let built = names.iter().map(|names| question::build(asked, names)).collect();
@@ -184,19 +193,33 @@ impl<'a> Case<'a> {
 
 /// All parts of each case, which run in turn as well.
 pub fn parts(mut cases: Vec<Case>, effort: Effort) -> Vec<Times> {
-    let effort = Effort { time: effort.time * cases.len() as u32, ..effort };
+    let effort = effort.of_all(cases.len());
     let mut parts: Vec<Part> = cases.iter_mut().flat_map(Case::parts).collect();
     let of = |t: &[f64]| Times { check: t[0], whole: t[1], fill: t[2], build: t[3], run: t[4] };
     least(&mut parts, effort).chunks_exact(5).map(of).collect()
 }
 
-/// Stops where the judge and a yardstick differ on an input, where the Rust is none, or where it is refused.
+/// The judge's own times alone, `check` and `whole`, of tables that take turns under one question. The cases take turns as
+/// well.
+#[cfg(feature = "subclass")]
+pub fn judged(cases: &[Vec<Input>], effort: Effort) -> Vec<(f64, f64)> {
+    cases.iter().flatten().for_each(same_answer);
+    let tables: Vec<_> = cases.iter().map(|inputs| tables(inputs)).collect();
+    let asked = cases.iter().map(|inputs| inputs[0].question.as_slice());
+    let parts = tables.iter().zip(asked).flat_map(|(tables, asked)| [&[], asked].map(|q| judging(tables, q, BUFFER)));
+    let mut parts: Vec<Part> = parts.collect();
+    least(&mut parts, effort.of_all(cases.len())).chunks_exact(2).map(|t| (t[0], t[1])).collect()
+}
+
+/// Stops where the judge and a yardstick differ on an input, where it is refused, or where the Rust is no yardstick although
+/// no class has a superclass.
 fn same_answer(input: &Input) {
     let case = gen::Case { table: input.table.clone(), question: input.question.clone(), buffer: BUFFER };
     let said = format!("{}, {} bytes, {}", input.make.words(), input.table.len(), input.asked);
     let compared = Space::default().compare(yardstick::ALL, &case, false);
     let outcome = compared.unwrap_or_else(|what| panic!("{said}: {what}"));
-    assert!(outcome.number == 0 && outcome.speaks.iter().all(|speaks| *speaks), "{said}");
+    let [rust, words] = outcome.speaks[..] else { panic!("{said}: a yardstick is missing") };
+    assert!(outcome.number == 0 && words && (rust || input.make.has_superclasses()), "{said}");
 }
 
 #[cfg(test)]

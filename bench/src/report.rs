@@ -1,7 +1,7 @@
 //! The measured numbers as a page.
 
 use crate::collide::SAME;
-use crate::inputs::{Make, TURN};
+use crate::inputs::{Make, CHAIN_CALLS, TURN};
 use crate::measure::Times;
 use crate::writing::{Writing, STARTS};
 use aura_judge::raw::LOAD_LONGEST;
@@ -42,6 +42,27 @@ impl Growth {
     }
 }
 
+/// One chain of classes with functions that take its top.
+pub struct ChainRow {
+    pub bytes: usize,
+    pub classes: usize,
+    pub functions: usize,
+    /// As in `Times`; there is no Rust beside them.
+    pub check: f64,
+    pub whole: f64,
+}
+
+impl ChainRow {
+    fn judgement(&self) -> f64 {
+        (self.whole - self.check).max(0.0)
+    }
+
+    /// Nanoseconds of the judgement for each call, class and function.
+    fn step(&self) -> f64 {
+        self.judgement() / (CHAIN_CALLS * self.classes * self.functions) as f64
+    }
+}
+
 /// Times by node count under one table.
 pub struct NodeGrowth {
     pub name: String,
@@ -60,6 +81,8 @@ pub struct Report {
     pub command: String,
     pub rows: Vec<Row>,
     pub growth: Vec<Growth>,
+    /// Empty where the library has no such rule.
+    pub chains: Vec<ChainRow>,
     pub nodes: Vec<NodeGrowth>,
     pub refused: Vec<RefusedRow>,
     /// The lent buffer's length, and the time of a question of one node without a table.
@@ -85,6 +108,9 @@ pub fn lines(report: &Report) -> String {
         for (bytes, times) in steps {
             line(format!("growth: {}, {bytes} bytes", make.words()), times.whole, Some(times.rust()));
         }
+    }
+    for ChainRow { bytes, whole, .. } in &report.chains {
+        line(format!("growth: {}, {bytes} bytes", Make::Chain.words()), *whole, None);
     }
     for NodeGrowth { name, steps } in &report.nodes {
         for (count, times) in steps {
@@ -141,6 +167,34 @@ fn bars(report: &Report) -> String {
         verdict(&mut out, &bar, format!("{:.2}", longest.ratio()), longest.ratio() <= 1.5);
     }
     out
+}
+
+fn chains(report: &Report) -> String {
+    if report.chains.is_empty() {
+        return "Not measured in this run.\n".to_string();
+    }
+    let mut out = String::from(
+        "| Bytes | Classes | Functions | Check | Judgement | Together | Together / that of half the bytes | Judgement / (calls × classes × functions), ns |\n\
+         |--:|--:|--:|--:|--:|--:|--:|--:|\n",
+    );
+    let mut half = None;
+    for row in &report.chains {
+        let ChainRow { bytes, classes, functions, check, whole } = row;
+        let growth = half.map_or(String::new(), |half| format!("{:.2}", whole / half));
+        let (check, judgement, together) = (us(*check), us(row.judgement()), us(*whole));
+        let _ = writeln!(
+            out,
+            "| {bytes} | {classes} | {functions} | {check} | {judgement} | {together} | {growth} | {:.2} |",
+            row.step()
+        );
+        half = Some(whole);
+    }
+    out + "
+The judgement's time goes with classes × functions, which the last column divides it by, so that
+twice the table takes about four times the time. It would be linear if the classes above an
+argument's class were found once a call, by one sweep over the class records, and marked: each
+overload would then take one look.
+"
 }
 
 fn writing(report: &Report) -> String {
@@ -210,8 +264,9 @@ pub fn page(report: &Report) -> String {
     let stack = match report.stack {
         Some(kib) => format!(
             "The questions of 64 nodes that go deepest (unary, member, named argument, call and method call, 63 in each \
-             other) run under full tables on a thread with a stack of {kib} KiB, which is the least in steps of 4 KiB; the \
-             thread's own start is in it. The judge uses no heap: the library imports \
+             other, under full tables; calls whose arguments and parameters are 189 Nullable, or 27 Nullable Arrays, over a \
+             class) run on a thread with a stack of {kib} KiB, which is the least in steps of 4 KiB; the thread's own start is \
+             in it. The judge uses no heap: the library imports \
              block operations of the C library alone (`aura-judge/tests/imports.rs`)."
         ),
         None => "Not measured in this run.".to_string(),
@@ -220,8 +275,9 @@ pub fn page(report: &Report) -> String {
         "# Speed
 
 The judge beside the Rust's own methods (`oracle/`), both built for release, in one process on the
-same inputs. The program stops where an answer differs from the Rust's. `docs/history/speed.md` has
-what was tried and what is left.
+same inputs. The program stops where an answer differs from the second reading's (`reading/`), or
+from the Rust's, which has no answer to compare where a class has a superclass
+(`docs/DIFFERENCES.md`). `docs/history/speed.md` has what was tried and what is left.
 
     {}
 
@@ -247,7 +303,8 @@ at each size as many tables as have {turn},000 bytes together take turns, with t
 other orders, and so do the sizes; a time is that of one table. `docs/DECISIONS.md`, 29, says why,
 and what one table again and again gave.
 
-The tables of the last five bars have keys chosen against the index (`bench/src/collide.rs`):
+The tables of the last five bars of that kind have keys chosen against the index
+(`bench/src/collide.rs`):
 
 - names of one bucket, otherwise random; then names of one bucket that agree in the first {SAME}
   digits by which its tree branches, so that each is searched behind at least {SAME} others where
@@ -255,13 +312,14 @@ The tables of the last five bars have keys chosen against the index (`bench/src/
 - records of kinds 5 to 8 whose owners and names have as few buckets as ids allow, half of the bytes
   being names;
 - classes of all names, whose superclass has no record and is searched before each of them and ahead
-  of it;
+  of it (the Rust is timed on these as on the others, but its answers are not compared);
 - functions of one bucket, half of the bytes being names; the question calls the last function.
 
-`cargo run --release -- --lines`, in `bench/`, prints every measured row, also those of the plot and
-of refused inputs: its name, and the nanoseconds of the judge and of the Rust's filling and methods.
-The rows under [Writing](#writing) are not among them, so that `tools/turns.py` can compare with a
-library from before the test load (`--no-default-features` links it).
+`cargo run --release -- --lines`, in `bench/`, prints every measured row, also those of the plot, of
+chains and of refused inputs: its name, and the nanoseconds of the judge and of the Rust's filling
+and methods, where it has them. The rows under [Writing](#writing) are not among them.
+`tools/turns.py` compares the rows of two libraries; one from before document 02's orders is linked
+with `--no-default-features`, which leaves out what it does not have.
 
 ## Bars
 
@@ -273,6 +331,17 @@ library from before the test load (`--no-default-features` links it).
 
 ![Time by table size and by nodes](speed.svg)
 
+## Chains of classes
+
+The classes of these tables are one chain, each the superclass of the next, and the functions are
+one list, each with one parameter, the chain's top. The question has 8 nodes: {CHAIN_CALLS} calls of that list
+in each other, of which the innermost passes the lowest class. Every function gives the lowest class
+again, so that each call climbs the whole chain for every function, and is a tie of them all. Half
+of the bytes are classes with their names and half are functions, which is the worst: the product of
+two shares of the same bytes is largest where the shares are equal. The tables take turns as above.
+The Rust does not have the rule, so that there is no ratio; no bar is set (order 6 sets it).
+
+{}
 ## Writing
 
 A question of the test load, written to a buffer of {LOAD_LONGEST} bytes by the library (`aura_load`) and
@@ -289,6 +358,7 @@ do {STARTS} start numbers; a time is that of one question, here in nanoseconds.
         wrapped(&buffers, "  "),
         bars(report),
         rows(report),
+        chains(report),
         writing(report),
         wrapped(&stack, ""),
         turn = TURN / 1000,
@@ -306,6 +376,10 @@ mod tests {
             command: "cargo run".to_string(),
             rows: vec![Row { make: Make::Nothing, bytes: 0, asked: "1 node".to_string(), times }],
             growth: vec![Growth { make: Make::Names, steps: vec![(1875, times), (3750, times)] }],
+            chains: vec![
+                ChainRow { bytes: 1864, classes: 27, functions: 55, check: 2000.0, whole: 22_790.0 },
+                ChainRow { bytes: 3744, classes: 55, functions: 110, check: 4000.0, whole: 91_160.0 },
+            ],
             nodes: vec![],
             refused: vec![],
             buffers: [0, 320, 4096, 65_535].map(|bytes| (bytes, 123_456.7)).to_vec(),
@@ -323,6 +397,19 @@ mod tests {
         assert!(slow.contains("time | 1.50 | **not met** |"));
         assert!(!lines(&report()).contains("load"));
         assert!(!page(&Report { writing: vec![], ..report() }).contains("a load of"));
+    }
+
+    /// 20.79 µs for 7 calls, 27 classes and 55 functions.
+    #[test]
+    fn a_chain_has_its_row_and_no_bar() {
+        let text = page(&report());
+        assert!(text.contains("| 1864 | 27 | 55 | 2.00 | 20.8 | 22.8 |  | 2.00 |"));
+        assert!(text.contains("| 3744 | 55 | 110 | 4.00 | 87.2 | 91.2 | 4.00 | 2.06 |"));
+        assert!(!bars(&report()).contains("chain"));
+        let rows = "growth: one chain of classes, functions that take its top, 1864 bytes\t22790.00\t\n\
+                    growth: one chain of classes, functions that take its top, 3744 bytes\t91160.00\t\n";
+        assert!(lines(&report()).contains(rows));
+        assert!(!lines(&Report { chains: vec![], ..report() }).contains("chain"));
     }
 
     #[test]

@@ -3,6 +3,7 @@
 use crate::inputs::{table, Make};
 use aura_judge::raw;
 use reading::bytes::*;
+use reading::name::NONE;
 use std::process::{Command, Stdio};
 
 /// Stacks are tried in steps of this many KiB.
@@ -20,7 +21,18 @@ fn deepest() -> Vec<(Vec<u8>, Vec<u8>)> {
         (table(Make::Few, 60_000), repeat(&[5, 40, 0, 1])),
         (table(Make::Few, 60_000), repeat(&[6, 40, 0, 0])),
         (table(Make::BucketFields, 60_000), repeat(&[3, 40, 0])),
+        deepest_types(|class| nullables(189, &named(class))),
+        deepest_types(|class| (0..27).fold(named(class), |ty, _| nullable(&array(None, &ty)))),
     ]
+}
+
+/// Calls in each other, where assignability goes through all of two types of 192 bytes each to a class and its superclass.
+fn deepest_types(wide: impl Fn(u16) -> Bytes) -> (Vec<u8>, Vec<u8>) {
+    let (mut t, above, class) = (Table::new(), 6, 7);
+    t.class(above, NONE, NONE, true);
+    t.class(class, above, NONE, true);
+    t.plain(20, &wide(class), &[(21, 0, wide(above))]);
+    (t.bytes(), question(&[[5, 20, 0, 1].repeat(63), leaf(&wide(class))].concat()))
 }
 
 /// What a child does: all of them on a thread with this stack.

@@ -39,7 +39,7 @@ pub fn sweeps() -> Vec<Batch> {
 }
 
 /// How many mixed cases CI runs beside the sweeps.
-pub const CI_COUNT: u64 = 300_000;
+pub const CI_COUNT: u64 = 325_000;
 pub const CI_SEED: u64 = 1;
 
 /// Every fourth case is asked at the buffer lengths around number 12 too.

@@ -2,6 +2,9 @@
 
 use aura_judge::raw;
 use compare::load::Asked;
+use reading::bytes::without_superclasses;
+use reading::name::NONE;
+use reading::words::table::record_lengths;
 use reading::Written;
 use std::arch::asm;
 use std::hint::black_box;
@@ -33,9 +36,11 @@ pub enum Fault {
     ReadBefore,
     /// One bit of the last byte of a test load's buffer.
     Load,
+    /// No class goes where its superclass is expected.
+    Subclass,
 }
 
-const NAMES: [(&str, Fault); 13] = [
+const NAMES: [(&str, Fault); 14] = [
     ("number", Fault::Number),
     ("answer", Fault::Answer),
     ("buffer", Fault::Buffer),
@@ -49,6 +54,7 @@ const NAMES: [(&str, Fault); 13] = [
     ("read-behind", Fault::ReadBehind),
     ("read-before", Fault::ReadBefore),
     ("load", Fault::Load),
+    ("subclass", Fault::Subclass),
 ];
 
 extern "C" {
@@ -86,6 +92,11 @@ impl Fault {
                     answer[1] ^= 1;
                 }
             }
+            // Superclasses count for nothing else then.
+            Fault::Subclass if number == 0 && only_assignability_climbs(table, question) => {
+                return raw::judge(&without_superclasses(table), question, buffer, answer);
+            }
+            Fault::Subclass => {}
             Fault::Leak => std::mem::forget(black_box(vec![number; 64])),
             // SAFETY: none, and that is what each is for.
             _ => unsafe { self.overstep(table, question, buffer) },
@@ -127,4 +138,16 @@ impl Fault {
             _ => {}
         }
     }
+}
+
+/// Whether protected access and operator methods have nothing to climb from: the question has no current type, and the
+/// table no operator set.
+fn only_assignability_climbs(table: &[u8], question: &[u8]) -> bool {
+    let mut at = 0;
+    let mut operator_sets = false;
+    for len in record_lengths(table) {
+        operator_sets |= table[at] == 3;
+        at += len;
+    }
+    !operator_sets && question.starts_with(&NONE.to_le_bytes())
 }

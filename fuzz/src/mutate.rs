@@ -155,8 +155,14 @@ fn change_field(rng: &mut Rng, table: &mut [u8]) {
         return;
     }
     let id = if rng.chance(15) { NONE } else { some_id(rng, table) };
-    let record = &mut table[rng.pick(&records).clone()];
+    let place = rng.pick(&records).clone();
+    // A superclass whose record stands earlier is accepted.
+    let above = class_ids(&table[..place.start]);
+    let record = &mut table[place];
     match (rng.below(3), record[0]) {
+        (1, 2) if !above.is_empty() && rng.chance(80) => {
+            record[3..5].copy_from_slice(&rng.pick(&above).to_le_bytes());
+        }
         (0, _) => record[1..3].copy_from_slice(&id.to_le_bytes()),
         (1, _) => record[3..5].copy_from_slice(&id.to_le_bytes()),
         (_, 2) if rng.chance(50) => record[5..7].copy_from_slice(&id.to_le_bytes()),
@@ -165,6 +171,19 @@ fn change_field(rng: &mut Rng, table: &mut [u8]) {
         (_, 4 | 6) => record[5] = rng.below(4) as u8,
         _ => {}
     }
+}
+
+/// The classes of a table that have a record.
+fn class_ids(table: &[u8]) -> Vec<u16> {
+    let mut at = 0;
+    let mut ids = Vec::new();
+    for len in record_lengths(table) {
+        if table[at] == 2 {
+            ids.push(u16::from_le_bytes([table[at + 1], table[at + 2]]));
+        }
+        at += len;
+    }
+    ids
 }
 
 /// A name of the table's members and functions, or any.
@@ -185,7 +204,12 @@ fn some_id(rng: &mut Rng, table: &[u8]) -> u16 {
 
 fn some_type(rng: &mut Rng, table: &[u8]) -> Bytes {
     let names = name_count(table);
-    let types: Vec<u16> = (0..4).map(|_| rng.below(names) as u16).collect();
+    let classes = class_ids(table);
+    let one = |rng: &mut Rng| match classes.is_empty() || rng.chance(50) {
+        true => rng.below(names) as u16,
+        false => *rng.pick(&classes),
+    };
+    let types: Vec<u16> = (0..4).map(|_| one(rng)).collect();
     // The list's types name up to four names of the table.
     match names >= 44 && rng.chance(50) {
         true => rng.pick(type_list()).clone(),

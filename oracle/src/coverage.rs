@@ -1,6 +1,6 @@
 //! How often each refusal number, operator, node kind, diagnostic and ruling occurs in generated cases.
 
-use crate::answer::Run;
+use crate::answer::{Outside, Run};
 use reading::gen::{self, Case, PROFILES};
 use reading::hex::hex;
 use reading::words::{self, clean::Typing, judgement::Judged, lent};
@@ -17,7 +17,9 @@ pub enum Item {
     Diagnostic(u8, u16),
     Ruling(&'static str),
     Passed,
-    Outside,
+    /// Compared with the Rust.
+    Inside,
+    Outside(Outside),
 }
 
 impl std::fmt::Display for Item {
@@ -30,7 +32,9 @@ impl std::fmt::Display for Item {
             Item::Diagnostic(kind, number) => write!(f, "diagnostic {} with {}", kind, number),
             Item::Ruling(what) => write!(f, "ruling: {}", what),
             Item::Passed => write!(f, "passed"),
-            Item::Outside => write!(f, "outside the compared domain"),
+            Item::Inside => write!(f, "judged and compared with the Rust"),
+            Item::Outside(Outside::Superclass) => write!(f, "outside the compared domain: a superclass"),
+            Item::Outside(Outside::Spelling) => write!(f, "outside the compared domain: a base spells an owner"),
         }
     }
 }
@@ -61,11 +65,12 @@ pub fn required() -> Vec<Item> {
         items.extend(numbers.map(|n| Item::Diagnostic(kind, n)));
     }
     items.extend(RULINGS.map(Item::Ruling));
-    items.extend([Item::Passed, Item::Outside]);
+    items.extend([Item::Passed, Item::Inside]);
+    items.extend([Outside::Superclass, Outside::Spelling].map(Item::Outside));
     items
 }
 
-pub const RULINGS: [&str; 24] = [
+pub const RULINGS: [&str; 29] = [
     "an exact match",
     "an accepted match",
     "a type variable accepted",
@@ -90,6 +95,11 @@ pub const RULINGS: [&str; 24] = [
     "a match with a vararg that is not last",
     "a match beside an unknown name",
     "an empty list",
+    "a subclass accepted",
+    "by index, a subclass accepted",
+    "a comparison with a class above",
+    "an operator method of a superclass",
+    "protected access from a subclass",
 ];
 
 impl Coverage {
@@ -115,11 +125,12 @@ impl Coverage {
         let described =
             |what: String| format!("{}\ntable {}\nquestion {}", what, hex(&case.table), hex(&case.question));
         demand_three(&judged, typing.as_ref()).map_err(described)?;
-        let run = Run::of(&case.table, &case.question);
-        if run.inside(&case.table) {
-            same(&judged, &run).map_err(described)?;
-        } else {
-            self.count(Item::Outside);
+        match Run::inside(&case.table, &case.question) {
+            Ok(run) => {
+                same(&judged, &run).map_err(described)?;
+                self.count(Item::Inside);
+            }
+            Err(why) => self.count(Item::Outside(why)),
         }
         self.count_judged(case, &judged, typing.is_some()).map_err(described)
     }
@@ -187,7 +198,7 @@ fn demand_three(judged: &Judged, typing: Option<&Typing>) -> Result<(), String> 
 }
 
 /// How many cases of the mixed profiles CI runs, beside every sweep whole.
-pub const CI_MIXED: u64 = 120_000;
+pub const CI_MIXED: u64 = 130_000;
 pub const CI_SEED: u64 = 1;
 
 /// The run that CI does.

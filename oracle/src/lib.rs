@@ -12,7 +12,7 @@ mod stubs;
 pub mod table;
 pub mod types;
 
-pub use answer::{answer, in_domain, printed, program};
+pub use answer::{answer, in_domain, printed, printed_by, program, Source};
 
 // The cut text names these modules by their full paths.
 mod sema {

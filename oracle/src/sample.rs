@@ -1,11 +1,12 @@
 //! Stored answers: which cases, and their text and binary forms.
 
+use crate::answer::{printed_by, Source};
 use reading::bytes::Bytes;
 use reading::examples;
 use reading::gen::{self, Profile};
 use reading::hex::hex;
 
-/// A stored case; the answer is the oracle's.
+/// A case to be stored.
 #[derive(Debug, Clone, PartialEq, Eq)]
 pub struct Stored {
     pub name: String,
@@ -18,13 +19,13 @@ pub const SEED: u64 = 2026;
 
 /// Per profile: how many cases, the longest input taken, and the step through the indices (a sweep
 /// is too long to be stored whole).
-const GENERATED: [(Profile, usize, usize, u64); 16] = [
+const GENERATED: [(Profile, usize, usize, u64); 18] = [
     (Profile::Rich, 180, 520, 1),
     (Profile::Calls, 350, 440, 1),
     (Profile::Wide, 300, 400, 1),
     (Profile::Members, 130, 520, 1),
     (Profile::Operators, 110, 520, 1),
-    (Profile::Outside, 40, 900, 1),
+    (Profile::Outside, 68, 900, 1),
     (Profile::Damaged, 250, 420, 1),
     (Profile::Boundary, 260, 500, 1),
     (Profile::Random, 200, 300, 1),
@@ -35,9 +36,11 @@ const GENERATED: [(Profile, usize, usize, u64); 16] = [
     (Profile::Assign, 200, 900, 59),
     (Profile::Flips, 200, 900, 263),
     (Profile::Typed, 180, 480, 1),
+    (Profile::Classes, 160, 480, 1),
+    (Profile::Below, 100, 900, 1_049),
 ];
 
-/// The cases in order: the named examples, then the generated ones inside the compared domain.
+/// The cases in order: the named examples, then the generated ones.
 pub fn stored() -> Vec<Stored> {
     let mut all: Vec<Stored> = Vec::new();
     for e in examples::all() {
@@ -48,8 +51,7 @@ pub fn stored() -> Vec<Stored> {
         let mut taken = 0;
         while taken < count {
             let case = gen::case(profile, SEED, index);
-            let short = case.table.len() + case.question.len() <= longest;
-            if short && crate::in_domain(&case.table, &case.question) {
+            if case.table.len() + case.question.len() <= longest {
                 let name = format!("{}.{}", profile.name(), index);
                 all.push(Stored { name, table: case.table, question: case.question });
                 taken += 1;
@@ -87,19 +89,20 @@ pub fn replayed(text: &str) -> String {
     format!("{} cases agree\n", text.lines().filter(|l| !l.starts_with('#')).count())
 }
 
-/// The contents of the first two.
+/// The contents of the first two: what the Rust answers, then what the second reading does outside its domain.
 pub fn files() -> (String, Bytes) {
-    let mut text = String::from(HEADER);
-    let mut binary = Vec::new();
+    let mut texts = [String::from(BY_RUST), String::from(BY_WORDS)];
+    let mut binaries = [Vec::new(), Vec::new()];
     for case in stored() {
-        let printed = crate::printed(&case.table, &case.question);
-        text.push_str(&text_line(&case.name, &case.table, &case.question, &printed));
+        let (source, printed) = printed_by(&case.table, &case.question);
+        let part = (source == Source::Words) as usize;
+        texts[part].push_str(&text_line(&case.name, &case.table, &case.question, &printed));
         match binary_case(&case.table, &case.question, &printed) {
-            Some(bytes) => binary.extend(bytes),
+            Some(bytes) => binaries[part].extend(bytes),
             None => panic!("{} is too long to be stored", case.name),
         }
     }
-    (text, binary)
+    (HEADER.to_string() + &texts.concat(), binaries.concat())
 }
 
 const HEADER: &str = "\
@@ -107,3 +110,8 @@ const HEADER: &str = "\
 # its inner line breaks. Bytes are in hex; - is none; xx*N stands for N times xx; . parts such runs.
 # Made by: cargo run --release --bin samples (in oracle/). See oracle/README.md.
 ";
+
+/// The lines that begin the two parts.
+pub const BY_RUST: &str =
+    "# The answers of the Rust's own methods. Refusals, 12 among them, are the second reading's.\n";
+pub const BY_WORDS: &str = "# Outside the Rust's domain: the answers of the second reading.\n";

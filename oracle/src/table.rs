@@ -89,6 +89,18 @@ fn fill_record(r: &[u8], checker: &mut Checker, names: &mut Vec<String>) -> usiz
     }
 }
 
+/// Whether some class of an accepted table has a superclass.
+pub fn has_superclass(table: &[u8]) -> bool {
+    let mut rest = table;
+    while let [kind @ (1 | 2), ..] = rest {
+        if *kind == 2 && word(rest, 3) != NONE {
+            return true;
+        }
+        rest = &rest[if *kind == 1 { 26 } else { 8 }..];
+    }
+    false
+}
+
 /// The owners that an accepted table's records of kinds 4 to 8 name, spelled.
 pub fn owners(table: &[u8], names: &[String]) -> HashSet<String> {
     let mut owners = HashSet::new();

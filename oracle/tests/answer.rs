@@ -1,10 +1,11 @@
 //! The answer, the lent buffer, the program's input, the compared domain.
 
-use oracle::{answer, in_domain, printed, program};
+use oracle::answer::{said_inside, Outside, Run};
+use oracle::{answer, in_domain, printed, printed_by, program, Source};
 use reading::bytes::*;
 use reading::gen::boundary::{diagnostics_case, most_diagnostics, table_of_length};
 use reading::name::NONE;
-use reading::Answer;
+use reading::{Answer, Said};
 
 fn one_diagnostic() -> Bytes {
     question(&unary(NOT_NULL, &leaf(&[INT])))
@@ -138,9 +139,57 @@ fn each_kind_of_owner_counts_for_the_domain() {
     assert_eq!(printed(&table.bytes(), &ask), "0 0 1 00 1\n20 0 3\n");
 }
 
+/// A table whose class 40 has this superclass; 41 has a record before it.
+fn with_superclass(superclass: u16, in_types: bool) -> Table {
+    let mut table = Table::with_names(&["Scan", "Page", "f"]);
+    table.class(41, NONE, NONE, in_types);
+    table.class(40, superclass, NONE, in_types);
+    table
+}
+
+#[test]
+fn the_compared_domain_leaves_out_tables_with_a_superclass() {
+    let ask = question(&leaf(&[INT]));
+    for in_types in [false, true] {
+        assert!(in_domain(&with_superclass(NONE, in_types).bytes(), &ask));
+        // With a record, without one, and a built-in name.
+        for superclass in [41, 42, 0] {
+            let table = with_superclass(superclass, in_types).bytes();
+            assert!(!in_domain(&table, &ask));
+            assert_eq!(Run::inside(&table, &ask).err(), Some(Outside::Superclass));
+        }
+    }
+    // Only superclasses count: the same id as package, owner, class of an operator set.
+    let mut table = with_superclass(NONE, true);
+    table.class(42, NONE, 41, true);
+    table.operators(40, 1);
+    table.function(41, 40, 1, false, &[INT], &[(41, 0, named(40))]);
+    table.field(40, 41, &named(41));
+    assert!(in_domain(&table.bytes(), &ask));
+    // A class behind all others, and the last record of the table.
+    table.class(0, 42, NONE, false);
+    assert!(!in_domain(&table.bytes(), &ask));
+}
+
+#[test]
+fn what_the_rust_says_of_a_superclass_and_what_the_words_say() {
+    let mut table = with_superclass(41, true);
+    table.plain(42, &[BOOLEAN], &[(0, 0, named(41))]);
+    let (table, ask) = (table.bytes(), question(&call(42, &[leaf(&named(40))])));
+    assert_eq!(printed(&table, &ask), "0 0 1 06 1\n17 1 1\n");
+    assert_eq!(printed_by(&table, &ask), (Source::Words, String::from("0 1 1 06 0\n")));
+    assert_eq!(said_inside(&table, &ask), None);
+}
+
 #[test]
 fn a_refused_case_is_inside() {
     assert!(in_domain(&[0], &[]) && in_domain(&[], &[]));
+    // Also where the table has a superclass: a refused question, and a refused table.
+    let mut table = with_superclass(41, true);
+    assert!(in_domain(&table.bytes(), &[]));
+    assert_eq!(said_inside(&table.bytes(), &[]), Some(Said::Refused(8)));
+    table.class(42, 42, NONE, true);
+    assert_eq!(said_inside(&table.bytes(), &question(&leaf(&[INT]))), Some(Said::Refused(6)));
 }
 
 #[test]

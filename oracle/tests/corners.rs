@@ -1,18 +1,21 @@
-//! Every sentence of document 01's "Corners in .." as a test that fails if the sentence is false.
-//! Tests made by `sentences!` run the named examples of that sentence, whose answers were written by hand.
+//! Every sentence of document 01's "Corners in ..", and of document 02's order 2, as a test that fails if the sentence is
+//! false. Tests made by `sentences!` run the named examples of that sentence, whose answers were written by hand, through
+//! the Rust inside its domain and through the second reading elsewhere.
 
 use oracle::rust::{Checker, Ty, Visibility, TY_KINDS, VISIBILITIES};
-use oracle::types::decode;
+use oracle::types::{decode, encode};
 use reading::examples;
 use reading::gen::sweep::type_list;
 use reading::name::BUILT_IN;
+use reading::words::assign::can_assign_to;
+use reading::words::symbols::Symbols;
 use std::collections::BTreeSet;
 
 fn check(sentence: &str) {
     let all: Vec<_> = examples::all().into_iter().filter(|e| e.sentence == sentence).collect();
     assert!(!all.is_empty(), "no example shows this sentence");
     for e in all {
-        assert_eq!(oracle::printed(&e.table, &e.question), e.printed(), "{}", e.name);
+        assert_eq!(oracle::printed_by(&e.table, &e.question).1, e.printed(), "{}", e.name);
     }
 }
 
@@ -31,7 +34,7 @@ sentences! {
     nullable_nothing_the_null_literal_assigns_to_int
     nullable_string_does_not_assign_to_int
     nullable_t_assigns_to_u_whenever_t_does
-    named_a_does_not_assign_to_named_b_although_b_is_its_superclass
+    named_a_assigns_to_named_b_if_b_is_met_climbing_from_a
     only_list_array_list_and_mutable_list_as_names_assign_among_themselves
     list_assigns_to_every_list
     list_assigns_to_array_by_element_type
@@ -88,6 +91,15 @@ sentences! {
     the_first_faulty_record
     the_longest_types
     what_document_01_leaves_to_the_rust
+    every_class_record_climbs_and_a_superclass_without_a_record_is_met
+    a_name_of_one_capital_letter_climbs_as_any_class_does
+    the_list_names_rules_are_not_asked_again_for_a_class_that_is_met
+    at_every_depth_where_assignability_compares_types
+    pointer_map_and_function_types_are_compared_whole
+    overloads_take_the_new_rule_and_a_subclass_match_scores_1
+    calls_of_one_overload_take_the_new_rule
+    comparisons_take_the_new_rule_in_both_directions
+    protected_access_and_operator_methods_climb_as_before
     limits_of_tables
     lengths_and_letters_of_names
     every_built_in_name_is_a_key
@@ -118,6 +130,31 @@ fn every_sentence_with_an_example_is_listed() {
     let used: BTreeSet<&str> = examples::all().iter().map(|e| e.sentence).collect();
     let listed: BTreeSet<&str> = LISTED.iter().copied().collect();
     assert_eq!(used, listed);
+}
+
+/// Sentences of which no example is inside the Rust's domain: their examples need a superclass.
+const BY_THE_WORDS_ALONE: &[&str] = &[
+    "named_a_assigns_to_named_b_if_b_is_met_climbing_from_a",
+    "the_climb_stops_at_a_class_without_an_operator_set",
+    "no_climb_to_superclasses",
+    "a_name_of_one_capital_letter_climbs_as_any_class_does",
+    "the_list_names_rules_are_not_asked_again_for_a_class_that_is_met",
+    "at_every_depth_where_assignability_compares_types",
+    "pointer_map_and_function_types_are_compared_whole",
+    "overloads_take_the_new_rule_and_a_subclass_match_scores_1",
+    "calls_of_one_overload_take_the_new_rule",
+    "comparisons_take_the_new_rule_in_both_directions",
+    "protected_access_and_operator_methods_climb_as_before",
+];
+
+#[test]
+fn every_other_sentence_has_an_example_that_the_rust_answers() {
+    let inside = |sentence: &&&str| {
+        examples::all().iter().any(|e| e.sentence == **sentence && oracle::in_domain(&e.table, &e.question))
+    };
+    let (by_rust, by_words): (Vec<&str>, Vec<&str>) = LISTED.iter().partition(inside);
+    assert_eq!(by_words, BY_THE_WORDS_ALONE);
+    assert_eq!(by_rust.len() + by_words.len(), LISTED.len());
 }
 
 // What the sentences say of all types, over a list of types that has every kind.
@@ -170,6 +207,26 @@ fn for_all_names_only_the_list_names_assign_to_another_name() {
             assert_eq!(assigns, a == b || among, "{} to {}", a, b);
         }
     }
+}
+
+/// Document 02, order 2, adds nothing where no class has a superclass.
+#[test]
+fn for_all_types_the_words_assign_as_the_rust_does_where_no_class_has_a_superclass() {
+    let names = names();
+    let id = |name: &str| names.iter().position(|n| n == name).expect("a name") as u16;
+    let bytes = |ty: &Ty| {
+        let mut bytes = Vec::new();
+        encode(ty, &id, &mut bytes);
+        bytes
+    };
+    let (symbols, mut yes, mut no) = (Symbols::default(), 0, 0);
+    pairs(|t, u| {
+        let assigns = t.can_assign_to(u);
+        assert_eq!(can_assign_to(&symbols, &bytes(t), &bytes(u)), assigns, "{} to {}", t.name(), u.name());
+        yes += assigns as usize;
+        no += !assigns as usize;
+    });
+    assert!(yes > 1_000 && no > 1_000);
 }
 
 #[test]

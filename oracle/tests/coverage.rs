@@ -1,6 +1,7 @@
 //! The run that CI does: everything occurs often enough, and the words agree with the Rust on every call.
 
-use oracle::coverage::{ci_run, required, Coverage, CI_MIXED, CI_SEED};
+use oracle::answer::Outside;
+use oracle::coverage::{ci_run, required, Coverage, Item, CI_MIXED, CI_SEED};
 use reading::gen::{self, Profile, PROFILES};
 
 #[test]
@@ -8,7 +9,10 @@ fn every_number_operator_node_kind_and_diagnostic_occurs_at_least_100_times() {
     let coverage = ci_run(CI_MIXED, CI_SEED).unwrap_or_else(|e| panic!("{}", e));
     let faults = coverage.faults();
     assert!(faults.is_empty(), "too seldom: {}", faults.join(", "));
-    assert!(coverage.cases > 300_000);
+    assert!(coverage.cases > 700_000);
+    // Half of the judged cases and more are compared with the Rust.
+    let outside: u64 = [Outside::Superclass, Outside::Spelling].map(|why| coverage.of(Item::Outside(why))).iter().sum();
+    assert!(coverage.of(Item::Inside) > 200_000 && coverage.of(Item::Inside) > outside);
 }
 
 #[test]
@@ -67,7 +71,7 @@ fn the_same_seed_gives_the_same_bytes() {
     assert_ne!(gen::mixed(1, 0), gen::mixed(2, 0));
 }
 
-const CHECKSUM: u64 = 0x7fc4_d5d7_24ae_2a65;
+const CHECKSUM: u64 = 0xc716_f6c3_baca_47f5;
 
 #[test]
 fn the_type_list_has_at_least_60_types() {

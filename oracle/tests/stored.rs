@@ -1,6 +1,7 @@
 //! The stored answers are what the oracle says today.
 
-use oracle::sample::{files, replayed, BINARY, REPLAYED, TEXT};
+use oracle::in_domain;
+use oracle::sample::{files, replayed, BINARY, BY_RUST, BY_WORDS, REPLAYED, TEXT};
 use reading::hex::{hex, unhex};
 use std::collections::{BTreeSet, HashSet};
 use std::path::PathBuf;
@@ -26,7 +27,7 @@ fn the_stored_files_are_what_the_oracle_says() {
     assert!(stored_text == *text, "the text has another length");
     assert!(std::fs::read(place(BINARY)).expect(BINARY) == *binary);
     assert_eq!(std::fs::read_to_string(place(REPLAYED)).expect(REPLAYED), replayed(text));
-    assert!(text.len() + binary.len() < 2_450_000);
+    assert!(text.len() + binary.len() < 2_850_000);
 }
 
 #[test]
@@ -38,6 +39,38 @@ fn there_are_at_least_3000_cases_and_each_has_its_own_name() {
     let marked = names.iter().filter(|n| n.contains(".marked.")).count();
     // One per mark of document 01.
     assert_eq!(marked, 13);
+}
+
+/// The cases of a part of the text: name, table, question.
+fn cases(part: &'static str) -> Vec<(&'static str, Vec<u8>, Vec<u8>)> {
+    let bytes = |field: Option<&str>| field.and_then(unhex).expect("bytes in hex");
+    let case = |line: &'static str| {
+        let mut fields = line.split(' ');
+        (fields.next().expect("a name"), bytes(fields.next()), bytes(fields.next()))
+    };
+    part.lines().filter(|l| !l.starts_with('#')).map(case).collect()
+}
+
+/// The file says whose answer each is: the Rust's inside its domain, the second reading's outside.
+#[test]
+fn the_second_part_is_what_is_outside_the_rusts_domain() {
+    let (head, rest) = made().0.split_once(BY_RUST).expect("the line that begins the first part");
+    let (by_rust, by_words) = rest.split_once(BY_WORDS).expect("the line that begins the second part");
+    assert!(cases(head).is_empty());
+    let (by_rust, by_words) = (cases(by_rust), cases(by_words));
+    for (name, table, question) in &by_rust {
+        assert!(in_domain(table, question), "{}", name);
+    }
+    for (name, table, question) in &by_words {
+        assert!(!in_domain(table, question), "{}", name);
+    }
+    let of = |cases: &[(&str, Vec<u8>, Vec<u8>)], front: &str| cases.iter().filter(|c| c.0.starts_with(front)).count();
+    for (front, least) in [("order2.", 1), ("classes.", 60), ("below.", 40), ("calls.", 30), ("outside.", 30)] {
+        assert!(of(&by_rust, front) >= least, "{}{}", front, of(&by_rust, front));
+    }
+    for (front, least) in [("order2.", 200), ("classes.", 60), ("below.", 40), ("calls.", 200), ("outside.", 20)] {
+        assert!(of(&by_words, front) >= least, "{}{}", front, of(&by_words, front));
+    }
 }
 
 /// Number 13 is drawn by no input.

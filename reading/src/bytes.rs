@@ -217,3 +217,20 @@ impl Table {
         self.records.iter().flatten().cloned().collect()
     }
 }
+
+/// The same table with no superclass in any class record. Bytes behind the first that is neither a name nor a whole class
+/// stay as they are.
+pub fn without_superclasses(table: &[u8]) -> Bytes {
+    let mut bytes = table.to_vec();
+    let mut rest = &mut bytes[..];
+    loop {
+        rest = match rest {
+            [1, ..] if rest.len() >= 26 => &mut rest[26..],
+            [2, ..] if rest.len() >= 8 => {
+                rest[3..5].copy_from_slice(&NONE.to_le_bytes());
+                &mut rest[8..]
+            }
+            _ => return bytes,
+        }
+    }
+}

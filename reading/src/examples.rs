@@ -1,7 +1,8 @@
-//! Document 01's examples, its marked cases and its corners as cases, each with the answer that
-//! document 01 has for it, written by hand. The stored sample begins with them.
+//! Document 01's examples, its marked cases and its corners as cases, and those of the orders of document 02, each with
+//! the answer that the documents have for it, written by hand. The stored sample begins with them.
 
 mod question_edges;
+mod subclasses;
 mod table_edges;
 
 use crate::bytes::*;
@@ -47,6 +48,13 @@ impl List {
     fn raw(&mut self, name: &str, table: Bytes, question: Bytes, expected: &str) {
         let (name, expected) = (name.to_string(), expected.to_string());
         self.all.push(Example { sentence: self.sentence, name, table, question, expected });
+    }
+
+    /// A case whose answer does not depend on superclasses, under its table and under the same without any.
+    fn twice(&mut self, name: &str, table: &Table, question: Bytes, expected: &str) {
+        self.ask(name, table, question.clone(), expected);
+        let flat = without_superclasses(&table.bytes());
+        self.raw(&format!("{}-without-superclasses", name), flat, question, expected);
     }
 
     /// A table and its number, or 0: an Int passes under it.
@@ -116,6 +124,7 @@ pub fn all() -> Vec<Example> {
     question_refusals(&mut list);
     orders_of_refusal(&mut list);
     unsaid(&mut list);
+    subclasses::add(&mut list);
     table_edges::add(&mut list);
     question_edges::add(&mut list);
     list.all
@@ -152,12 +161,13 @@ fn ty(list: &mut List) {
         &array(None, &t(INT)),
         ASSIGNS,
     );
-    list.of("named_a_does_not_assign_to_named_b_although_b_is_its_superclass");
+    // Document 02, order 2: "the marked case turns round".
+    list.of("named_a_assigns_to_named_b_if_b_is_met_climbing_from_a");
     let mut table = base();
     table.class(B, NONE, NONE, true);
     table.class(A, B, NONE, true);
     table.plain(F, &[BOOLEAN], &[(P, 0, named(B))]);
-    list.tree("ty.marked.a-class-does-not-assign-to-its-superclass", &table, call(F, &[leaf(&named(A))]), DIFFERS);
+    list.tree("ty.marked.a-class-assigns-to-its-superclass", &table, call(F, &[leaf(&named(A))]), ASSIGNS);
     list.of("only_list_array_list_and_mutable_list_as_names_assign_among_themselves");
     for (from, x) in [("list", 1), ("array-list", 2), ("mutable-list", 3)] {
         for (to, y) in [("list", 1), ("array-list", 2), ("mutable-list", 3)] {
@@ -276,19 +286,12 @@ fn operator_methods(list: &mut List) {
     table.function(A, plus, 0, false, &[CHAR], &[]);
     let c_plus = binary(ADD, &leaf(&named(C)), &l(INT));
     list.of("operator_methods_only_for_a_named_left_type");
-    list.tree("operators.named-left", &table, binary(ADD, &leaf(&named(A)), &l(INT)), "0 1 1 07 0");
-    list.tree(
-        "operators.named-right-does-not-count",
-        &table,
-        binary(ADD, &l(INT), &leaf(&named(A))),
-        "0 0 1 15 1/2 0 0",
-    );
-    list.tree(
-        "operators.nullable-left-does-not-count",
-        &table,
-        binary(ADD, &leaf(&nullable(&named(A))), &l(INT)),
-        "0 0 1 15 1/1 0 0",
-    );
+    let plus_of = |left: &[u8], right: &[u8]| question(&binary(ADD, &leaf(left), &leaf(right)));
+    let reported = "0 0 1 15 1/2 0 0";
+    list.twice("operators.named-left", &table, plus_of(&named(A), &[INT]), "0 1 1 07 0");
+    list.twice("operators.named-right-does-not-count", &table, plus_of(&[INT], &named(A)), reported);
+    let nullable_left = plus_of(&nullable(&named(A)), &[INT]);
+    list.twice("operators.nullable-left-does-not-count", &table, nullable_left, "0 0 1 15 1/1 0 0");
     list.of("the_climb_stops_at_a_class_without_an_operator_set");
     let mut stops = table.clone();
     stops.operators(C, 2);
@@ -583,13 +586,15 @@ fn access(list: &mut List) {
         ("in-a-subclass-of-a-subclass", C, "0 1 1 07 0", "0 0 1 07 1/20 0 3"),
         ("in-another-class", T, "0 0 1 07 1/20 0 1", "0 0 1 07 1/20 0 3"),
     ] {
-        list.ask(&format!("access.protected-{}", name), &with(1), inside(class), protected);
-        list.ask(&format!("access.private-{}", name), &with(3), inside(class), private);
-        list.ask(&format!("access.public-{}", name), &with(0), inside(class), "0 1 1 07 0");
+        // Only protected access from a subclass depends on the superclasses.
+        let protected_case = if matches!(class, B | C) { List::ask } else { List::twice };
+        protected_case(list, &format!("access.protected-{}", name), &with(1), inside(class), protected);
+        list.twice(&format!("access.private-{}", name), &with(3), inside(class), private);
+        list.twice(&format!("access.public-{}", name), &with(0), inside(class), "0 1 1 07 0");
     }
     let mut blocked = with(3);
     blocked.suspend(A, F);
-    list.tree("access.20-comes-before-14", &blocked, tree, "0 0 1 07 2/20 0 3/14 0 0");
+    list.twice("access.20-comes-before-14", &blocked, question(&tree), "0 0 1 07 2/20 0 3/14 0 0");
 }
 
 fn members(list: &mut List) {

@@ -12,7 +12,7 @@ fn the_named_examples() {
     }
 }
 
-/// The stored answers, which the Rust's own methods gave.
+/// The stored answers, which the Rust's own methods gave inside their domain; outside it they are as the words had them.
 #[test]
 fn the_stored_answers() {
     let path = concat!(env!("CARGO_MANIFEST_DIR"), "/../samples/answers.txt");

@@ -1,5 +1,8 @@
 pub mod Arm
 pub mod Assigns
+pub mod AssignSteps
+pub mod NullablesOpened
+pub mod Order2
 pub mod Climbs
 pub mod Each
 pub mod MethodLookups

@@ -81,7 +81,7 @@ module _ (table : List ℕ) (x y : Ty) where
   unfolding arithmeticRuled arithmeticOut reportOf
   arithmetic-gives l r = each one _ (each one _ (plain-gives _) (each one _ (plain-gives _) (plain-gives _))) (fails-gives _)
 
-  pub equality-gives : (S : Symbols) (l r : Ty) → oneOut table x y (equalityRuled l r) ≡ equalityOut S l r
+  pub equality-gives : (S : Symbols) (l r : Ty) → oneOut table x y (equalityRuled S l r) ≡ equalityOut S l r
   unfolding equalityRuled reportOf typeFrom unless
   equality-gives S l r = checked-gives _ _ _
 
@@ -101,7 +101,7 @@ module _ (table : List ℕ) (l r : Ty) where
   abbrev whole : Ruled → Out
   whole a = outOf table l r a
 
-  pub operator-gives : (S : Symbols) (op : ℕ) → outOf table l r (operatorRuled op l r) ≡ operatorOut S op l r
+  pub operator-gives : (S : Symbols) (op : ℕ) → outOf table l r (operatorRuled S op l r) ≡ operatorOut S op l r
   unfolding operatorRuled operatorOut typeFrom
   operator-gives S op =
       each whole _ (alone-gives _ _ _ _ ∙ add-gives _ _ _ _ _)
@@ -114,7 +114,7 @@ module _ (table : List ℕ) (l r : Ty) where
       (each whole _ (alone-gives _ _ _ _ ∙ clean-gives _ _ _ _)
       (each whole _ (alone-gives _ _ _ _ ∙ plain-gives _ _ _ _) (alone-gives _ _ _ _ ∙ clean-gives _ _ _ _)))))))))
 
-  pub builtin-gives : (S : Symbols) (op : ℕ) → outOf table l r (builtinRuled op l r) ≡ builtinBinary S op l r
+  pub builtin-gives : (S : Symbols) (op : ℕ) → outOf table l r (builtinRuled S op l r) ≡ builtinBinary S op l r
   unfolding builtinRuled builtinBinary reportOf
   builtin-gives S op = each whole _ (alone-gives _ _ _ _ ∙ fails-gives _ _ _ _) (operator-gives S op)
 

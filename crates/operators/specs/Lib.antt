@@ -4,6 +4,7 @@ pub mod OperatorMethod
 pub mod Binary
 pub mod Unary
 pub mod Assign
+pub mod Order2
 pub mod Out
 pub mod DiagnosticKind
 pub mod Diag

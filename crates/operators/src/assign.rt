@@ -1,17 +1,23 @@
 // Assignability.
 use crate::operand::numbers;
+use below::is_below;
 use ty::Kind;
 use ty::NameId;
 ghost use mathlib.Core.Path.{_≡_};
-ghost use Rattle.operators.specs.Assign.{isNamed, isGrowing, isListName, assignsAtOnce, assignStep, canAssign};
+ghost use Rattle.index.specs.Inside.IndexedTable.{IndexedTable};
+ghost use Rattle.symbol.specs.Lookup.{symbolsOf};
+ghost use Rattle.operators.specs.Assign.{isNamed, isGrowing, isListName, assignsAtOnce, assignStep, assigns};
+ghost use Rattle.operators.specs.Inside.Nullables.{nullables as nullablesOf};
 
-// What one look at two types says: yes, no, or it goes by the type inside the left one, inside the right one, or inside both.
+// What one look at two types says: yes, no, or it goes by the type inside the left one, inside the right one, or inside both, or by the classes of two
+// Named types.
 pub enum Next {
     Yes,
     No,
     Left,
     Right,
     Both,
+    Climb,
 }
 
 // A Named of a name.
@@ -80,19 +86,35 @@ fn step(a: &[u8], b: &[u8]) -> Next
     if k == Kind::NOTHING {
         return Next::Yes;
     }
+    if (k == Kind::NAMED) & (m == Kind::NAMED) {
+        return Next::Climb;
+    }
     Next::No
 }
 
-// Whether the type a assigns to the type b.
-pub fn can_assign_to(a: &[u8], b: &[u8]) -> bool
-    ensures { λ r. ⌜ r ≡ canAssign (now (a .entry)) (now (b .entry)) ⌝ }
+// How many Nullables a type begins with.
+fn nullables(t: &[u8]) -> usize
+    ensures { λ r. ⌜ r ≡ nullablesOf (now (t .entry)) ⌝ }
+{
+    let mut n = 0;
+    while ty::byte_at(t, n) == Kind::NULLABLE {
+        n += 1;
+    }
+    n
+}
+
+// Whether the type a assigns to the type b. Nullables are opened together, so that a type of 192 bytes takes no 192 calls.
+pub fn can_assign_to(table: &[u8], index: &[u16], a: &[u8], b: &[u8]) -> bool
+    requires { ⌜ IndexedTable (now table) (now index) ⌝ }
+    ensures { λ r. ⌜ r ≡ assigns (symbolsOf (now (table .entry))) (now (a .entry)) (now (b .entry)) ⌝ }
 {
     let next = step(a, b);
     match next {
         Next::Yes => true,
         Next::No => false,
-        Next::Left => can_assign_to(ty::inner(a), b),
-        Next::Right => can_assign_to(a, ty::inner(b)),
-        Next::Both => can_assign_to(ty::inner(a), ty::inner(b)),
+        Next::Left => can_assign_to(table, index, ty::tail(a, nullables(a)), b),
+        Next::Right => can_assign_to(table, index, a, ty::tail(b, nullables(b))),
+        Next::Both => can_assign_to(table, index, ty::inner(a), ty::inner(b)),
+        Next::Climb => is_below(table, index, ty::name_of(a), ty::name_of(b)),
     }
 }

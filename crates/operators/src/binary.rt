@@ -20,6 +20,7 @@ use ty::Kind;
 use ty::NameId;
 ghost use mathlib.Core.Path.{_≡_};
 ghost use Rattle.index.specs.Inside.IndexedTable.{IndexedTable};
+ghost use Rattle.symbol.specs.Lookup.{symbolsOf};
 ghost use Rattle.operators.specs.Binary.{fractional as fractionalOf, takesNullable};
 ghost use Rattle.operators.specs.Inside.BinaryRule.{addRuled, arithmeticRuled, equalityRuled, orderRuled, logicalRuled, bitwiseRuled};
 ghost use Rattle.operators.specs.Inside.BinaryRule.{operatorRuled, builtinRuled, binaryRuled};
@@ -117,12 +118,13 @@ fn arithmetic(lt: &[u8], rt: &[u8]) -> OneReport
     fails(Diagnostic::NUMERIC)
 }
 
-// Eq, Ne. The table has no say in assignability.
-fn equality(lt: &[u8], rt: &[u8]) -> OneReport
-    ensures { λ r. ⌜ r ≡ equalityRuled (now (lt .entry)) (now (rt .entry)) ⌝ }
+// Eq, Ne.
+fn equality(table: &[u8], index: &[u16], lt: &[u8], rt: &[u8]) -> OneReport
+    requires { ⌜ IndexedTable (now table) (now index) ⌝ }
+    ensures { λ r. ⌜ r ≡ equalityRuled (symbolsOf (now (table .entry))) (now (lt .entry)) (now (rt .entry)) ⌝ }
 {
     checked(
-        (can_assign_to(lt, rt) | can_assign_to(rt, lt))
+        (can_assign_to(table, index, lt, rt) | can_assign_to(table, index, rt, lt))
             | (either(Kind::ANY, lt, rt) | char_string(lt, rt)),
         Source::Kind(Kind::BOOLEAN),
         Diagnostic::UNRELATED,
@@ -171,8 +173,9 @@ fn takes_nullable(op: u8) -> bool
 }
 
 // The operator's own check.
-fn operator(op: u8, lt: &[u8], rt: &[u8]) -> Ruled
-    ensures { λ r. ⌜ r ≡ operatorRuled op (now (lt .entry)) (now (rt .entry)) ⌝ }
+fn operator(table: &[u8], index: &[u16], op: u8, lt: &[u8], rt: &[u8]) -> Ruled
+    requires { ⌜ IndexedTable (now table) (now index) ⌝ }
+    ensures { λ r. ⌜ r ≡ operatorRuled (symbolsOf (now (table .entry))) op (now (lt .entry)) (now (rt .entry)) ⌝ }
 {
     if op == BinOp::ADD {
         return alone(add(lt, rt));
@@ -181,7 +184,7 @@ fn operator(op: u8, lt: &[u8], rt: &[u8]) -> Ruled
         return alone(arithmetic(lt, rt));
     }
     if op <= BinOp::NE {
-        return alone(equality(lt, rt));
+        return alone(equality(table, index, lt, rt));
     }
     if op <= BinOp::GE {
         return alone(order(lt, rt));
@@ -204,13 +207,14 @@ fn operator(op: u8, lt: &[u8], rt: &[u8]) -> Ruled
     alone(clean(Source::Second))
 }
 
-fn builtin_binary(op: u8, lt: &[u8], rt: &[u8]) -> Ruled
-    ensures { λ r. ⌜ r ≡ builtinRuled op (now (lt .entry)) (now (rt .entry)) ⌝ }
+fn builtin_binary(table: &[u8], index: &[u16], op: u8, lt: &[u8], rt: &[u8]) -> Ruled
+    requires { ⌜ IndexedTable (now table) (now index) ⌝ }
+    ensures { λ r. ⌜ r ≡ builtinRuled (symbolsOf (now (table .entry))) op (now (lt .entry)) (now (rt .entry)) ⌝ }
 {
     if (!takes_nullable(op)) & either(Kind::NULLABLE, lt, rt) {
         return alone(fails(Diagnostic::NULLABLE_OPERANDS));
     }
-    operator(op, lt, rt)
+    operator(table, index, op, lt, rt)
 }
 
 // The type of an operator on operands of the types lt and rt, and what is reported: Error first and silently, then an operator method, then the built-in
@@ -224,7 +228,7 @@ pub fn check_binary(table: &[u8], index: &[u16], op: u8, lt: &[u8], rt: &[u8]) -
     }
     let method = operator_overload_return(table, index, op, lt);
     match method {
-        Method::Nothing => builtin_binary(op, lt, rt),
+        Method::Nothing => builtin_binary(table, index, op, lt, rt),
         Method::Any => alone(plain(Kind::ANY)),
         Method::At { start, len } => alone(clean(Source::Part { start, len })),
     }

@@ -37,7 +37,7 @@ pub fn param_accepts(table: &[u8], index: &[u16], p: &[u8], x: &[u8], vararg: bo
     if ty::same_bytes(x, p) {
         return true;
     }
-    if can_assign_to(x, p) {
+    if can_assign_to(table, index, x, p) {
         return true;
     }
     if is_type_variable(table, index, p) {

@@ -26,6 +26,7 @@ use Rattle.symbol.specs.Lookup.{paramsBy, overloadFrom, overloadOf, symbolsIn}
 use Rattle.record.specs.TableRefused.{occurs, repeats, keyRepeated, isLate, recordFault, firstFault, tableFault}
 use Rattle.record.specs.Spelling.{builtinNames, spelled}
 use Rattle.symbol.specs.Subclass.{climbs, isSubclass}
+use Rattle.below.specs.Below.{isBelow}
 use Rattle.record.specs.Table.{recordsFrom, ofKind, keyOf, keyed}
 use Rattle.ty.specs.Bytes.{innerOf, nonNull, sameBytes}
 use Rattle.ty.specs.Choose.{choose}
@@ -38,5 +39,5 @@ use Rattle.typing.specs.Judge.{callStep, methodStep, judge}
 use Rattle.typing.specs.Mark.{noError, noDiag, passes}
 
 unfoldable pub computed : Unit {0}
-unfolding innerOf nonNull sameBytes choose bodyLength childCount idIn itemOf itemAt noEnd readFrom readType ownIds idsFrom idsIn paramFields fieldsOf goodName fieldsFrom anyField eachField lengths recordKind recordSize valueIn bytesIn recordsFrom ofKind keyOf keyed allDefined occurs repeats keyRepeated isLate recordFault firstFault tableFault paramsBy overloadFrom overloadOf symbolsIn builtinNames spelled climbs isSubclass headerOf first· rest· takeRow dropRow onto rowAt treeOf leafOf nodeOf nodeIn nodeAt ownBytes children·question headerFault nodeIds shapeFault nodeFault moreFault endFault nodesFault treeFault questionFault numberAfter argumentName recordOf records paddedTo paramAccepts blocked accessReport assignStep assignIn canAssign addOut arithmeticOut operatorOut builtinBinary binaryOut at· variableMember pairMember collectionMember stringMember elementMember mapMember firstFunction fieldOr classMember namedMember kindMember visibilityReport memberReport baseMember memberOut firstResult atClass climb operatorReturn unless found· unaryOf unaryOut anyOwn own usable required endsVararg fits fitting suspendReport better chosen absent unknownOne unknowns allUnknown mismatchOne mismatches noneFits tieReport settle resolveIn resolve paramNamed placeNamed markAt markOne marksFrom unmarkedFrom plus· compared comparedWith namedOne namedScore unnamedOne unnamedScore score faultOf answered answerOf bufferOf baseName callIn methodIn methodBy callStep methodStep judge noError noDiag passes
+unfolding innerOf nonNull sameBytes choose bodyLength childCount idIn itemOf itemAt noEnd readFrom readType ownIds idsFrom idsIn paramFields fieldsOf goodName fieldsFrom anyField eachField lengths recordKind recordSize valueIn bytesIn recordsFrom ofKind keyOf keyed allDefined occurs repeats keyRepeated isLate recordFault firstFault tableFault paramsBy overloadFrom overloadOf symbolsIn builtinNames spelled climbs isSubclass isBelow headerOf first· rest· takeRow dropRow onto rowAt treeOf leafOf nodeOf nodeIn nodeAt ownBytes children·question headerFault nodeIds shapeFault nodeFault moreFault endFault nodesFault treeFault questionFault numberAfter argumentName recordOf records paddedTo paramAccepts blocked accessReport assignStep assignIn canAssign addOut arithmeticOut operatorOut builtinBinary binaryOut at· variableMember pairMember collectionMember stringMember elementMember mapMember firstFunction fieldOr classMember namedMember kindMember visibilityReport memberReport baseMember memberOut firstResult atClass climb operatorReturn unless found· unaryOf unaryOut anyOwn own usable required endsVararg fits fitting suspendReport better chosen absent unknownOne unknowns allUnknown mismatchOne mismatches noneFits tieReport settle resolveIn resolve paramNamed placeNamed markAt markOne marksFrom unmarkedFrom plus· compared comparedWith namedOne namedScore unnamedOne unnamedScore score faultOf answered answerOf bufferOf baseName callIn methodIn methodBy callStep methodStep judge noError noDiag passes
 computed = tt

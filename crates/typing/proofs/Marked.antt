@@ -1,18 +1,19 @@
 -- Document 01's marked cases (◆), with its words beside each, and the sample of its "Answer", computed from the definitions.
 use Prim.Native.Nat.{ℕ}
 use lib.ListN.{replicate}
-use mathlib.Core.Bool.{true, false}
+use mathlib.Core.Bool.{Bool, true, false}
 use mathlib.Core.List.{List, [], _∷_, _++_, map}
 use mathlib.Core.Option.{Option, none, some}
 use mathlib.Core.Path.{_≡_, refl}
 use Rattle.written.specs.Padding.{paddedTo}
 use Rattle.scoring.specs.Arg.{Arg}
 use Rattle.scoring.specs.Score.{score}
-use Rattle.operators.specs.Assign.{canAssign}
+use Rattle.operators.specs.Assign.{assigns}
 use Rattle.symbol.specs.Lookup.{symbolsOf}
+use Rattle.symbol.specs.Symbols.{Symbols}
 use Rattle.ty.specs.Name.{listId, mutableListId, noId}
 use Rattle.typing.proofs.Computed.{computed}
-use Rattle.typing.proofs.Samples.{letter, class, noSuper, operators, function, param, script, leaf, binary, unary, named, call, int, long, float, double, string, any, error, nullable, namedClass, diagnostic, Passes, Fails}
+use Rattle.typing.proofs.Samples.{letter, class, noSuper, operators, function, param, script, leaf, binary, unary, named, call, int, long, float, double, boolean, string, any, error, nullable, pointer, array, list, mapTo, functionTo, namedClass, diagnostic, Passes, Fails}
 use Rattle.typing.specs.Answer.{Answer, refused, answerOf, bufferOf}
 
 -- an argument of a type, with a name or without
@@ -40,6 +41,14 @@ sampleQuestion = 255 ∷ 255 ∷ 255 ∷ 255 ∷ 0 ∷ 2 ∷ 6 ∷ 0 ∷ 0 ∷ [
 abbrev chain : List ℕ → List ℕ
 chain sets = letter 120 ++ (letter 121 ++ (letter 122 ++ (class 42 noSuper ++ (class 41 (42 ∷ 0 ∷ []) ++ (class 40 (41 ∷ 0 ∷ []) ++ sets)))))
 
+-- x is 40 and y, its superclass, is 41; f is 42 and p 43
+abbrev related : List ℕ
+related = letter 120 ++ (letter 121 ++ (letter 102 ++ (letter 112 ++ (class 41 noSuper ++ class 40 (41 ∷ 0 ∷ [])))))
+
+-- whether a type assigns to another one under that table
+abbrev Related : List ℕ → List ℕ → Bool → Type 0
+Related a b answer = assigns (symbolsOf related) a b ≡ answer
+
 -- f, p and q are 40, 41 and 42: f(p Int, q String) and f(p Int, q Int)
 abbrev first : List ℕ
 first = letter 102 ++ (letter 112 ++ (letter 113 ++ function 40 int 2 (param 41 int ++ param 42 string)))
@@ -56,17 +65,32 @@ plus l r = script (binary 0 (leaf l) (leaf r))
 
 pub record Marked : Type 0 where
   -- "◆ Nullable(Nothing), the null literal, assigns to Int."
-  null-to-int : canAssign (nullable (10 ∷ [])) int ≡ true
+  null-to-int : (S : Symbols) → assigns S (nullable (10 ∷ [])) int ≡ true
   null-argument : Passes (taking int) (script (call 40 1 (leaf (nullable (10 ∷ []))))) int
   -- "◆ Nullable(String) does not."
-  nullable-string : canAssign (nullable string) int ≡ false
+  nullable-string : (S : Symbols) → assigns S (nullable string) int ≡ false
   nullable-argument : Fails (taking int) (script (call 40 1 (leaf (nullable string)))) int (diagnostic 17 1 1)
-  -- "◆ Named A does not assign to Named B although B is A's superclass; only List, ArrayList and MutableList, as names, assign among themselves."
-  superclass : canAssign (namedClass 40) (namedClass 41) ≡ false
-  superclass-argument :
-      Fails (letter 120 ++ (letter 121 ++ (letter 102 ++ (letter 112 ++ (class 41 noSuper ++ (class 40 (41 ∷ 0 ∷ []) ++ function 42 int 1 (param 43 (namedClass 41))))))))
-      (script (call 42 1 (leaf (namedClass 40)))) int (diagnostic 17 1 1)
-  list-names : canAssign (namedClass listId) (namedClass mutableListId) ≡ true
+  -- "◆ Named A does not assign to Named B although B is A's superclass" is turned round by order 2: "Named A now assigns to Named B if B is met climbing
+  -- from A, at every depth where assignability compares types", and B not to A
+  superclass : Related (namedClass 40) (namedClass 41) true
+  subclass : Related (namedClass 41) (namedClass 40) false
+  superclass-arrays : Related (array (namedClass 40)) (array (namedClass 41)) true
+  superclass-list-array : Related (list (namedClass 40)) (array (namedClass 41)) true
+  superclass-to-nullable : Related (namedClass 40) (nullable (namedClass 41)) true
+  superclass-from-nullable : Related (nullable (namedClass 40)) (namedClass 41) true
+  superclass-argument : Passes (related ++ function 42 int 1 (param 43 (namedClass 41))) (script (call 42 1 (leaf (namedClass 40)))) int
+  superclass-scores : scoresOf (related ++ function 42 int 1 (param 43 (namedClass 41))) 42 (arg none (namedClass 40) ∷ []) ≡ some 1 ∷ []
+  -- an overload that takes the superclass matches as well as any other that is accepted: f(p Any) and f(p y) tie
+  superclass-tie :
+      Fails (related ++ (function 42 int 1 (param 43 any) ++ function 42 int 1 (param 43 (namedClass 41)))) (script (call 42 1 (leaf (namedClass 40)))) int
+      (diagnostic 19 0 2)
+  superclass-compared : Passes related (script (binary 5 (leaf (namedClass 41)) (leaf (namedClass 40)))) boolean
+  -- where it does not compare types, they stay unrelated
+  superclass-pointers : Related (pointer (namedClass 40)) (pointer (namedClass 41)) false
+  superclass-maps : Related (mapTo (namedClass 40)) (mapTo (namedClass 41)) false
+  superclass-functions : Related (functionTo (namedClass 40)) (functionTo (namedClass 41)) false
+  -- "only List, ArrayList and MutableList, as names, assign among themselves", in whichever table
+  list-names : (S : Symbols) → assigns S (namedClass listId) (namedClass mutableListId) ≡ true
   -- "◆ Long + Long is Int."
   long-plus : Passes [] (plus long long) int
   -- "◆ Long − Long is Long."
@@ -109,13 +133,24 @@ pub record Marked : Type 0 where
 pub marked : Marked
 unfolding scoresOf computed
 marked = record {
-  null-to-int = refl;
+  null-to-int = λ S. refl;
   null-argument = record { answer = refl; buffer = refl };
-  nullable-string = refl;
+  nullable-string = λ S. refl;
   nullable-argument = record { answer = refl; buffer = refl };
   superclass = refl;
+  subclass = refl;
+  superclass-arrays = refl;
+  superclass-list-array = refl;
+  superclass-to-nullable = refl;
+  superclass-from-nullable = refl;
   superclass-argument = record { answer = refl; buffer = refl };
-  list-names = refl;
+  superclass-scores = refl;
+  superclass-tie = record { answer = refl; buffer = refl };
+  superclass-compared = record { answer = refl; buffer = refl };
+  superclass-pointers = refl;
+  superclass-maps = refl;
+  superclass-functions = refl;
+  list-names = λ S. refl;
   long-plus = record { answer = refl; buffer = refl };
   long-minus = record { answer = refl; buffer = refl };
   double-plus = record { answer = refl; buffer = refl };

@@ -64,6 +64,9 @@ float = 4 ∷ []
 abbrev pub double : List ℕ
 double = 5 ∷ []
 
+abbrev pub boolean : List ℕ
+boolean = 6 ∷ []
+
 abbrev pub string : List ℕ
 string = 8 ∷ []
 
@@ -75,6 +78,24 @@ error = 21 ∷ []
 
 abbrev pub nullable : List ℕ → List ℕ
 nullable t = 12 ∷ t
+
+abbrev pub pointer : List ℕ → List ℕ
+pointer t = 13 ∷ t
+
+-- an Array without size
+abbrev pub array : List ℕ → List ℕ
+array t = 14 ∷ 0 ∷ 0 ∷ 0 ∷ 0 ∷ 0 ∷ t
+
+abbrev pub list : List ℕ → List ℕ
+list t = 15 ∷ t
+
+-- a Map from String
+abbrev pub mapTo : List ℕ → List ℕ
+mapTo t = 16 ∷ 8 ∷ t
+
+-- a Function without parameters
+abbrev pub functionTo : List ℕ → List ℕ
+functionTo t = 18 ∷ 0 ∷ t
 
 abbrev pub namedClass : ℕ → List ℕ
 namedClass id = 17 ∷ id ∷ 0 ∷ []

@@ -302,22 +302,22 @@ fn members(list: &mut List) {
     list.of("members_in_a_table_of_every_kind");
     let table = every_kind();
     let of = |class: u16, name: u16| member(name, &leaf(&named(class)));
-    list.ask("lookup.field", &table, question_in(A, NONE, false, &of(A, B)), "0 1 2 0c00 0");
-    list.tree("lookup.field-and-visibility", &table, of(A, B), "0 0 2 0c00 1/20 0 3");
-    list.tree("lookup.no-field-of-another-owner", &table, of(B, B), "0 0 1 15 0");
-    list.tree("lookup.variant", &table, of(A, 6), "0 1 3 112800 0");
-    list.tree("lookup.no-variant-of-another-name", &table, of(A, 7), "0 0 1 15 1/22 0 0");
-    list.tree("lookup.no-variant-of-another-owner", &table, of(B, 6), "0 0 1 15 0");
+    list.twice("lookup.field", &table, question_in(A, NONE, false, &of(A, B)), "0 1 2 0c00 0");
+    list.twice("lookup.field-and-visibility", &table, question(&of(A, B)), "0 0 2 0c00 1/20 0 3");
+    list.twice("lookup.no-field-of-another-owner", &table, question(&of(B, B)), "0 0 1 15 0");
+    list.twice("lookup.variant", &table, question(&of(A, 6)), "0 1 3 112800 0");
+    list.twice("lookup.no-variant-of-another-name", &table, question(&of(A, 7)), "0 0 1 15 1/22 0 0");
+    list.twice("lookup.no-variant-of-another-owner", &table, question(&of(B, 6)), "0 0 1 15 0");
 }
 
 fn operators(list: &mut List) {
     list.of("operators_in_a_table_of_every_kind");
     let table = every_kind();
     let by = |op: u8, class: u16| binary(op, &leaf(&named(class)), &leaf(&[INT]));
-    list.tree("lookup.operator-plus", &table, by(ADD, A), "0 1 1 09 0");
-    list.tree("lookup.operator-ge", &table, by(10, A), "0 1 1 09 0");
-    list.tree("lookup.no-operator-minus", &table, by(SUB, A), "0 0 1 15 1/3 0 0");
-    list.tree("lookup.no-operators-of-another-class", &table, by(ADD, B), "0 0 1 15 1/2 0 0");
+    list.twice("lookup.operator-plus", &table, question(&by(ADD, A)), "0 1 1 09 0");
+    list.twice("lookup.operator-ge", &table, question(&by(10, A)), "0 1 1 09 0");
+    list.twice("lookup.no-operator-minus", &table, question(&by(SUB, A)), "0 0 1 15 1/3 0 0");
+    list.twice("lookup.no-operators-of-another-class", &table, question(&by(ADD, B)), "0 0 1 15 1/2 0 0");
 }
 
 fn functions(list: &mut List) {
@@ -327,11 +327,11 @@ fn functions(list: &mut List) {
     let inside = |class: u16, tree: &[u8]| question_in(class, NONE, false, tree);
     let passed = "0 1 2 0c08 0";
     list.ask("lookup.method-in-a-subclass", &table, inside(B, &on_a(&[leaf(&[INT])])), passed);
-    list.ask("lookup.method-with-defaults", &table, inside(A, &on_a(&[])), passed);
-    list.tree("lookup.method-outside", &table, on_a(&[]), "0 0 2 0c08 1/20 0 1");
-    list.tree("lookup.no-method-of-another-owner", &table, method(B, &leaf(&named(B)), &[]), "0 1 1 09 0");
-    list.tree("lookup.suspend-function", &table, call(B, &[]), "0 0 1 00 1/14 0 0");
-    list.ask("lookup.the-second-function", &table, question_in(NONE, NONE, true, &call(B, &[])), "0 1 1 00 0");
+    list.twice("lookup.method-with-defaults", &table, inside(A, &on_a(&[])), passed);
+    list.twice("lookup.method-outside", &table, question(&on_a(&[])), "0 0 2 0c08 1/20 0 1");
+    list.twice("lookup.no-method-of-another-owner", &table, question(&method(B, &leaf(&named(B)), &[])), "0 1 1 09 0");
+    list.twice("lookup.suspend-function", &table, question(&call(B, &[])), "0 0 1 00 1/14 0 0");
+    list.twice("lookup.the-second-function", &table, question_in(NONE, NONE, true, &call(B, &[])), "0 1 1 00 0");
     let size = built_in("size");
-    list.tree("lookup.no-function-of-another-name", &table, call(size, &[]), "0 0 1 15 0");
+    list.twice("lookup.no-function-of-another-name", &table, question(&call(size, &[])), "0 0 1 15 0");
 }

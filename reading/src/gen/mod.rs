@@ -1,13 +1,14 @@
 //! Generated cases: the same bytes on every machine for a seed, a profile and an index.
 
 pub mod boundary;
+pub mod classes;
 pub mod damage;
 pub mod load;
 pub mod model;
 pub mod sweep;
 pub mod typed;
 
-use crate::bytes::Bytes;
+use crate::bytes::{without_superclasses, Bytes};
 use crate::rng::Rng;
 
 /// A table, a question, and the length of the diagnostics buffer to lend.
@@ -54,9 +55,13 @@ pub enum Profile {
     Typed,
     /// Questions of the test load, without a table and under generated ones.
     Load,
+    /// Chains and trees of classes, half of them without superclasses.
+    Classes,
+    /// Every wrapping of a class where every wrapping of another is expected.
+    Below,
 }
 
-pub const PROFILES: [(Profile, &str); 17] = [
+pub const PROFILES: [(Profile, &str); 19] = [
     (Profile::Rich, "rich"),
     (Profile::Calls, "calls"),
     (Profile::Wide, "wide"),
@@ -74,6 +79,8 @@ pub const PROFILES: [(Profile, &str); 17] = [
     (Profile::Flips, "flips"),
     (Profile::Typed, "typed"),
     (Profile::Load, "load"),
+    (Profile::Classes, "classes"),
+    (Profile::Below, "below"),
 ];
 
 impl Profile {
@@ -94,6 +101,7 @@ impl Profile {
             Profile::Singles => Some(sweep::singles_count()),
             Profile::Assign => Some(sweep::assign_count()),
             Profile::Flips => Some(sweep::flips_count()),
+            Profile::Below => Some(sweep::below_count()),
             _ => None,
         }
     }
@@ -137,25 +145,35 @@ pub fn case(profile: Profile, seed: u64, index: u64) -> Case {
         Profile::Flips => sweep::flips(at),
         Profile::Typed => typed::typed(&mut rng),
         Profile::Load => load::load(&mut rng, index),
+        Profile::Classes => classes::classes(&mut rng, index),
+        Profile::Below => sweep::below(at),
     };
     Case { table, question, buffer: buffer_length(&mut rng) }
 }
 
-/// The profiles without an end, mixed.
+/// The profiles without an end, mixed. In every other round those that have superclasses by the way have none, so that
+/// the Rust is a yardstick of the same shapes.
 pub fn mixed(seed: u64, index: u64) -> Case {
-    const TURN: [Profile; 12] = [
-        Profile::Rich,
-        Profile::Calls,
-        Profile::Wide,
-        Profile::Members,
-        Profile::Operators,
-        Profile::Calls,
-        Profile::Damaged,
-        Profile::Boundary,
-        Profile::Random,
-        Profile::Outside,
-        Profile::Typed,
-        Profile::Load,
+    const TURN: [(Profile, bool); 13] = [
+        (Profile::Rich, true),
+        (Profile::Calls, true),
+        (Profile::Wide, false),
+        (Profile::Members, true),
+        (Profile::Operators, true),
+        (Profile::Calls, true),
+        (Profile::Damaged, false),
+        (Profile::Boundary, false),
+        (Profile::Random, false),
+        (Profile::Outside, false),
+        (Profile::Typed, true),
+        (Profile::Load, true),
+        (Profile::Classes, false),
     ];
-    case(TURN[(index % 12) as usize], seed, index / 12)
+    let round = index / TURN.len() as u64;
+    let (profile, by_the_way) = TURN[(index % TURN.len() as u64) as usize];
+    let mut case = case(profile, seed, round);
+    if by_the_way && round % 2 == 1 {
+        case.table = without_superclasses(&case.table);
+    }
+    case
 }

@@ -1,5 +1,6 @@
 //! Exhaustive sweeps, by index.
 
+use super::classes::WRAPS;
 use super::Profile;
 use crate::bytes::*;
 use crate::name::{BUILT_IN, NONE};
@@ -88,12 +89,31 @@ pub fn short(at: usize) -> Pair {
     }
 }
 
+/// The case at a place of a sweep that is gone through twice: with its tables as they are, then without superclasses, where
+/// the Rust is a yardstick.
+fn in_two_rounds(at: usize, once: usize, case: fn(usize) -> Pair) -> Pair {
+    let (table, question) = case(at % once);
+    if at < once {
+        (table, question)
+    } else {
+        (without_superclasses(&table), question)
+    }
+}
+
 /// Leaves of the type list, calls without arguments of every name, and every kind byte.
 pub fn one_node_count() -> usize {
+    2 * one_node_once()
+}
+
+fn one_node_once() -> usize {
     type_list().len() + BUILT_IN.len() + 7 + 256
 }
 
 pub fn one_node(at: usize) -> Pair {
+    in_two_rounds(at, one_node_once(), one_of_one_node)
+}
+
+fn one_of_one_node(at: usize) -> Pair {
     let mut table = small_table();
     table.plain(44, &[INT], &[]);
     table.plain(45, &[INT], &[(44, DEFAULT, vec![INT])]);
@@ -111,11 +131,20 @@ pub fn one_node(at: usize) -> Pair {
 }
 
 pub fn pairs_count() -> usize {
+    2 * pairs_once()
+}
+
+fn pairs_once() -> usize {
     let n = type_list().len();
     23 * n * n
 }
 
+/// Every operator with every pair of the type list.
 pub fn pairs(at: usize) -> Pair {
+    in_two_rounds(at, pairs_once(), one_of_pairs)
+}
+
+fn one_of_pairs(at: usize) -> Pair {
     let types = type_list();
     let n = types.len();
     let op = (at % 23) as u8;
@@ -127,11 +156,19 @@ pub fn pairs(at: usize) -> Pair {
 }
 
 pub fn singles_count() -> usize {
+    2 * singles_once()
+}
+
+fn singles_once() -> usize {
     (7 + BUILT_IN.len() + 6) * type_list().len() * 2
 }
 
 /// Unary operators; members; and the same names as methods.
 pub fn singles(at: usize) -> Pair {
+    in_two_rounds(at, singles_once(), one_of_singles)
+}
+
+fn one_of_singles(at: usize) -> Pair {
     let types = type_list();
     let ty = &types[at / 2 % types.len()];
     let what = at / 2 / types.len();
@@ -153,6 +190,10 @@ pub fn singles(at: usize) -> Pair {
 }
 
 pub fn assign_count() -> usize {
+    2 * assign_once()
+}
+
+fn assign_once() -> usize {
     let n = type_list().len();
     2 * n * n
 }
@@ -160,6 +201,10 @@ pub fn assign_count() -> usize {
 /// Whether a type goes where another is expected, by a call with one parameter: alone (17 or none),
 /// and beside an overload whose parameter has the argument's own type (which score is higher).
 pub fn assign(at: usize) -> Pair {
+    in_two_rounds(at, assign_once(), one_of_assign)
+}
+
+fn one_of_assign(at: usize) -> Pair {
     let types = type_list();
     let n = types.len();
     let (from, to) = (&types[at / 2 / n % n], &types[at / 2 % n]);
@@ -196,9 +241,12 @@ fn flip_inputs() -> Vec<Pair> {
             method(f, &leaf(&named(d)), &[]),
         ],
     );
+    let (table, asked) = (table.bytes(), question_in(c, f, false, &tree));
+    let flat = without_superclasses(&table);
     vec![
-        (table.bytes(), question_in(c, f, false, &tree)),
+        (table, asked.clone()),
         (vec![], question(&binary(SUB, &leaf(&function(&[&[INT]], &type_var(3))), &leaf(&map(&[INT], &[ANY]))))),
+        (flat, asked),
     ]
 }
 
@@ -222,4 +270,53 @@ pub fn flips(at: usize) -> Pair {
         at -= all;
     }
     unreachable!("{:?} has no such case", Profile::Flips)
+}
+
+/// The names of the sweep over wrappings: 40 A below 41 B below 42 C; 43 D with a record of its own; 44 E below 45 N, which
+/// has none; 46 T below B, outside `types`; List below C; Set below List.
+fn class_table() -> Table {
+    let mut table = Table::with_names(&["Aa", "Bb", "Cc", "Dd", "Ee", "Nn", "T", "f", "x"]);
+    table.class(42, NONE, NONE, true);
+    table.class(41, 42, NONE, false);
+    table.class(40, 41, NONE, true);
+    table.class(43, NONE, NONE, true);
+    table.class(44, 45, NONE, true);
+    table.class(46, 41, NONE, false);
+    table.class(1, 42, NONE, true);
+    table.class(5, 1, NONE, true);
+    table
+}
+
+const BELOW_CLASSES: [u16; 9] = [40, 41, 42, 43, 44, 45, 46, 1, 5];
+
+/// The classes in every wrapping.
+fn below_types() -> &'static [Bytes] {
+    static LIST: OnceLock<Vec<Bytes>> = OnceLock::new();
+    LIST.get_or_init(|| WRAPS.iter().flat_map(|wrap| BELOW_CLASSES.map(|class| wrap(&named(class)))).collect())
+}
+
+pub fn below_count() -> usize {
+    2 * below_once()
+}
+
+fn below_once() -> usize {
+    2 * below_types().len() * below_types().len()
+}
+
+/// A type where another is expected: by a call whose second overload takes everything, which then ties or is beaten, and
+/// by a comparison.
+pub fn below(at: usize) -> Pair {
+    in_two_rounds(at, below_once(), one_of_below)
+}
+
+fn one_of_below(at: usize) -> Pair {
+    let types = below_types();
+    let (from, to) = (&types[at / 2 / types.len()], &types[at / 2 % types.len()]);
+    let mut table = class_table();
+    if at % 2 == 1 {
+        return (table.bytes(), question(&binary(EQ, &leaf(from), &leaf(to))));
+    }
+    table.plain(47, &[STRING], &[(48, 0, to.clone())]);
+    table.plain(47, &[DOUBLE], &[(48, 0, vec![ANY])]);
+    (table.bytes(), question(&call(47, &[leaf(from)])))
 }

@@ -40,7 +40,7 @@ pub fn check_binary(symbols: &Symbols, op: u8, left: &[u8], right: &[u8]) -> Rul
     match op {
         ADD => sum(left, right),
         ADD..=MOD => arithmetic(left, right),
-        EQ | NE => equality(left, right),
+        EQ | NE => equality(symbols, left, right),
         LT..=GE => comparison(left, right),
         AND | OR => logical(left, right),
         BIT_AND..=USHR => bitwise(left, right),
@@ -91,13 +91,14 @@ fn char_and_string(left: &[u8], right: &[u8]) -> bool {
     matches!((left[0], right[0]), (CHAR, STRING) | (STRING, CHAR))
 }
 
-/// "4 unrelated comparison (warning)".
-fn equality(left: &[u8], right: &[u8]) -> Ruled {
-    let related = can_assign_to(left, right) || can_assign_to(right, left) || char_and_string(left, right);
+/// "4 unrelated comparison (warning)". Document 02, order 2: "Overloads, comparisons and clean rules take the new rule".
+fn equality(symbols: &Symbols, left: &[u8], right: &[u8]) -> Ruled {
+    let assigns = |from: &[u8], to: &[u8]| can_assign_to(symbols, from, to);
+    let related = assigns(left, right) || assigns(right, left) || char_and_string(left, right);
     Ruled::unless(related, [BOOLEAN], 4)
 }
 
-/// "5 not comparable".
+/// "5 not comparable". Assignability is not asked.
 fn comparison(left: &[u8], right: &[u8]) -> Ruled {
     let numbers = is_numeric(left) && is_numeric(right);
     let unknown = either(left, right, |ty| ty[0] == ANY);

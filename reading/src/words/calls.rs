@@ -158,6 +158,9 @@ fn unmatched(
         return out.of(&[ERROR], "no match");
     };
     let found = mismatches(symbols, only, arguments);
+    if arguments.iter().zip(&only.params).any(|(a, p)| rulings::takes_subclass(symbols, p, a)) {
+        out.rulings.push("by index, a subclass accepted");
+    }
     for position in &found {
         out.report(17, arguments[position - 1].node, *position);
     }

@@ -7,7 +7,7 @@ use super::binary::check_binary;
 use super::calls::{self, Argument};
 use super::member::check_member;
 use super::question::{Question, Shape, Tree};
-use super::rulings::Rulings;
+use super::rulings::{self, Rulings};
 use super::symbols::Symbols;
 use super::types::{named_id, non_null, ANY, ERROR};
 use super::unary::check_unary;
@@ -48,7 +48,7 @@ pub struct Judged {
     pub reports: Vec<Diagnostic>,
     /// The visited nodes in the order in which they were finished, each with its type.
     pub finished: Vec<(usize, Vec<u8>)>,
-    /// What decided the calls, for counting.
+    /// What decided, for counting.
     pub rulings: Rulings,
 }
 
@@ -84,6 +84,7 @@ impl Judge<'_> {
             Shape::Named(_, value) => self.node(value),
             Shape::Binary(op, left, right) => {
                 let (left, right) = (self.node(left), self.node(right));
+                self.said.rulings.extend(rulings::of_binary(self.symbols, *op, &left, &right));
                 self.rule(node, check_binary(self.symbols, *op, &left, &right))
             }
             Shape::Unary(op, operand) => {
@@ -92,6 +93,7 @@ impl Judge<'_> {
             }
             Shape::Member(name, object) => {
                 let object = self.node(object);
+                self.said.rulings.extend(rulings::of_member(self.symbols, self.question, &object, *name));
                 self.rule(node, check_member(self.symbols, self.question, &object, *name))
             }
             Shape::Call(name, arguments) => self.call(node, *name, arguments),
@@ -123,6 +125,7 @@ impl Judge<'_> {
             self.said.rulings.push("a method without a list");
             return vec![ANY];
         };
+        self.said.rulings.extend(rulings::of_access(self.symbols, self.question, first.visibility, owner));
         if !is_allowed(self.symbols, self.question, first.visibility, owner) {
             self.report(20, node, first.visibility as u16);
         }

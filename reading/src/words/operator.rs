@@ -9,17 +9,23 @@ use super::types::{named_id, ANY};
 const METHODS: u8 = 11;
 const PLUS: u16 = 6;
 
-pub fn operator_overload_return(symbols: &Symbols, op: u8, left: &[u8]) -> Option<Vec<u8>> {
+/// The class whose operator set has the operator, climbing from the left type.
+pub fn class_with_method(symbols: &Symbols, op: u8, left: &[u8]) -> Option<u16> {
     if op >= METHODS {
         return None;
     }
     let mut climb = named_id(left);
     while let Some(class) = climb {
         if symbols.operators(class)? >> op & 1 == 1 {
-            let first = symbols.functions(Some(class), PLUS + op as u16).first();
-            return Some(first.map_or(vec![ANY], |f| f.result.to_vec()));
+            return Some(class);
         }
         climb = symbols.superclass(class);
     }
     None
+}
+
+pub fn operator_overload_return(symbols: &Symbols, op: u8, left: &[u8]) -> Option<Vec<u8>> {
+    let class = class_with_method(symbols, op, left)?;
+    let first = symbols.functions(Some(class), PLUS + op as u16).first();
+    Some(first.map_or(vec![ANY], |f| f.result.to_vec()))
 }

@@ -11,5 +11,5 @@ pub fn is_type_variable(symbols: &Symbols, ty: &[u8]) -> bool {
 }
 
 pub fn param_accepts(symbols: &Symbols, param: &[u8], ty: &[u8], vararg: bool) -> bool {
-    can_assign_to(ty, param) || is_type_variable(symbols, param) || vararg
+    can_assign_to(symbols, ty, param) || is_type_variable(symbols, param) || vararg
 }

@@ -113,6 +113,12 @@ impl<'a> Symbols<'a> {
         self.classes.get(&class)?.superclass
     }
 
+    /// The classes that are met climbing from one along superclasses, the nearest first. Every class record climbs, in
+    /// `types` or not; a superclass without a record is met, and the climb ends there.
+    pub fn met_from(&self, class: u16) -> impl Iterator<Item = u16> + '_ {
+        std::iter::successors(self.superclass(class), |met| self.superclass(*met))
+    }
+
     pub fn package(&self, class: u16) -> Option<u16> {
         self.classes.get(&class)?.package
     }

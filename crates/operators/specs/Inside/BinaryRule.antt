@@ -4,7 +4,7 @@ use lib.Dec.{leb, eqb}
 use mathlib.Core.Bool.{not, _&&_, _||_}
 use mathlib.Core.List.{List}
 use Rattle.area.specs.declared.Source.the-variants.{Kind, Name, First, Second, Part}
-use Rattle.operators.specs.Assign.{canAssign}
+use Rattle.operators.specs.Assign.{assigns}
 use Rattle.operators.specs.Binary.{fractional, takesNullable}
 use Rattle.operators.specs.DiagnosticKind.{nullableOperandsDiag, plusDiag, numericDiag, unrelatedDiag, notComparableDiag, logicalDiag, bitwiseDiag}
 use Rattle.operators.specs.Inside.MethodPlace.{operatorPlace}
@@ -15,6 +15,8 @@ use Rattle.operators.specs.declared.method.Method.the-variants as method
 use Rattle.operators.specs.declared.method.Method.{Method}
 use Rattle.operators.specs.declared.ruled.OneReport.{OneReport}
 use Rattle.operators.specs.declared.ruled.Ruled.{Ruled}
+use Rattle.symbol.specs.Lookup.{symbolsOf}
+use Rattle.symbol.specs.Symbols.{Symbols}
 use Rattle.ty.specs.Bytes.{Ty, isInteger, isString, sameBytes}
 use Rattle.ty.specs.Choose.{choose}
 use Rattle.ty.specs.Kind.{intKind, longKind, floatKind, booleanKind, stringKind, anyKind, nullableKind, errorKind}
@@ -35,9 +37,9 @@ arithmeticRuled l r =
     (failsOne numericDiag)
 
 -- Eq, Ne
-unfoldable pub equalityRuled : Ty → Ty → OneReport
-equalityRuled l r =
-    checkedOne ((canAssign l r || canAssign r l) || (either anyKind l r || charString l r)) (Kind booleanKind) unrelatedDiag
+unfoldable pub equalityRuled : Symbols → Ty → Ty → OneReport
+equalityRuled S l r =
+    checkedOne ((assigns S l r || assigns S r l) || (either anyKind l r || charString l r)) (Kind booleanKind) unrelatedDiag
 
 -- Lt, Gt, Le, Ge
 unfoldable pub orderRuled : Ty → Ty → OneReport
@@ -53,11 +55,11 @@ unfoldable pub bitwiseRuled : Ty → Ty → OneReport
 bitwiseRuled l r = checkedOne ((isInteger l && isInteger r) || either anyKind l r) First bitwiseDiag
 
 -- the operator's own check
-unfoldable pub operatorRuled : ℕ → Ty → Ty → Ruled
-operatorRuled op l r =
+unfoldable pub operatorRuled : Symbols → ℕ → Ty → Ty → Ruled
+operatorRuled S op l r =
     choose (eqb op addOp) (ruledAlone (addRuled l r))
     (choose (leb op modOp) (ruledAlone (arithmeticRuled l r))
-    (choose (leb op neOp) (ruledAlone (equalityRuled l r))
+    (choose (leb op neOp) (ruledAlone (equalityRuled S l r))
     (choose (leb op geOp) (ruledAlone (orderRuled l r))
     (choose (leb op orOp) (logicalRuled l r)
     (choose (leb op ushrOp) (ruledAlone (bitwiseRuled l r))
@@ -65,8 +67,8 @@ operatorRuled op l r =
     (choose (eqb op toOp) (ruledAlone (cleanOne (Name pairId)))
     (choose (eqb op isOp) (ruledAlone (plainOne booleanKind)) (ruledAlone (cleanOne Second))))))))))
 
-unfoldable pub builtinRuled : ℕ → Ty → Ty → Ruled
-builtinRuled op l r = choose (not (takesNullable op) && either nullableKind l r) (ruledAlone (failsOne nullableOperandsDiag)) (operatorRuled op l r)
+unfoldable pub builtinRuled : Symbols → ℕ → Ty → Ty → Ruled
+builtinRuled S op l r = choose (not (takesNullable op) && either nullableKind l r) (ruledAlone (failsOne nullableOperandsDiag)) (operatorRuled S op l r)
 
 -- the type of an operator method, or else a
 unfoldable pub methodRuled : Method → Ruled → Ruled
@@ -77,4 +79,4 @@ methodRuled (method.At start len) a = ruledAlone (cleanOne (Part start len))
 -- a binary node's answer
 unfoldable pub binaryRuled : List ℕ → ℕ → Ty → Ty → Ruled
 binaryRuled table op l r =
-    choose (either errorKind l r) (ruledAlone (plainOne errorKind)) (methodRuled (operatorPlace table op l) (builtinRuled op l r))
+    choose (either errorKind l r) (ruledAlone (plainOne errorKind)) (methodRuled (operatorPlace table op l) (builtinRuled (symbolsOf table) op l r))

@@ -86,10 +86,19 @@ step-spec =
     ) (search chain depth 16))
     (λ c.
     rw (
-      ← c .before .before .before .before .before .before .before .before .before .before .before .before .before .before .assigns-at-once .ensures,
-      ← c .before .before .before .before .before .before .before .before .before .before .is-list-name .ensures,
-      ← c .before .before .before .before .before .is-list-name2 .ensures,
-      ← c .before .before .before .before .before .before .before .before .is-growing .ensures,
-      ← c .before .before .before .before .before .before .before .before .before .before .before .before .kind-of .ensures,
-      ← c .before .before .before .before .before .before .before .before .before .before .before .kind-of2 .ensures,
+      ← c .before .before .before .before .before .before .before .before .before .before .before .before .before .before .before .assigns-at-once .ensures,
+      ← c .before .before .before .before .before .before .before .before .before .before .before .is-list-name .ensures,
+      ← c .before .before .before .before .before .before .is-list-name2 .ensures,
+      ← c .before .before .before .before .before .before .before .before .before .is-growing .ensures,
+      ← c .before .before .before .before .before .before .before .before .before .before .before .before .before .kind-of .ensures,
+      ← c .before .before .before .before .before .before .before .before .before .before .before .before .kind-of2 .ensures,
+    ) (search chain depth 16))
+    (λ c.
+    rw (
+      ← c .before .before .before .before .before .before .before .before .before .before .before .before .before .before .before .assigns-at-once .ensures,
+      ← c .before .before .before .before .before .before .before .before .before .before .before .is-list-name .ensures,
+      ← c .before .before .before .before .before .before .is-list-name2 .ensures,
+      ← c .before .before .before .before .before .before .before .before .before .is-growing .ensures,
+      ← c .before .before .before .before .before .before .before .before .before .before .before .before .before .kind-of .ensures,
+      ← c .before .before .before .before .before .before .before .before .before .before .before .before .kind-of2 .ensures,
     ) (search chain depth 16)))
