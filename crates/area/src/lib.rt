@@ -1,4 +1,6 @@
 // Where types and diagnostics are kept while a question is judged: an area of at most 64 slots of 256 bytes with their lengths, and a lent buffer.
+#![tactic(auto)]
+
 ghost use Rattle.std.specs.Prelude.{◌≡◌, ◌∷◌, ◌+◌, ◌≤◌, ◌<◌, length, take, drop, get_or};
 ghost use Rattle.std.proofs.lemmas.List.Edits.{sets};
 ghost use Rattle.ty.specs.Kind.{error_kind, pointer_kind, list_kind, named_kind, function_kind};

@@ -1,4 +1,6 @@
 // The judge and the test load for C and Rust: a static library whose functions take numbers and byte slices. include/aura_judge.h declares them.
+#![tactic(auto)]
+
 ghost use Rattle.std.specs.Prelude.{◌≡◌, [], ◌+◌, ◌≤◌, length};
 ghost use Rattle.std.proofs.lemmas.List.Edits.{sets};
 ghost use Rattle.judge.specs.Answered.{outcome_is};

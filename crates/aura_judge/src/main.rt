@@ -1,4 +1,6 @@
 // The judge as a program: reads a table length, a table and a question from standard input, and prints the answer.
+#![tactic(auto)]
+
 ghost use Rattle.std.specs.Prelude.{◌≡◌, length};
 ghost use Rattle.console.specs.Buffer.{holding};
 ghost use Rattle.judge_text.specs.ProgramText.{input_text, input_buffer};

@@ -1,5 +1,7 @@
 // The test load as a program: a start number and a node count, two decimal arguments, in; the question's bytes, and nothing else, out on standard output. Where
 // there is no question it writes nothing there, and one line on standard error.
+#![tactic(auto)]
+
 ghost use Rattle.std.specs.Prelude.{◌≤◌, length, ◌≡◌};
 ghost use Rattle.aura_load.specs.Argument.{more_digits, number_in, no_number};
 ghost use Rattle.load.specs.Load.{load_of};

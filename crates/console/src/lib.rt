@@ -1,4 +1,6 @@
 // What the program does with bytes besides judging: its input in two parts, and an answer as text.
+#![tactic(auto)]
+
 pub mod print;
 
 ghost use Rattle.std.specs.Prelude.{◌≡◌, ◌≤◌};

@@ -1,4 +1,6 @@
 // The judge: one expression typed against one symbol table, both in bytes.
+#![tactic(auto)]
+
 mod room;
 mod root;
 

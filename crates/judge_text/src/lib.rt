@@ -1,4 +1,6 @@
 // The judge's answer as text, from a table and a question or from the program's input.
+#![tactic(auto)]
+
 ghost use Rattle.std.specs.Prelude.{◌≡◌, length};
 ghost use Rattle.console.specs.Buffer.{Filled};
 ghost use Rattle.typing.specs.Answer.{buffer_of};

@@ -1,4 +1,6 @@
 // The question: a header and one tree of nodes, in bytes.
+#![tactic(auto)]
+
 pub mod node;
 
 ghost use Rattle.std.specs.Prelude.{◌≡◌};

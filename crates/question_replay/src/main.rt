@@ -1,5 +1,6 @@
 // Prints the numbers of generated questions, a line each; `stdout` has the oracle's (oracle/src/bin/questions.rs wrote both files). Standard input has, for
 // each question, the number of the table's names and the question's length, 2 bytes each, and the question.
+#![tactic(auto)]
 
 // Reads one question and prints its number, or answers false where the input ends.
 fn next() -> bool {

@@ -1,5 +1,7 @@
 // Runs the stored answers through the judge. Standard input has, for each case, table, question and the text that the program prints, each behind its length in
 // 2 bytes, low byte first. Prints how many cases agree; at the first that does not it stops and says which that is, counted from 0.
+#![tactic(auto)]
+
 ghost use Rattle.std.specs.Prelude.{◌≤◌, length, ◌≡◌};
 ghost use Rattle.console.specs.Buffer.{holding};
 ghost use Rattle.judge_text.specs.ProgramText.{answer_text};

@@ -1,4 +1,6 @@
 // How well an overload takes a call's arguments (checker.rs): its number of parameters, the named and the positional pass.
+#![tactic(auto)]
+
 pub mod args;
 pub mod arity;
 pub mod score;

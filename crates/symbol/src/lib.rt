@@ -1,4 +1,6 @@
 // The symbol table (sema/symbol.rs): its check, its lookups, the climb along superclasses.
+#![tactic(auto)]
+
 pub mod checks;
 pub mod functions;
 pub mod lookups;

@@ -1,5 +1,6 @@
 // Prints the numbers of generated tables, a line each; `stdout` has the oracle's (oracle/src/bin/tables.rs wrote both files). Standard input has, for each
 // table, its length in 2 bytes and the table.
+#![tactic(auto)]
 
 // Reads one table and prints its number, or answers false where the input ends.
 fn next() -> bool {

@@ -1,4 +1,6 @@
 // Types as bytes: a kind byte, a body whose length the kind fixes, and the child types (sema/ty.rs).
+#![tactic(auto)]
+
 pub mod name;
 pub mod read;
 

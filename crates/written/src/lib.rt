@@ -1,4 +1,6 @@
 // What every writing part shares: its answer, what it does to the buffer that it is lent, and the stores of several bytes.
+#![tactic(auto)]
+
 ghost use Rattle.std.specs.Prelude.{◌≡◌, ◌+◌, ◌≤◌, length, replicate};
 ghost use Rattle.std.proofs.lemmas.List.Edits.{sets};
 ghost use Rattle.ty.specs.Bytes.{two_bytes};
