@@ -61,6 +61,17 @@ def declared():
     return rows
 
 
+def imported():
+    """Names that the crates import from the library; what has such a name here keeps it."""
+    own = {line.split(":")[0].split()[0] for line in open("crates.txt", encoding="utf-8") if line.strip()}
+    names = set()
+    for path in list(antt_files()) + sorted(glob.glob("crates/*/src/**/*.rt", recursive=True)):
+        for module, items in re.findall(r"use ([\w.+-]+)\.\{([^}]*)\}", open(path, encoding="utf-8").read()):
+            if not (module.startswith("Rattle.") and module.split(".")[1] in own):
+                names |= {item.strip().split(" as ")[0] for item in items.split(",")}
+    return names
+
+
 def snake(word):
     return re.sub(r"([a-z0-9₀-₉'])([A-Z])", r"\1_\2", word).lower()
 
@@ -89,7 +100,8 @@ def renamed():
     types = {n for n, r in rows.items() if any(re.search(r"(→|:)\s*Type \d( where)?\s*$", s) for _, s in r)}
     defs = {n for n, r in rows.items() if any("abbrev" in m or "unfoldable" in m for m, _ in r)} | types
     names = {d if d in types else snake(d) for d in defs} | LIBRARY
-    plain = [n for n in rows if n not in types and not n[0].isupper() and re.match(r"^[A-Za-z0-9_'₀-₉≢-]+$", n)]
+    library = imported()
+    plain = [n for n in rows if n not in types and n not in library and not n[0].isupper() and re.match(r"^[A-Za-z0-9_'₀-₉≢-]+$", n)]
     new = {}
     for n in plain:
         if n in defs:

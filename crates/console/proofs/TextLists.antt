@@ -5,7 +5,7 @@ use lib.Dec.{ltb}
 use lib.ListN.{length, get_or, take, set, replicate}
 use lib.Seq.{sets, set_out, take-suc}
 use mathlib.Core.Bool.{Bool, true, false}
-use mathlib.Core.List.{List, [], ◌∷◌, ◌++◌, append_assoc, append_nil}
+use mathlib.Core.List.{List, [], ◌∷◌, ◌++◌, append_assoc, append-nil}
 use mathlib.Core.Path.{◌≡◌, refl, sym, ap, ◌∙◌}
 use native.Mathlib.Numerals.{add-one}
 use native.Mathlib.Omega.{arith}
@@ -88,7 +88,7 @@ hex_next s i h =
     ap (λ (k : ℕ). hex_bytes (take k s)) (add-one i)
     ∙ ap hex_bytes (take-suc s i 0 h)
     ∙ hex_append (take i s) (get_or s i 0 ∷ [])
-    ∙ ap (λ (k : List ℕ). hex_bytes (take i s) ++ k) (append_nil (hex_byte (get_or s i 0)))
+    ∙ ap (λ (k : List ℕ). hex_bytes (take i s) ++ k) (append-nil (hex_byte (get_or s i 0)))
 
 pub lines_next : (d : List ℕ) (n : ℕ) → lines_of d n ++ line_at d (5 * n) ≡ lines_of d (n + 1)
 unfolding lines_of

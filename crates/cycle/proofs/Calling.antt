@@ -2,7 +2,7 @@
 use Prim.Native.Nat.{ℕ, suc, ◌+◌, ◌-◌, ◌*◌, ◌≤◌, ◌<◌}
 use lib.ListN.{length, length-append, replicate}
 use mathlib.Core.Bool.{Bool, true, false, not, true≢false, false≢true}
-use mathlib.Core.List.{List, [], ◌++◌, append_assoc, append_nil}
+use mathlib.Core.List.{List, [], ◌++◌, append_assoc, append-nil}
 use mathlib.Core.Option.{Option}
 use mathlib.Core.Path.{◌≡◌, refl, sym, ap, ◌∙◌}
 use native.Mathlib.Numerals.{add-one}
@@ -119,7 +119,7 @@ module _ {t : List ℕ} {index : List ℕ} (ok : IndexedTable t index) (H : Head
     (st : RowStands q rs p) (lg : RowLegal x.names rs) (counted : count rs ≡ many) (fits : many ≤ 16) (later : s.node < n) (room : n + sizes rs ≤ slots_for (length q)) (few : s.count + length d + 2 ≤ most_at_node * n) where
   before : Reached s p n g (d ++ at_node s.node c.before) b b₂ begun.state
   before =
-      reached_as (ap (λ (z : State). z.at) w.result) (ap (λ (z : State). z.node) w.result) (append_nil g) refl (reached_join w list.reached)
+      reached_as (ap (λ (z : State). z.at) w.result) (ap (λ (z : State). z.node) w.result) (append-nil g) refl (reached_join w list.reached)
 
   before_few : length (d ++ at_node s.node c.before) ≤ length d + 2
   before_few = omega (arith, length-append d (at_node s.node c.before), at_length s.node c.before, list.few)
@@ -338,7 +338,7 @@ module _ {t : List ℕ} {index : List ℕ} (ok : IndexedTable t index) (fit : Ca
             let num : number_after x.tree s.node ≡ number_after_row rs (number_after c (suc s.node)) = ap (λ (z : Node). number_after z s.node) e in
             let sz : size x.tree ≡ suc (size c + sizes rs) = ap size e in
             let j : judge (symbols_of t) H x.tree s.node ≡ done s.node any_ty C.typed C.diags = ap (λ (z : Node). judge (symbols_of t) H z s.node) e ∙ ap (λ (o : Option Callee). method_step (symbols_of t) s.node (judge (symbols_of t) H c (suc s.node)) o (judges (symbols_of t) H rs (number_after c (suc s.node)))) found in
-            rw n.buffer (close ok H x _ j over_method object_is.filled (f b) refl (append_nil C.diags) (omega arith) (sym num) (omega (arith, object_is.few)))
+            rw n.buffer (close ok H x _ j over_method object_is.filled (f b) refl (append-nil C.diags) (omega arith) (sym num) (omega (arith, object_is.few)))
 
       -- a list
       module _ (yes : begun.listed ≡ true) where

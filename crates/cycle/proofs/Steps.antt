@@ -1,7 +1,7 @@
 -- The cycle's laws, on plain values: what the calls are asked, and what each return leaves.
 use Prim.Native.Nat.{ℕ, suc, ◌+◌, ◌-◌, ◌*◌, ◌≤◌, ◌<◌}
 use lib.ListN.{length, take, drop, length-append}
-use mathlib.Core.List.{List, [], ◌∷◌, ◌++◌, append_nil}
+use mathlib.Core.List.{List, [], ◌∷◌, ◌++◌, append-nil}
 use mathlib.Core.Path.{◌≡◌, refl, sym, ap, ◌∙◌}
 use native.Mathlib.Numerals.{add-one}
 use native.Mathlib.Omega.{arith}
@@ -215,7 +215,7 @@ module _ {t : List ℕ} {index : List ℕ} (ok : IndexedTable t index) (H : Head
         → bytes x.tree ≡ own + bytes c → number_after x.tree s.node ≡ number_after c (suc s.node)
         → ((b : List ℕ) → Finished r₁ s.node (slot_of a₁ l₁ (s.node + 1)) [] a₁ a' l₁ l' b b r) → NodeIs t H s a a' l l' b b₁ r x.tree
     only_named e eb en f =
-        close _ e only_child.reached only_child.filled (rw only_top.is at (f b₁)) refl (append_nil (judge (symbols_of t) H c (suc s.node)).diags) (omega arith) (sym en) (omega (arith, only_child.few))
+        close _ e only_child.reached only_child.filled (rw only_top.is at (f b₁)) refl (append-nil (judge (symbols_of t) H c (suc s.node)).diags) (omega arith) (sym en) (omega (arith, only_child.few))
 
   -- ---- a unary operator, a named argument, a member: one child
   module _ (op : ℕ) (h : node_at q s.at ≡ Unary op) {s₁ : State} (i : s₁ ≡ inside_of s 2) where

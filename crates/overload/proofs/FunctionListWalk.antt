@@ -2,7 +2,7 @@
 use Prim.Native.Nat.{ℕ, suc, ◌+◌, ◌≤◌, ◌<◌}
 use lib.ListN.{length, length-append, length-map}
 use mathlib.Core.Bool.{Bool, true, false}
-use mathlib.Core.List.{List, [], ◌∷◌, ◌++◌, map, append_assoc, append_nil}
+use mathlib.Core.List.{List, [], ◌∷◌, ◌++◌, map, append_assoc, append-nil}
 use mathlib.Core.Path.{◌≡◌, refl, sym, ap, ◌∙◌, subst}
 use native.Mathlib.Omega.{arith}
 use Rattle.area.proofs.Diagnostics.{put_all_none, put_all-append}
@@ -159,7 +159,7 @@ module _ (t : List ℕ) (owner id : ℕ) (k : Bool) (n : ℕ) (xs : List Arg) (b
       walk_all : is.done ≡ function_places t owner id
       walk_all =
           let h : is.left ≡ [] = subst (λ (z : Found). PlaceFound t is.left z) e is.rest in
-          sym (append_nil is.done) ∙ ap (λ (ps : List Place). is.done ++ ps) (sym h) ∙ is.all
+          sym (append-nil is.done) ∙ ap (λ (ps : List Place). is.done ++ ps) (sym h) ∙ is.all
 
       pub walk_tally : w ≡ tally_of t xs n₀ (picked t k n (function_places t owner id))
       walk_tally = is.tally ∙ ap (λ (ps : List Place). tally_of t xs n₀ (picked t k n ps)) walk_all

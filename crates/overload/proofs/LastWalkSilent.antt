@@ -2,7 +2,7 @@
 use Prim.Native.Nat.{ℕ, suc}
 use mathlib.Core.Path.{◌≡◌, refl, ap, sym, ◌∙◌}
 use mathlib.Core.Bool.{Bool, true, false, ◌||◌}
-use mathlib.Core.List.{List, [], ◌∷◌, ◌++◌, append_nil}
+use mathlib.Core.List.{List, [], ◌∷◌, ◌++◌, append-nil}
 use mathlib.Core.Option.{Option, none, some}
 use lib.ListN.{length}
 use lib.Dec.{eqb, ltb}
@@ -115,6 +115,6 @@ module _ (S : Symbols) where
           under : (ws : List Overload) (b : Best) → chosen S nobody (v ∷ ws) xs ≡ b → settle_walked S n xs v ws b ≡ settle S n xs v ws b
           under ws (best s first many) e =
               let w : last_walk S first xs ≡ [] = walk_silent first xs s (best_matches xs (v ∷ ws) (best s first many) e) in
-              λ i. record { ty = first.result; diags = all_unknown (v ∷ ws) xs ++ (ap (λ (z : List Diag). tie_report n many ++ z) w ∙ append_nil (tie_report n many)) i }
+              λ i. record { ty = first.result; diags = all_unknown (v ∷ ws) xs ++ (ap (λ (z : List Diag). tie_report n many ++ z) w ∙ append-nil (tie_report n many)) i }
           under [] nobody e = refl
           under (w ∷ ws) nobody e = refl

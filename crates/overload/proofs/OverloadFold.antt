@@ -4,7 +4,7 @@ use borrow.Author.Tests.{eq-eqb, ne_eqb, lt-ltb, le-ltb}
 use lib.Dec.{eqb, ltb}
 use lib.ListN.{length, length-append}
 use mathlib.Core.Bool.{Bool, true, false, not, ◌&&◌, ◌||◌}
-use mathlib.Core.List.{List, [], ◌∷◌, ◌++◌, map, append_assoc, append_nil}
+use mathlib.Core.List.{List, [], ◌∷◌, ◌++◌, map, append_assoc, append-nil}
 use mathlib.Core.Option.{Option, none, some}
 use mathlib.Core.Path.{◌≡◌, refl, sym, ap, ◌∙◌}
 use native.Mathlib.Omega.{arith}
@@ -88,7 +88,7 @@ module _ (t : List ℕ) where
 
   pub unknown_one_lem : (p : Place) (xs : List Arg) → all_unknown_at t (p ∷ []) xs ≡ unknowns_at t p xs
   unfolding all_unknown
-  unknown_one_lem p xs = append_nil (unknowns_at t p xs)
+  unknown_one_lem p xs = append-nil (unknowns_at t p xs)
 
   -- as many as there are places
   better_few : (b : BestPlace) (p : Place) (s : Option ℕ) → (highest_at t (better_place b p s)).many ≤ (highest_at t b).many + 1
@@ -150,7 +150,7 @@ module _ (t : List ℕ) where
 
     pub picked_snoc : (ps : List Place) (p : Place) → picked t k n (ps ++ (p ∷ [])) ≡ picked t k n ps ++ taken t k n p
     unfolding picked
-    picked_snoc [] p = append_nil (taken t k n p)
+    picked_snoc [] p = append-nil (taken t k n p)
     picked_snoc (q ∷ ps) p =
         ap (λ (vs : List Place). taken t k n q ++ vs) (picked_snoc ps p) ∙ sym (append_assoc (taken t k n q) (picked t k n ps) (taken t k n p))
 

@@ -2,7 +2,7 @@
 use Prim.Native.Nat.{ℕ, ◌+◌, ◌≤◌}
 use lib.ListN.{length, length-append, length-map}
 use mathlib.Core.Bool.{false}
-use mathlib.Core.List.{List, [], ◌∷◌, ◌++◌, map, append_assoc, append_nil}
+use mathlib.Core.List.{List, [], ◌∷◌, ◌++◌, map, append_assoc, append-nil}
 use mathlib.Core.Option.{Option}
 use mathlib.Core.Path.{◌≡◌, refl, sym, ap, ◌∙◌}
 use native.Mathlib.Nat.{add-zero}
@@ -83,7 +83,7 @@ module _ (t : List ℕ) (xs : List Arg) where
 
     pub tally_more_lem : (ps us : List Place) → tally_more t xs (tally_of t xs n ps) us ≡ tally_of t xs n (ps ++ us)
     unfolding tally_more
-    tally_more_lem ps [] = ap (λ (z : List Place). tally_of t xs n z) (sym (append_nil ps))
+    tally_more_lem ps [] = ap (λ (z : List Place). tally_of t xs n z) (sym (append-nil ps))
     tally_more_lem ps (u ∷ us) =
         ap (λ (w : Tally). tally_more t xs w us) (tally_snoc ps u) ∙ tally_more_lem (ps ++ (u ∷ [])) us
         ∙ ap (λ (z : List Place). tally_of t xs n z) (append_assoc ps (u ∷ []) us)

@@ -2,7 +2,7 @@
 use Prim.Native.Nat.{ℕ, ◌+◌, ◌*◌, ◌/◌, ◌%◌, ◌≤◌, ◌<◌}
 use lib.ListN.{length, drop, get_or, take-append-drop}
 use lib.Seq.{drop-drop, get_or-drop, drop-length}
-use mathlib.Core.List.{List, [], ◌∷◌, ◌++◌, append_assoc, append_nil}
+use mathlib.Core.List.{List, [], ◌∷◌, ◌++◌, append_assoc, append-nil}
 use mathlib.Core.Path.{◌≡◌, sym, ap, ◌∙◌}
 use native.Mathlib.Omega.{arith}
 use Rattle.question.proofs.Accepted.{accepted}
@@ -121,4 +121,4 @@ module _ (q : List ℕ) (low : (i : ℕ) → get_or q i 0 < 256) where
       written_at (tree_of q) header_bytes h.stands
       ∙ ap (λ (m : ℕ). write_tree (tree_of q) ++ drop m q) h.ends
       ∙ ap (write_tree (tree_of q) ++◌) (drop-length q)
-      ∙ append_nil (write_tree (tree_of q))
+      ∙ append-nil (write_tree (tree_of q))

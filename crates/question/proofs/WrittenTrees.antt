@@ -4,7 +4,7 @@ use borrow.Author.Tests.{le-leb, lt-ltb}
 use lib.ListN.{length, take, drop, length-append}
 use lib.Seq.{drop-drop, drop_at, take_at}
 use mathlib.Core.Bool.{Bool, true, false}
-use mathlib.Core.List.{List, [], ◌∷◌, ◌++◌, append_assoc, append_nil}
+use mathlib.Core.List.{List, [], ◌∷◌, ◌++◌, append_assoc, append-nil}
 use mathlib.Core.Path.{◌≡◌, refl, sym, ap, ◌∙◌}
 use native.Mathlib.Omega.{arith}
 use Rattle.question.proofs.Accepted.{HeaderFine, accepts, tree-found}
@@ -197,7 +197,7 @@ module _ (N : Names) (h : Header) (x : Node) (v : Legal N x) (few : size x ≤ m
   question_stands : TreeStands (write_question h x) x header_bytes
   unfolding write_question
   question_stands =
-      stands N (write_question h x) x header_bytes [] v (drop_at (write_header h) (write_tree x) header_bytes (header_long h) ∙ sym (append_nil (write_tree x)))
+      stands N (write_question h x) x header_bytes [] v (drop_at (write_header h) (write_tree x) header_bytes (header_long h) ∙ sym (append-nil (write_tree x)))
 
   question_long : length (write_question h x) ≡ header_bytes + bytes x
   unfolding write_question

@@ -7,7 +7,7 @@ use mathlib.Core.Bool.{Bool, true, false, not, ◌&&◌, ◌||◌, true≢false}
 use mathlib.Core.List.{List, [], ◌∷◌}
 use mathlib.Core.Path.{◌≡◌, refl, sym, ap, ◌∙◌}
 use Rattle.ty.specs.Choose.{choose}
-use Rattle.record.proofs.NoFault.{not_taken, not_false}
+use Rattle.record.proofs.NoFault.{not_taken, not-false}
 use Rattle.record.proofs.Laid.{same_first}
 use Rattle.record.specs.Inside.HeadFault.{super_missing, own_fault, key_fault, is_builtin_name, has_key, has_class, last_kind, super_late, head_fault, found_from}
 use Rattle.record.specs.Inside.Front.{head_of}
@@ -58,7 +58,7 @@ module _ (earlier : List Record) (r : Record) (rest : List Record) where
       let a = not_taken (head_of r).malformed 1 _ e in
       let b = not_taken (ltb (head_of r).kind (last_kind earlier)) 2 _ a.1 in
       let c = not_taken (not (id_defined (head_of r).top (count_of 1 earlier))) 3 _ b.1 in
-      (a.0, not_false (id_defined (head_of r).top (count_of 1 earlier)) c.0)
+      (a.0, not-false (id_defined (head_of r).top (count_of 1 earlier)) c.0)
 
   pub key_clean : key_fault earlier r rest ≡ 0 → has_key r earlier ≡ false
   unfolding key_fault

@@ -23,9 +23,9 @@ pub or_false : (a b : Bool) → a || b ≡ false → (a ≡ false) × (b ≡ fal
 or_false true b e = absurd (true≢false e)
 or_false false b e = (refl, e)
 
-pub not_false : (a : Bool) → not a ≡ false → a ≡ true
-not_false true e = refl
-not_false false e = sym e
+pub not-false : (a : Bool) → not a ≡ false → a ≡ true
+not-false true e = refl
+not-false false e = sym e
 
 pub record Clean (earlier : List Record) (r : Record) (rest : List Record) : Type 0 where
   pub whole : (head_of r).malformed ≡ false
@@ -51,7 +51,7 @@ clean_record earlier r rest e =
     record {
       whole = a.0;
       rises = ltb-false (head_of r).kind (last_kind earlier) b.0;
-      defined = not_false (id_defined (head_of r).top (count_of 1 earlier)) c.0;
+      defined = not-false (id_defined (head_of r).top (count_of 1 earlier)) c.0;
       distinct = h.0;
       own = i.0;
       fresh = i.1;

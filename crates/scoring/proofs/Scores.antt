@@ -1,6 +1,6 @@
 -- Scores in numbers: sums of them, and the two passes one argument at a time.
 use Prim.Native.Nat.{ℕ, ◌+◌, ◌*◌, ◌≤◌, ◌<◌}
-use borrow.Author.Tests.{eq-eqb, ne_eqb, lt-ltb, le-ltb, not-true, not_false}
+use borrow.Author.Tests.{eq-eqb, ne_eqb, lt-ltb, le-ltb, not-true, not-false}
 use lib.ListN.{get_or, set, length}
 use mathlib.Core.Bool.{Bool, true, false, not, ◌&&◌, false≢true}
 use mathlib.Core.List.{List, [], ◌∷◌}
@@ -44,7 +44,7 @@ matched_none s e = choose_no _ _ _ (not-true s.matched e)
 
 pub matched_some : (s : Score) → not s.matched ≡ false → score_of s ≡ some s.points
 unfolding score_of
-matched_some s e = choose_yes _ _ _ (not_false s.matched e)
+matched_some s e = choose_yes _ _ _ (not-false s.matched e)
 
 -- ---- a sum of two
 module _ (a b : Score) where

@@ -168,13 +168,13 @@ module _ (t : List ℕ) (from end count : ℕ) (high : end ≤ length t) (most :
         let z : count - p.count ≡ 0 = omega arith in
         record {
           count = e;
-          same = ap (λ (n : ℕ). params_row t p 0 n) (sym e) ∙ sym (append_nil (params_row t p 0 p.count)) ∙ rw z at g.same;
+          same = ap (λ (n : ℕ). params_row t p 0 n) (sym e) ∙ sym (append-nil (params_row t p 0 p.count)) ∙ rw z at g.same;
           types = λ i l. g.types i (omega arith);
         }
       where
-        append_nil : (xs : List Param) → xs ++ [] ≡ xs
-        append_nil [] = refl
-        append_nil (x ∷ xs) = ap (λ (y : List Param). x ∷ y) (append_nil xs)
+        append-nil : (xs : List Param) → xs ++ [] ≡ xs
+        append-nil [] = refl
+        append-nil (x ∷ xs) = ap (λ (y : List Param). x ∷ y) (append-nil xs)
 
     module _ (more : p.count < count) where
       left : count - p.count ≡ suc (count - (p.count + 1))

@@ -4,7 +4,7 @@ use borrow.Author.Tests.{eqb-true, eqb-false, ne_eqb, ltb-true, ltb-false, lt-lt
 use lib.Dec.{eqb, ltb}
 use mathlib.Core.Bool.{Bool, true, false}
 use mathlib.Core.List.Memᴰ
-use mathlib.Core.List.{List, [], ◌∷◌, ◌++◌, append_nil, append_assoc, Memᴰ}
+use mathlib.Core.List.{List, [], ◌∷◌, ◌++◌, append-nil, append_assoc, Memᴰ}
 use mathlib.Core.Logic.{◌≢◌, ◌⊎◌, inl, inr}
 use mathlib.Core.Option.{Option, none, some}
 use mathlib.Core.Path.{◌≡◌, refl, ap, sym, ◌∙◌, subst}
@@ -161,7 +161,7 @@ module _ (S : Symbols) (xs : List Arg) where
 
   inv_all : (vs : List Overload) (b : Best) (pre : List Overload) → Inv b pre → Inv (chosen S b vs xs) (pre ++ vs)
   unfolding chosen
-  inv_all [] b pre h = rw append_nil h
+  inv_all [] b pre h = rw append-nil h
   inv_all (v ∷ vs) b pre h =
       rw append_assoc at (inv_all vs (better b v (points v)) (pre ++ (v ∷ [])) (inv_step b pre v (points v) refl h))
 

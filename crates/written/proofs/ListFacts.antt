@@ -3,7 +3,7 @@ use Prim.Native.Nat.{ℕ, zero, suc, ◌+◌, ◌-◌, ◌≤◌, ◌<◌}
 use borrow.Author.Fill.{fill_more}
 use lib.ListN.{length, get_or, take, drop, set, replicate, length-append, length-drop, length-take, length-replicate}
 use lib.Seq.{sets, sets-eq, length-take-le, take-suc, take_all, take-nil, get_or-drop, get_or-set_other, drop-set-add, take-set-le, drop-length, take-append_seam, drop-append-add, length-sets}
-use mathlib.Core.List.{List, [], ◌∷◌, ◌++◌, append_nil}
+use mathlib.Core.List.{List, [], ◌∷◌, ◌++◌, append-nil}
 use mathlib.Core.Path.{◌≡◌, refl, sym, ap, ◌∙◌}
 use native.Mathlib.Nat.{add-zero, zero-sub, suc-sub-suc, sub-zero}
 use native.Mathlib.Numerals.{add-one}
@@ -95,4 +95,4 @@ clear_more d b i e h = rw e (fill_more i 0 d h)
 
 pub clear_done : (d b : List ℕ) (i : ℕ) → b ≡ replicate i 0 ++ drop i d → i ≡ length d → b ≡ replicate (length d) 0
 clear_done d b i e h =
-    e ∙ ap (λ (k : ℕ). replicate k 0 ++ drop k d) h ∙ ap (λ (l : List ℕ). replicate (length d) 0 ++ l) (drop-length d) ∙ append_nil _
+    e ∙ ap (λ (k : ℕ). replicate k 0 ++ drop k d) h ∙ ap (λ (l : List ℕ). replicate (length d) 0 ++ l) (drop-length d) ∙ append-nil _

@@ -1,5 +1,5 @@
 use borrow.Author.Rules.{rules}
-use borrow.Author.Tests.{not-true, not_false}
+use borrow.Author.Tests.{not-true, not-false}
 use mathlib.Core.Path.{refl}
 use Rattle.overload.proofs.FunctionListWalk.{OwnFrom, own-start, own_none, own-found, own-place, own_on, left_of, left_less}
 use Rattle.overload.proofs.calls.any_own.Statement.{statement}
@@ -46,7 +46,7 @@ loop-less : tie.Need-loop-smaller invariant-loop decreases-loop
 loop-less c = left_less _ _ _ _ (cursor_here c.before.before.before.before.before.before.before.before.before.before.before.args.table.now c.before.before.before.before.before.before.before.loop.c c.before.before.before.before.before.before.found.result _ c.before.before.before.before.before.before.found.ensures c.before.before.before.before.found2.given.1) (next_placed _ c.before.before.before.before.before.before.before.before.before.before.before.requires.clean _ (own-place _ _ _ _ (cursor_here c.before.before.before.before.before.before.before.before.before.before.before.args.table.now c.before.before.before.before.before.before.before.loop.c c.before.before.before.before.before.before.found.result _ c.before.before.before.before.before.before.found.ensures c.before.before.before.before.found2.given.1) c.before.before.before.before.before.before.before.loop.invariant.0) _ (cursor_next c.before.before.before.before.before.before.before.before.before.before.before.args.table.now c.before.before.before.before.before.before.before.loop.c c.before.before.before.before.before.before.found.result _ c.before.before.before.before.before.before.found.ensures c.before.before.before.before.found2.given.1 c.next.result c.next.ensures))
 
 loop-again : tie.Need-loop-preserved invariant-loop decreases-loop
-loop-again c = (own_on _ _ _ _ (cursor_here c.before.before.before.before.before.before.before.before.before.before.before.args.table.now c.before.before.before.before.before.before.before.loop.c c.before.before.before.before.before.before.found.result _ c.before.before.before.before.before.before.found.ensures c.before.before.before.before.found2.given.1) c.before.before.before.before.before.before.before.loop.invariant.0 _ c.before.before.is-builtin-function.ensures (not_false _ c.before.if1.false) _ (next_placed _ c.before.before.before.before.before.before.before.before.before.before.before.requires.clean _ (own-place _ _ _ _ (cursor_here c.before.before.before.before.before.before.before.before.before.before.before.args.table.now c.before.before.before.before.before.before.before.loop.c c.before.before.before.before.before.before.found.result _ c.before.before.before.before.before.before.found.ensures c.before.before.before.before.found2.given.1) c.before.before.before.before.before.before.before.loop.invariant.0) _ (cursor_next c.before.before.before.before.before.before.before.before.before.before.before.args.table.now c.before.before.before.before.before.before.before.loop.c c.before.before.before.before.before.before.found.result _ c.before.before.before.before.before.before.found.ensures c.before.before.before.before.found2.given.1 c.next.result c.next.ensures)), along_next c.before.before.before.before.before.before.before.before.before.before.before.args.table.now c.before.before.before.before.before.before.before.before.before.before.before.requires.clean c.before.before.before.before.before.before.before.loop.c (cursor_stands c.before.before.before.before.before.before.before.before.before.before.before.args.table.now c.before.before.before.before.before.before.before.loop.c c.before.before.before.before.before.before.found.result _ c.before.before.before.before.before.before.found.ensures c.before.before.before.before.found2.given.1 c.before.before.before.before.before.before.before.loop.invariant.1) c.next.result c.next.ensures)
+loop-again c = (own_on _ _ _ _ (cursor_here c.before.before.before.before.before.before.before.before.before.before.before.args.table.now c.before.before.before.before.before.before.before.loop.c c.before.before.before.before.before.before.found.result _ c.before.before.before.before.before.before.found.ensures c.before.before.before.before.found2.given.1) c.before.before.before.before.before.before.before.loop.invariant.0 _ c.before.before.is-builtin-function.ensures (not-false _ c.before.if1.false) _ (next_placed _ c.before.before.before.before.before.before.before.before.before.before.before.requires.clean _ (own-place _ _ _ _ (cursor_here c.before.before.before.before.before.before.before.before.before.before.before.args.table.now c.before.before.before.before.before.before.before.loop.c c.before.before.before.before.before.before.found.result _ c.before.before.before.before.before.before.found.ensures c.before.before.before.before.found2.given.1) c.before.before.before.before.before.before.before.loop.invariant.0) _ (cursor_next c.before.before.before.before.before.before.before.before.before.before.before.args.table.now c.before.before.before.before.before.before.before.loop.c c.before.before.before.before.before.before.found.result _ c.before.before.before.before.before.before.found.ensures c.before.before.before.before.found2.given.1 c.next.result c.next.ensures)), along_next c.before.before.before.before.before.before.before.before.before.before.before.args.table.now c.before.before.before.before.before.before.before.before.before.before.before.requires.clean c.before.before.before.before.before.before.before.loop.c (cursor_stands c.before.before.before.before.before.before.before.before.before.before.before.args.table.now c.before.before.before.before.before.before.before.loop.c c.before.before.before.before.before.before.found.result _ c.before.before.before.before.before.before.found.ensures c.before.before.before.before.found2.given.1 c.before.before.before.before.before.before.before.loop.invariant.1) c.next.result c.next.ensures)
 
 pub any-own-spec : {M : Type 1} → statement M
 any-own-spec =

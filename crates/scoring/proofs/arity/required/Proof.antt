@@ -1,6 +1,6 @@
 use Prim.Native.Nat.{ℕ, ◌+◌, ◌-◌, ◌≤◌}
 use borrow.Author.Rules.{rules}
-use borrow.Author.Tests.{not-true, not_false}
+use borrow.Author.Tests.{not-true, not-false}
 use mathlib.Core.List.{List}
 use mathlib.Core.Logic.{⊎_elim}
 use mathlib.Core.Path.{◌≡◌}
@@ -39,7 +39,7 @@ loop-less c = search rules
 loop-again : tie.Need-loop-preserved invariant-loop decreases-loop
 loop-again c = ⊎_elim
     (λ w. let e : c.if1.n ≡ c.before.before.before.before.loop.n + 1 = w.1 in (omega arith, omega (arith, c.before.before.before.before.loop.invariant.1), λ t. rw e (required-one t (c.before.before.before.before.before.args.t1) (c.before.before.before.before.loop.i) (c.before.before.before.before.loop.n) (c.before.before.before.before.loop.invariant.2 t) (c.before.before.before.loop-test.true) (not-true _ w.0.taken))))
-    (λ w. let e : c.if1.n ≡ c.before.before.before.before.loop.n = w.1 in (omega arith, omega (arith, c.before.before.before.before.loop.invariant.1), λ t. rw e (required-not t (c.before.before.before.before.before.args.t1) (c.before.before.before.before.loop.i) (c.before.before.before.before.loop.n) (c.before.before.before.before.loop.invariant.2 t) (c.before.before.before.loop-test.true) (not_false _ w.0.left))))
+    (λ w. let e : c.if1.n ≡ c.before.before.before.before.loop.n = w.1 in (omega arith, omega (arith, c.before.before.before.before.loop.invariant.1), λ t. rw e (required-not t (c.before.before.before.before.before.args.t1) (c.before.before.before.before.loop.i) (c.before.before.before.before.loop.n) (c.before.before.before.before.loop.invariant.2 t) (c.before.before.before.loop-test.true) (not-false _ w.0.left))))
     (c.if1.branch)
 
 returns : tie.Need-returns invariant-loop decreases-loop

@@ -1,6 +1,6 @@
 use Prim.Native.Nat.{◌-◌, ◌≤◌}
 use borrow.Author.Rules.{rules}
-use borrow.Author.Tests.{not-true, not_false}
+use borrow.Author.Tests.{not-true, not-false}
 use mathlib.Core.Path.{◌≡◌}
 use native.Mathlib.Omega.{arith}
 use Rattle.scoring.proofs.ParamSearch.{free-start, free_turn, free-here, free_none}
@@ -30,7 +30,7 @@ loop-less : tie.Need-loop-smaller invariant-loop decreases-loop
 loop-less c = search rules
 
 loop-again : tie.Need-loop-preserved invariant-loop decreases-loop
-loop-again c = (omega arith, free_turn (c.before.before.before.before.args.params) (c.before.before.before.before.args.t2) (c.before.before.before.loop.j) (c.before.before.before.loop.invariant.1) (c.before.if1.true) (not_false _ (c.if2.false)))
+loop-again c = (omega arith, free_turn (c.before.before.before.before.args.params) (c.before.before.before.before.args.t2) (c.before.before.before.loop.j) (c.before.before.before.loop.invariant.1) (c.before.if1.true) (not-false _ (c.if2.false)))
 
 returns-2 : tie.Need-returns-2 invariant-loop decreases-loop
 returns-2 c = free_none (c.before.before.before.args.params) (c.before.before.before.args.t2) (c.before.before.loop.j) (c.before.before.loop.invariant.1) (c.if1.false)
