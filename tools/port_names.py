@@ -124,9 +124,16 @@ def renamed():
     return {a: b for a, b in new.items() if a != b} | OTHERS
 
 
-def respelled(text, new, everywhere):
+def respelled(text, new, everywhere, is_source=False):
     def turn(part):
-        return re.sub(r"(?<![\w'₀-₉-])(?!\d)[\w'₀-₉-]*[\w'₀-₉]", lambda m: new.get(m.group(0), m.group(0)), part)
+        # A name in snake case may be a function's: of the code itself, of a path or of a step it stays.
+        def one(m):
+            name = m.group(0)
+            if re.fullmatch(r"[a-z0-9_]+", name) and (part[: m.start()].endswith(".") or is_source and "ghost use" not in part):
+                return name
+            return new.get(name, name)
+
+        return re.sub(r"(?<![\w'₀-₉-])(?!\d)[\w'₀-₉-]*[\w'₀-₉]", one, part)
 
     def ticks(part):
         return re.sub(r"`[^`\n]*`", lambda m: turn(m.group(0)), part)
@@ -157,7 +164,7 @@ def main(argv):
         paths += sorted(glob.glob(pattern))
     for path in paths:
         old = open(path, encoding="utf-8").read()
-        text = respelled(old, new, path.endswith((".antt", ".rt", ".edit")))
+        text = respelled(old, new, path.endswith((".antt", ".rt", ".edit")), path.endswith((".rt", ".edit")))
         if text != old:
             open(path, "w", encoding="utf-8").write(text)
     return 0

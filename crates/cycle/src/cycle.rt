@@ -6,7 +6,7 @@ use nodes::calls::{RowJudged, begin_call, begin_method, finish_call, unlisted};
 use nodes::progress::{State, argument_name, inside};
 use nodes::rule::{finish_binary, finish_member, finish_named, finish_unary, judge_leaf};
 use question::Header;
-use question::node::{NodeRead, node_at_lem};
+use question::node::{NodeRead, node_at};
 use scoring::args::Args;
 use ty::Kind;
 
@@ -26,7 +26,7 @@ pub fn judge_node(
     ensures { JudgesNode table q header s area lens buf result }
 {
     let node = s.node;
-    let read = node_at_lem(q, s.at);
+    let read = node_at(q, s.at);
     match read {
         NodeRead::Bad => s,
         NodeRead::Endless { top: _ } => s,

@@ -6,7 +6,7 @@ ghost use Rattle.nodes.specs.Inside.Slices.{slot_at};
 ghost use Rattle.area.specs.Inside.Slot.{slot_of, slot_count};
 
 use area::{is_error, slot};
-use question::node::{NodeRead, node_at_lem};
+use question::node::{NodeRead, node_at};
 use ty::NameId;
 
 // How far a judgement is: the next position in the question, the next node's number, how many diagnostics were reported,
@@ -49,7 +49,7 @@ pub fn finished(s: State, node: usize, count: usize, area: &[u8], lens: &[usize]
 pub fn argument_name(q: &[u8], at: usize) -> u16
     ensures { result ≡ name_at q.now at }
 {
-    let read = node_at_lem(q, at);
+    let read = node_at(q, at);
     match read {
         NodeRead::Bad => NameId::NONE,
         NodeRead::Leaf { len: _, top: _ } => NameId::NONE,

@@ -8,7 +8,7 @@ ghost use Rattle.question.specs.Header.{header_of};
 ghost use Rattle.question.specs.QuestionRefused.{none_or_defined, header_fault, more_fault, end_fault, tree_fault, question_fault};
 ghost use Rattle.question.specs.Inside.Top.{id_fault, endless_fault, read_fault};
 
-use node::{MOST_NODES, children, node_at_lem, own_bytes};
+use node::{MOST_NODES, children, node_at, own_bytes};
 pub use node::{NodeRead, Skipped};
 use ty::name::id_defined;
 use ty::{NameId, byte_at, id_at};
@@ -124,7 +124,7 @@ fn tree_fault(question: &[u8], names: Names) -> u8
     let mut pending: usize = 1;
     let mut left: usize = MOST_NODES;
     while pending != 0 {
-        let node = node_at_lem(question, at);
+        let node = node_at(question, at);
         if left == 0 {
             return more_fault(node);
         }

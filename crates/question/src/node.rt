@@ -99,7 +99,7 @@ fn node_in(s: &[u8]) -> NodeRead
 }
 
 // The node at a position.
-pub fn node_at_lem(q: &[u8], at: usize) -> NodeRead
+pub fn node_at(q: &[u8], at: usize) -> NodeRead
     ensures { result ≡ node_at q.now at }
 {
     node_in(tail(q, at))
@@ -150,7 +150,7 @@ pub fn skip(q: &[u8], start: usize, trees: u8) -> Skipped
         if nodes == MOST_NODES {
             return Skipped { at, nodes };
         }
-        let node = node_at_lem(q, at);
+        let node = node_at(q, at);
         at += own_bytes(node);
         nodes += 1;
         pending = pending - 1 + children(node);

@@ -135,7 +135,7 @@ fn item_at(s: &[u8], end: usize, at: usize) -> Item
 }
 
 // What is found where the type does not end within the limit.
-fn no_end_lem(len: usize, limit: usize, top: u16, error: bool) -> TypeRead
+fn no_end(len: usize, limit: usize, top: u16, error: bool) -> TypeRead
     ensures { result ≡ no_end len limit top error }
 {
     if len < limit {
@@ -163,7 +163,7 @@ pub fn read_type(s: &[u8], limit: u16) -> TypeRead
                 return TypeRead::Malformed;
             }
             Item::Out => {
-                return no_end_lem(len, cap, top, error);
+                return no_end(len, cap, top, error);
             }
             Item::Part {
                 next,

@@ -32,7 +32,7 @@ more-fault-requires c κs = search rules
 returns : tie.Need-returns invariant-loop decreases-loop
 returns c =
     let s = c.before.before.before.before.loop in
-    c.more-fault.ensures ∙ ap more_fault c.before.before.node_at_lem.ensures
+    c.more-fault.ensures ∙ ap more_fault c.before.before.node_at.ensures
     ∙ sym (fault_more c.before.before.before.before.before.before.args.names c.before.before.before.before.before.before.args.question.now s.at s.left s.pending (omega arith) (omega arith)) ∙ s.invariant.0
 
 node-fault-requires : tie.Need-node-fault-requires invariant-loop decreases-loop
@@ -41,7 +41,7 @@ node-fault-requires c κs = search rules
 returns-2 : tie.Need-returns-2 invariant-loop decreases-loop
 returns-2 c =
     let s = c.before.before.before.before.before.loop in
-    let e = c.before.node-fault.ensures ∙ ap (read_fault c.before.before.before.before.before.before.before.args.names) c.before.before.before.node_at_lem.ensures ∙ same_fault c.before.before.before.before.before.before.before.args.names c.before.before.before.before.before.before.before.args.question.now s.at in
+    let e = c.before.node-fault.ensures ∙ ap (read_fault c.before.before.before.before.before.before.before.args.names) c.before.before.before.node_at.ensures ∙ same_fault c.before.before.before.before.before.before.before.args.names c.before.before.before.before.before.before.before.args.question.now s.at in
     e ∙ sym (fault_stop c.before.before.before.before.before.before.before.args.names c.before.before.before.before.before.before.before.args.question.now s.at s.left s.pending (omega arith) (omega arith) (omega arith)) ∙ s.invariant.0
 
 own-bytes-requires : tie.Need-own-bytes-requires invariant-loop decreases-loop
@@ -49,7 +49,7 @@ own-bytes-requires c κs = search rules
 
 add_at : tie.Need-overflow-add-at invariant-loop decreases-loop
 add_at c =
-    let o = c.own-bytes.ensures ∙ ap own_bytes c.before.before.before.before.node_at_lem.ensures in
+    let o = c.own-bytes.ensures ∙ ap own_bytes c.before.before.before.before.node_at.ensures in
     omega (arith, step_small c.before.before.before.before.before.before.before.before.args.question.now c.before.before.before.before.before.before.loop.at)
 
 sub-pending : tie.Need-overflow-sub-pending invariant-loop decreases-loop
@@ -60,7 +60,7 @@ children-requires c κs = search rules
 
 add-pending : tie.Need-overflow-add-pending invariant-loop decreases-loop
 add-pending c =
-    let k = c.children.ensures ∙ ap children c.before.before.before.before.before.node_at_lem.ensures in
+    let k = c.children.ensures ∙ ap children c.before.before.before.before.before.node_at.ensures in
     omega (arith, step_few c.before.before.before.before.before.before.before.before.before.args.question.now c.before.before.before.before.before.before.before.loop.at, c.before.before.before.before.before.before.before.loop.invariant)
 
 sub-left : tie.Need-overflow-sub-left invariant-loop decreases-loop
@@ -73,9 +73,9 @@ loop-again : tie.Need-loop-preserved invariant-loop decreases-loop
 loop-again c =
     let q = c.before.before.before.before.before.before.before.before.before.args.question.now in
     let s = c.before.before.before.before.before.before.before.loop in
-    let o = c.before.own-bytes.ensures ∙ ap own_bytes c.before.before.before.before.before.node_at_lem.ensures in
-    let k = c.children.ensures ∙ ap children c.before.before.before.before.before.node_at_lem.ensures in
-    let e = c.before.before.before.node-fault.ensures ∙ ap (read_fault c.before.before.before.before.before.before.before.before.before.args.names) c.before.before.before.before.before.node_at_lem.ensures ∙ same_fault c.before.before.before.before.before.before.before.before.before.args.names q s.at in (
+    let o = c.before.own-bytes.ensures ∙ ap own_bytes c.before.before.before.before.before.node_at.ensures in
+    let k = c.children.ensures ∙ ap children c.before.before.before.before.before.node_at.ensures in
+    let e = c.before.before.before.node-fault.ensures ∙ ap (read_fault c.before.before.before.before.before.before.before.before.before.args.names) c.before.before.before.before.before.node_at.ensures ∙ same_fault c.before.before.before.before.before.before.before.before.before.args.names q s.at in (
       fault_turn c.before.before.before.before.before.before.before.before.before.args.names q s.at s.left s.pending _ _ (omega arith) (omega arith) (omega arith) o k ∙ s.invariant.0,
       omega arith,
       omega (arith, step_few q s.at, s.invariant),

@@ -30,7 +30,7 @@ use Rattle.nodes.proofs.rule.finish_unary.Reads as finish-unary-reads
 use Rattle.nodes.proofs.rule.judge_leaf.Reads as judge-leaf-reads
 use Rattle.cycle.specs.Inside.Contract.{RowAsked}
 use Rattle.question.proofs.NodeReading.{room_of}
-use Rattle.question.proofs.node.node_at_lem.Reads as node-at-reads
+use Rattle.question.proofs.node.node_at.Reads as node-at-reads
 
 abbrev μ-judge-node : Measures 6 judge-node-kinds.ps ℕ
 μ-judge-node κs a = 18 * (length a.1.1.0.now - a.1.1.1.1.0.at)
@@ -195,7 +195,7 @@ module _ (t : ℕ) where
       let at_read = c.before.before.before in
       let at-node-at = before-read at_read in
       let at_start = before-node-at at-node-at in
-      (at_start.pre.1.0.lent, leaf_asked at_start.pre.1.2 at_start.pre.1.0 _ _ (sym at-node-at.node_at_lem.ensures ∙ at_read.read.given.1))
+      (at_start.pre.1.0.lent, leaf_asked at_start.pre.1.2 at_start.pre.1.0 _ _ (sym at-node-at.node_at.ensures ∙ at_read.read.given.1))
 
   node-enum-known-read-2 : judge-node-lts.Need-enum-known-read-2 (node-claims t) (judge-node-at t) judge-node.Post
   node-enum-known-read-2 c = search rules
@@ -205,7 +205,7 @@ module _ (t : ℕ) where
       let at-read2 = c.before in
       let at-node-at = before-read2 at-read2 in
       let at_start = before-node-at at-node-at in
-      inside-fits at_start.pre.1.2 2 (room_of _ _ _ (sym at-node-at.node_at_lem.ensures ∙ at-read2.read2.given.1)).0
+      inside-fits at_start.pre.1.2 2 (room_of _ _ _ (sym at-node-at.node_at.ensures ∙ at-read2.read2.given.1)).0
 
   node-judge-node-requires : judge-node-lts.Need-judge-node-requires (node-claims t) (judge-node-at t) judge-node.Post
   node-judge-node-requires c κs =
@@ -213,7 +213,7 @@ module _ (t : ℕ) where
       let at-read2 = before-inside at-inside in
       let at-node-at = before-read2 at-read2 in
       let at_start = before-node-at at-node-at in
-      (below at_start.pre.0 (inside_falls at_start.pre.1.2 2 at-inside.inside.ensures (omega arith) (room_of _ _ _ (sym at-node-at.node_at_lem.ensures ∙ at-read2.read2.given.1)).0), (at_start.pre.1.0, at_start.pre.1.1, asked_left at_start.pre.1.1 at_start.args.header at_start.pre.1.2 _ (sym at-node-at.node_at_lem.ensures ∙ at-read2.read2.given.1) at-inside.inside.ensures))
+      (below at_start.pre.0 (inside_falls at_start.pre.1.2 2 at-inside.inside.ensures (omega arith) (room_of _ _ _ (sym at-node-at.node_at.ensures ∙ at-read2.read2.given.1)).0), (at_start.pre.1.0, at_start.pre.1.1, asked_left at_start.pre.1.1 at_start.args.header at_start.pre.1.2 _ (sym at-node-at.node_at.ensures ∙ at-read2.read2.given.1) at-inside.inside.ensures))
 
   node-judge-node-requires-2 : judge-node-lts.Need-judge-node-requires-2 (node-claims t) (judge-node-at t) judge-node.Post
   node-judge-node-requires-2 c κs =
@@ -222,7 +222,7 @@ module _ (t : ℕ) where
       let at-read2 = before-inside at-inside in
       let at-node-at = before-read2 at-read2 in
       let at_start = before-node-at at-node-at in
-      (below at_start.pre.0 (right_falls at_start.pre.1.1 at_start.args.header at_start.pre.1.2 _ (sym at-node-at.node_at_lem.ensures ∙ at-read2.read2.given.1) at-inside.inside.ensures at-judge-node.judge-node.ensures), ((space_still at-judge-node.judge-node.auto.1.1.1.1.1.0 at-judge-node.judge-node.auto.1.1.1.1.1.1.0 at_start.pre.1.0), at_start.pre.1.1, asked_right at_start.pre.1.1 at_start.args.header at_start.pre.1.2 _ (sym at-node-at.node_at_lem.ensures ∙ at-read2.read2.given.1) at-inside.inside.ensures at-judge-node.judge-node.ensures))
+      (below at_start.pre.0 (right_falls at_start.pre.1.1 at_start.args.header at_start.pre.1.2 _ (sym at-node-at.node_at.ensures ∙ at-read2.read2.given.1) at-inside.inside.ensures at-judge-node.judge-node.ensures), ((space_still at-judge-node.judge-node.auto.1.1.1.1.1.0 at-judge-node.judge-node.auto.1.1.1.1.1.1.0 at_start.pre.1.0), at_start.pre.1.1, asked_right at_start.pre.1.1 at_start.args.header at_start.pre.1.2 _ (sym at-node-at.node_at.ensures ∙ at-read2.read2.given.1) at-inside.inside.ensures at-judge-node.judge-node.ensures))
 
   node-finish-binary-requires : judge-node-lts.Need-finish-binary-requires (node-claims t) (judge-node-at t) judge-node.Post
   node-finish-binary-requires c κs =
@@ -232,7 +232,7 @@ module _ (t : ℕ) where
       let at-read2 = before-inside at-inside in
       let at-node-at = before-read2 at-read2 in
       let at_start = before-node-at at-node-at in
-      (at_start.pre.1.1, binary_ready at_start.pre.1.1 _ at_start.pre.1.2 _ (sym at-node-at.node_at_lem.ensures ∙ at-read2.read2.given.1) at-inside.inside.ensures at-judge-node.judge-node.ensures (space_still (at-judge-node2.judge-node2.auto.1.1.1.1.1.0 ∙ at-judge-node.judge-node.kept.1.1.1.1.1.0) (at-judge-node2.judge-node2.auto.1.1.1.1.1.1.0 ∙ at-judge-node.judge-node.kept.1.1.1.1.1.1.0) at_start.pre.1.0) at-judge-node2.judge-node2.ensures)
+      (at_start.pre.1.1, binary_ready at_start.pre.1.1 _ at_start.pre.1.2 _ (sym at-node-at.node_at.ensures ∙ at-read2.read2.given.1) at-inside.inside.ensures at-judge-node.judge-node.ensures (space_still (at-judge-node2.judge-node2.auto.1.1.1.1.1.0 ∙ at-judge-node.judge-node.kept.1.1.1.1.1.0) (at-judge-node2.judge-node2.auto.1.1.1.1.1.1.0 ∙ at-judge-node.judge-node.kept.1.1.1.1.1.1.0) at_start.pre.1.0) at-judge-node2.judge-node2.ensures)
 
   node-enum-known-read-3 : judge-node-lts.Need-enum-known-read-3 (node-claims t) (judge-node-at t) judge-node.Post
   node-enum-known-read-3 c = search rules
@@ -242,7 +242,7 @@ module _ (t : ℕ) where
       let at-read3 = c.before in
       let at-node-at = before-read3 at-read3 in
       let at_start = before-node-at at-node-at in
-      inside-fits at_start.pre.1.2 2 (room_of _ _ _ (sym at-node-at.node_at_lem.ensures ∙ at-read3.read3.given.1)).0
+      inside-fits at_start.pre.1.2 2 (room_of _ _ _ (sym at-node-at.node_at.ensures ∙ at-read3.read3.given.1)).0
 
   node-judge-node-requires-3 : judge-node-lts.Need-judge-node-requires-3 (node-claims t) (judge-node-at t) judge-node.Post
   node-judge-node-requires-3 c κs =
@@ -250,7 +250,7 @@ module _ (t : ℕ) where
       let at-read3 = before-inside2 at-inside2 in
       let at-node-at = before-read3 at-read3 in
       let at_start = before-node-at at-node-at in
-      (below at_start.pre.0 (inside_falls at_start.pre.1.2 2 at-inside2.inside2.ensures (omega arith) (room_of _ _ _ (sym at-node-at.node_at_lem.ensures ∙ at-read3.read3.given.1)).0), (at_start.pre.1.0, at_start.pre.1.1, asked_unary at_start.pre.1.1 at_start.args.header at_start.pre.1.2 _ (sym at-node-at.node_at_lem.ensures ∙ at-read3.read3.given.1) at-inside2.inside2.ensures))
+      (below at_start.pre.0 (inside_falls at_start.pre.1.2 2 at-inside2.inside2.ensures (omega arith) (room_of _ _ _ (sym at-node-at.node_at.ensures ∙ at-read3.read3.given.1)).0), (at_start.pre.1.0, at_start.pre.1.1, asked_unary at_start.pre.1.1 at_start.args.header at_start.pre.1.2 _ (sym at-node-at.node_at.ensures ∙ at-read3.read3.given.1) at-inside2.inside2.ensures))
 
   node-finish-unary-requires : judge-node-lts.Need-finish-unary-requires (node-claims t) (judge-node-at t) judge-node.Post
   node-finish-unary-requires c κs =
@@ -259,7 +259,7 @@ module _ (t : ℕ) where
       let at-read3 = before-inside2 at-inside2 in
       let at-node-at = before-read3 at-read3 in
       let at_start = before-node-at at-node-at in
-      unary_ready at_start.pre.1.1 _ at_start.pre.1.2 _ (sym at-node-at.node_at_lem.ensures ∙ at-read3.read3.given.1) at-inside2.inside2.ensures (space_still at-judge-node3.judge-node3.auto.1.1.1.1.1.0 at-judge-node3.judge-node3.auto.1.1.1.1.1.1.0 at_start.pre.1.0) at-judge-node3.judge-node3.ensures
+      unary_ready at_start.pre.1.1 _ at_start.pre.1.2 _ (sym at-node-at.node_at.ensures ∙ at-read3.read3.given.1) at-inside2.inside2.ensures (space_still at-judge-node3.judge-node3.auto.1.1.1.1.1.0 at-judge-node3.judge-node3.auto.1.1.1.1.1.1.0 at_start.pre.1.0) at-judge-node3.judge-node3.ensures
 
   node-enum-told-3 : judge-node-lts.Need-enum-told-3 (node-claims t) (judge-node-at t) judge-node.Post
   node-enum-told-3 c = search rules
@@ -269,7 +269,7 @@ module _ (t : ℕ) where
       let at-enum-told3 = c in
       let at-node-at = before-enum-told3 at-enum-told3 in
       let at_start = before-node-at at-node-at in
-      inside-fits at_start.pre.1.2 3 (room_of _ _ _ (sym at-node-at.node_at_lem.ensures ∙ at-enum-told3.enum-told3.given.1))
+      inside-fits at_start.pre.1.2 3 (room_of _ _ _ (sym at-node-at.node_at.ensures ∙ at-enum-told3.enum-told3.given.1))
 
   node-judge-node-requires-4 : judge-node-lts.Need-judge-node-requires-4 (node-claims t) (judge-node-at t) judge-node.Post
   node-judge-node-requires-4 c κs =
@@ -277,7 +277,7 @@ module _ (t : ℕ) where
       let at-enum-told3 = before-inside3 at-inside3 in
       let at-node-at = before-enum-told3 at-enum-told3 in
       let at_start = before-node-at at-node-at in
-      (below at_start.pre.0 (inside_falls at_start.pre.1.2 3 at-inside3.inside3.ensures (omega arith) (room_of _ _ _ (sym at-node-at.node_at_lem.ensures ∙ at-enum-told3.enum-told3.given.1))), (at_start.pre.1.0, at_start.pre.1.1, asked_named at_start.pre.1.1 at_start.args.header at_start.pre.1.2 _ (sym at-node-at.node_at_lem.ensures ∙ at-enum-told3.enum-told3.given.1) at-inside3.inside3.ensures))
+      (below at_start.pre.0 (inside_falls at_start.pre.1.2 3 at-inside3.inside3.ensures (omega arith) (room_of _ _ _ (sym at-node-at.node_at.ensures ∙ at-enum-told3.enum-told3.given.1))), (at_start.pre.1.0, at_start.pre.1.1, asked_named at_start.pre.1.1 at_start.args.header at_start.pre.1.2 _ (sym at-node-at.node_at.ensures ∙ at-enum-told3.enum-told3.given.1) at-inside3.inside3.ensures))
 
   node-finish-named-requires : judge-node-lts.Need-finish-named-requires (node-claims t) (judge-node-at t) judge-node.Post
   node-finish-named-requires c κs =
@@ -286,7 +286,7 @@ module _ (t : ℕ) where
       let at-enum-told3 = before-inside3 at-inside3 in
       let at-node-at = before-enum-told3 at-enum-told3 in
       let at_start = before-node-at at-node-at in
-      ((space_still at-judge-node4.judge-node4.auto.1.1.1.1.1.0 at-judge-node4.judge-node4.auto.1.1.1.1.1.1.0 at_start.pre.1.0).lent, named_ready at_start.pre.1.1 _ at_start.pre.1.2 _ (sym at-node-at.node_at_lem.ensures ∙ at-enum-told3.enum-told3.given.1) at-inside3.inside3.ensures (space_still at-judge-node4.judge-node4.auto.1.1.1.1.1.0 at-judge-node4.judge-node4.auto.1.1.1.1.1.1.0 at_start.pre.1.0) at-judge-node4.judge-node4.ensures)
+      ((space_still at-judge-node4.judge-node4.auto.1.1.1.1.1.0 at-judge-node4.judge-node4.auto.1.1.1.1.1.1.0 at_start.pre.1.0).lent, named_ready at_start.pre.1.1 _ at_start.pre.1.2 _ (sym at-node-at.node_at.ensures ∙ at-enum-told3.enum-told3.given.1) at-inside3.inside3.ensures (space_still at-judge-node4.judge-node4.auto.1.1.1.1.1.0 at-judge-node4.judge-node4.auto.1.1.1.1.1.1.0 at_start.pre.1.0) at-judge-node4.judge-node4.ensures)
 
   node-enum-known-read-4 : judge-node-lts.Need-enum-known-read-4 (node-claims t) (judge-node-at t) judge-node.Post
   node-enum-known-read-4 c = search rules
@@ -296,7 +296,7 @@ module _ (t : ℕ) where
       let at-read4 = c.before in
       let at-node-at = before-read4 at-read4 in
       let at_start = before-node-at at-node-at in
-      inside-fits at_start.pre.1.2 3 (room_of _ _ _ (sym at-node-at.node_at_lem.ensures ∙ at-read4.read4.given.1))
+      inside-fits at_start.pre.1.2 3 (room_of _ _ _ (sym at-node-at.node_at.ensures ∙ at-read4.read4.given.1))
 
   node-judge-node-requires-5 : judge-node-lts.Need-judge-node-requires-5 (node-claims t) (judge-node-at t) judge-node.Post
   node-judge-node-requires-5 c κs =
@@ -304,7 +304,7 @@ module _ (t : ℕ) where
       let at-read4 = before-inside4 at-inside4 in
       let at-node-at = before-read4 at-read4 in
       let at_start = before-node-at at-node-at in
-      (below at_start.pre.0 (inside_falls at_start.pre.1.2 3 at-inside4.inside4.ensures (omega arith) (room_of _ _ _ (sym at-node-at.node_at_lem.ensures ∙ at-read4.read4.given.1))), (at_start.pre.1.0, at_start.pre.1.1, asked_member at_start.pre.1.1 at_start.args.header at_start.pre.1.2 _ (sym at-node-at.node_at_lem.ensures ∙ at-read4.read4.given.1) at-inside4.inside4.ensures))
+      (below at_start.pre.0 (inside_falls at_start.pre.1.2 3 at-inside4.inside4.ensures (omega arith) (room_of _ _ _ (sym at-node-at.node_at.ensures ∙ at-read4.read4.given.1))), (at_start.pre.1.0, at_start.pre.1.1, asked_member at_start.pre.1.1 at_start.args.header at_start.pre.1.2 _ (sym at-node-at.node_at.ensures ∙ at-read4.read4.given.1) at-inside4.inside4.ensures))
 
   node-finish-member-requires : judge-node-lts.Need-finish-member-requires (node-claims t) (judge-node-at t) judge-node.Post
   node-finish-member-requires c κs =
@@ -313,7 +313,7 @@ module _ (t : ℕ) where
       let at-read4 = before-inside4 at-inside4 in
       let at-node-at = before-read4 at-read4 in
       let at_start = before-node-at at-node-at in
-      (at_start.pre.1.1, member_ready at_start.pre.1.1 _ at_start.pre.1.2 _ (sym at-node-at.node_at_lem.ensures ∙ at-read4.read4.given.1) at-inside4.inside4.ensures (space_still at-judge-node5.judge-node5.auto.1.1.1.1.1.0 at-judge-node5.judge-node5.auto.1.1.1.1.1.1.0 at_start.pre.1.0) at-judge-node5.judge-node5.ensures)
+      (at_start.pre.1.1, member_ready at_start.pre.1.1 _ at_start.pre.1.2 _ (sym at-node-at.node_at.ensures ∙ at-read4.read4.given.1) at-inside4.inside4.ensures (space_still at-judge-node5.judge-node5.auto.1.1.1.1.1.0 at-judge-node5.judge-node5.auto.1.1.1.1.1.1.0 at_start.pre.1.0) at-judge-node5.judge-node5.ensures)
 
   node-enum-known-read-5 : judge-node-lts.Need-enum-known-read-5 (node-claims t) (judge-node-at t) judge-node.Post
   node-enum-known-read-5 c = search rules
@@ -323,7 +323,7 @@ module _ (t : ℕ) where
       let at-read5 = c.before in
       let at-node-at = before-read5 at-read5 in
       let at_start = before-node-at at-node-at in
-      inside-fits at_start.pre.1.2 4 (room_of _ _ _ (sym at-node-at.node_at_lem.ensures ∙ at-read5.read5.given.1)).0
+      inside-fits at_start.pre.1.2 4 (room_of _ _ _ (sym at-node-at.node_at.ensures ∙ at-read5.read5.given.1)).0
 
   node-begin-call-requires : judge-node-lts.Need-begin-call-requires (node-claims t) (judge-node-at t) judge-node.Post
   node-begin-call-requires c κs =
@@ -341,7 +341,7 @@ module _ (t : ℕ) where
       let at-read5 = before-inside5 at-inside5 in
       let at-node-at = before-read5 at-read5 in
       let at_start = before-node-at at-node-at in
-      (at_start.pre.1.0.lent, slot_room at_start.pre.1.2 at_start.pre.1.0, call_passed at_start.pre.1.1 (calls_fit _ _ at_start.pre.1.1) _ at_start.pre.1.2 _ _ (sym at-node-at.node_at_lem.ensures ∙ at-read5.read5.given.1) at-inside5.inside5.ensures _ _ _ at-begin-call.begin-call.ensures (no_test _ at-then1.if1.true))
+      (at_start.pre.1.0.lent, slot_room at_start.pre.1.2 at_start.pre.1.0, call_passed at_start.pre.1.1 (calls_fit _ _ at_start.pre.1.1) _ at_start.pre.1.2 _ _ (sym at-node-at.node_at.ensures ∙ at-read5.read5.given.1) at-inside5.inside5.ensures _ _ _ at-begin-call.begin-call.ensures (no_test _ at-then1.if1.true))
 
   node-same-length : judge-node-lts.Need-same-length (node-claims t) (judge-node-at t) judge-node.Post
   node-same-length c =
@@ -369,7 +369,7 @@ module _ (t : ℕ) where
       let at-read5 = before-inside5 at-inside5 in
       let at-node-at = before-read5 at-read5 in
       let at_start = before-node-at at-node-at in
-      λ x. ret_call_none at_start.pre.1.1 (calls_fit _ _ at_start.pre.1.1) _ x _ _ (sym at-node-at.node_at_lem.ensures ∙ at-read5.read5.given.1) at-inside5.inside5.ensures _ _ _ at-begin-call.begin-call.ensures (no_test _ at-then1.if1.taken) at-unlisted.unlisted.ensures
+      λ x. ret_call_none at_start.pre.1.1 (calls_fit _ _ at_start.pre.1.1) _ x _ _ (sym at-node-at.node_at.ensures ∙ at-read5.read5.given.1) at-inside5.inside5.ensures _ _ _ at-begin-call.begin-call.ensures (no_test _ at-then1.if1.taken) at-unlisted.unlisted.ensures
 
   node-judge-row-requires : judge-node-lts.Need-judge-row-requires (node-claims t) (judge-node-at t) judge-node.Post
   node-judge-row-requires c κs =
@@ -379,7 +379,7 @@ module _ (t : ℕ) where
       let at-read5 = before-inside5 at-inside5 in
       let at-node-at = before-read5 at-read5 in
       let at_start = before-node-at at-node-at in
-      (below at_start.pre.0 (args_fall at_start.pre.1.1 (calls_fit _ _ at_start.pre.1.1) _ at_start.pre.1.2 _ _ (sym at-node-at.node_at_lem.ensures ∙ at-read5.read5.given.1) at-inside5.inside5.ensures _ _ _ at-begin-call.begin-call.ensures (yes_test _ at-else1.if1.false)), (at_start.pre.1.0, at_start.pre.1.1, asked_args at_start.pre.1.1 (calls_fit _ _ at_start.pre.1.1) _ at_start.pre.1.2 _ _ (sym at-node-at.node_at_lem.ensures ∙ at-read5.read5.given.1) at-inside5.inside5.ensures _ _ _ at-begin-call.begin-call.ensures (yes_test _ at-else1.if1.false)))
+      (below at_start.pre.0 (args_fall at_start.pre.1.1 (calls_fit _ _ at_start.pre.1.1) _ at_start.pre.1.2 _ _ (sym at-node-at.node_at.ensures ∙ at-read5.read5.given.1) at-inside5.inside5.ensures _ _ _ at-begin-call.begin-call.ensures (yes_test _ at-else1.if1.false)), (at_start.pre.1.0, at_start.pre.1.1, asked_args at_start.pre.1.1 (calls_fit _ _ at_start.pre.1.1) _ at_start.pre.1.2 _ _ (sym at-node-at.node_at.ensures ∙ at-read5.read5.given.1) at-inside5.inside5.ensures _ _ _ at-begin-call.begin-call.ensures (yes_test _ at-else1.if1.false)))
 
   node-finish-call-requires : judge-node-lts.Need-finish-call-requires (node-claims t) (judge-node-at t) judge-node.Post
   node-finish-call-requires c κs =
@@ -390,7 +390,7 @@ module _ (t : ℕ) where
       let at-read5 = before-inside5 at-inside5 in
       let at-node-at = before-read5 at-read5 in
       let at_start = before-node-at at-node-at in
-      ((space_still at-judge-row.judge-row.auto.1.1.1.1.1.1.0 at-judge-row.judge-row.auto.1.1.1.1.1.1.1.0 at_start.pre.1.0).lent, at_start.pre.1.1, args_ready at_start.pre.1.1 (calls_fit _ _ at_start.pre.1.1) _ at_start.pre.1.2 _ _ (sym at-node-at.node_at_lem.ensures ∙ at-read5.read5.given.1) at-inside5.inside5.ensures _ _ _ at-begin-call.begin-call.ensures (yes_test _ at-else1.if1.left) (space_still at-judge-row.judge-row.auto.1.1.1.1.1.1.0 at-judge-row.judge-row.auto.1.1.1.1.1.1.1.0 at_start.pre.1.0) at-judge-row.judge-row.ensures)
+      ((space_still at-judge-row.judge-row.auto.1.1.1.1.1.1.0 at-judge-row.judge-row.auto.1.1.1.1.1.1.1.0 at_start.pre.1.0).lent, at_start.pre.1.1, args_ready at_start.pre.1.1 (calls_fit _ _ at_start.pre.1.1) _ at_start.pre.1.2 _ _ (sym at-node-at.node_at.ensures ∙ at-read5.read5.given.1) at-inside5.inside5.ensures _ _ _ at-begin-call.begin-call.ensures (yes_test _ at-else1.if1.left) (space_still at-judge-row.judge-row.auto.1.1.1.1.1.1.0 at-judge-row.judge-row.auto.1.1.1.1.1.1.1.0 at_start.pre.1.0) at-judge-row.judge-row.ensures)
 
   node-enum-known-read-6 : judge-node-lts.Need-enum-known-read-6 (node-claims t) (judge-node-at t) judge-node.Post
   node-enum-known-read-6 c = search rules
@@ -400,7 +400,7 @@ module _ (t : ℕ) where
       let at-read6 = c.before in
       let at-node-at = before-read6 at-read6 in
       let at_start = before-node-at at-node-at in
-      inside-fits at_start.pre.1.2 4 (room_of _ _ _ (sym at-node-at.node_at_lem.ensures ∙ at-read6.read6.given.1)).0
+      inside-fits at_start.pre.1.2 4 (room_of _ _ _ (sym at-node-at.node_at.ensures ∙ at-read6.read6.given.1)).0
 
   node-judge-node-requires-6 : judge-node-lts.Need-judge-node-requires-6 (node-claims t) (judge-node-at t) judge-node.Post
   node-judge-node-requires-6 c κs =
@@ -408,7 +408,7 @@ module _ (t : ℕ) where
       let at-read6 = before-inside6 at-inside6 in
       let at-node-at = before-read6 at-read6 in
       let at_start = before-node-at at-node-at in
-      (below at_start.pre.0 (inside_falls at_start.pre.1.2 4 at-inside6.inside6.ensures (omega arith) (room_of _ _ _ (sym at-node-at.node_at_lem.ensures ∙ at-read6.read6.given.1)).0), (at_start.pre.1.0, at_start.pre.1.1, asked_object at_start.pre.1.1 (calls_fit _ _ at_start.pre.1.1) at_start.args.header at_start.pre.1.2 _ _ (sym at-node-at.node_at_lem.ensures ∙ at-read6.read6.given.1) at-inside6.inside6.ensures))
+      (below at_start.pre.0 (inside_falls at_start.pre.1.2 4 at-inside6.inside6.ensures (omega arith) (room_of _ _ _ (sym at-node-at.node_at.ensures ∙ at-read6.read6.given.1)).0), (at_start.pre.1.0, at_start.pre.1.1, asked_object at_start.pre.1.1 (calls_fit _ _ at_start.pre.1.1) at_start.args.header at_start.pre.1.2 _ _ (sym at-node-at.node_at.ensures ∙ at-read6.read6.given.1) at-inside6.inside6.ensures))
 
   node-begin-method-requires : judge-node-lts.Need-begin-method-requires (node-claims t) (judge-node-at t) judge-node.Post
   node-begin-method-requires c κs =
@@ -417,7 +417,7 @@ module _ (t : ℕ) where
       let at-read6 = before-inside6 at-inside6 in
       let at-node-at = before-read6 at-read6 in
       let at_start = before-node-at at-node-at in
-      (at_start.pre.1.1, node_room at_start.pre.1.2, object_few at_start.pre.1.1 (calls_fit _ _ at_start.pre.1.1) _ at_start.pre.1.2 _ _ (sym at-node-at.node_at_lem.ensures ∙ at-read6.read6.given.1) at-inside6.inside6.ensures at-judge-node6.judge-node6.ensures)
+      (at_start.pre.1.1, node_room at_start.pre.1.2, object_few at_start.pre.1.1 (calls_fit _ _ at_start.pre.1.1) _ at_start.pre.1.2 _ _ (sym at-node-at.node_at.ensures ∙ at-read6.read6.given.1) at-inside6.inside6.ensures at-judge-node6.judge-node6.ensures)
 
   node-unlisted-requires-2 : judge-node-lts.Need-unlisted-requires-2 (node-claims t) (judge-node-at t) judge-node.Post
   node-unlisted-requires-2 c κs =
@@ -428,7 +428,7 @@ module _ (t : ℕ) where
       let at-read6 = before-inside6 at-inside6 in
       let at-node-at = before-read6 at-read6 in
       let at_start = before-node-at at-node-at in
-      ((space_still at-judge-node6.judge-node6.kept.1.1.1.1.1.0 at-judge-node6.judge-node6.kept.1.1.1.1.1.1.0 at_start.pre.1.0).lent, slot_still at_start.pre.1.2 at_start.pre.1.0 at-judge-node6.judge-node6.kept.1.1.1.1.1.1.0, method_passed at_start.pre.1.1 (calls_fit _ _ at_start.pre.1.1) _ at_start.pre.1.2 _ _ (sym at-node-at.node_at_lem.ensures ∙ at-read6.read6.given.1) at-inside6.inside6.ensures at-judge-node6.judge-node6.ensures at_start.pre.1.0 _ _ at-begin-method.begin-method.ensures (no_test _ at-then2.if2.true))
+      ((space_still at-judge-node6.judge-node6.kept.1.1.1.1.1.0 at-judge-node6.judge-node6.kept.1.1.1.1.1.1.0 at_start.pre.1.0).lent, slot_still at_start.pre.1.2 at_start.pre.1.0 at-judge-node6.judge-node6.kept.1.1.1.1.1.1.0, method_passed at_start.pre.1.1 (calls_fit _ _ at_start.pre.1.1) _ at_start.pre.1.2 _ _ (sym at-node-at.node_at.ensures ∙ at-read6.read6.given.1) at-inside6.inside6.ensures at-judge-node6.judge-node6.ensures at_start.pre.1.0 _ _ at-begin-method.begin-method.ensures (no_test _ at-then2.if2.true))
 
   node-same-length-4 : judge-node-lts.Need-same-length-4 (node-claims t) (judge-node-at t) judge-node.Post
   node-same-length-4 c =
@@ -464,7 +464,7 @@ module _ (t : ℕ) where
       let at-read6 = before-inside6 at-inside6 in
       let at-node-at = before-read6 at-read6 in
       let at_start = before-node-at at-node-at in
-      λ x. ret_method_none at_start.pre.1.1 (calls_fit _ _ at_start.pre.1.1) _ x _ _ (sym at-node-at.node_at_lem.ensures ∙ at-read6.read6.given.1) at-inside6.inside6.ensures at-judge-node6.judge-node6.ensures at_start.pre.1.0 _ _ at-begin-method.begin-method.ensures (no_test _ at-then2.if2.taken) at-unlisted2.unlisted2.ensures
+      λ x. ret_method_none at_start.pre.1.1 (calls_fit _ _ at_start.pre.1.1) _ x _ _ (sym at-node-at.node_at.ensures ∙ at-read6.read6.given.1) at-inside6.inside6.ensures at-judge-node6.judge-node6.ensures at_start.pre.1.0 _ _ at-begin-method.begin-method.ensures (no_test _ at-then2.if2.taken) at-unlisted2.unlisted2.ensures
 
   node-judge-row-requires-2 : judge-node-lts.Need-judge-row-requires-2 (node-claims t) (judge-node-at t) judge-node.Post
   node-judge-row-requires-2 c κs =
@@ -475,7 +475,7 @@ module _ (t : ℕ) where
       let at-read6 = before-inside6 at-inside6 in
       let at-node-at = before-read6 at-read6 in
       let at_start = before-node-at at-node-at in
-      (below at_start.pre.0 (method_fall at_start.pre.1.1 (calls_fit _ _ at_start.pre.1.1) _ at_start.pre.1.2 _ _ (sym at-node-at.node_at_lem.ensures ∙ at-read6.read6.given.1) at-inside6.inside6.ensures at-judge-node6.judge-node6.ensures at_start.pre.1.0 _ _ at-begin-method.begin-method.ensures (yes_test _ at-else2.if2.false)), ((space_still at-judge-node6.judge-node6.kept.1.1.1.1.1.0 at-judge-node6.judge-node6.kept.1.1.1.1.1.1.0 at_start.pre.1.0), at_start.pre.1.1, asked_method at_start.pre.1.1 (calls_fit _ _ at_start.pre.1.1) _ at_start.pre.1.2 _ _ (sym at-node-at.node_at_lem.ensures ∙ at-read6.read6.given.1) at-inside6.inside6.ensures at-judge-node6.judge-node6.ensures at_start.pre.1.0 _ _ at-begin-method.begin-method.ensures (yes_test _ at-else2.if2.false)))
+      (below at_start.pre.0 (method_fall at_start.pre.1.1 (calls_fit _ _ at_start.pre.1.1) _ at_start.pre.1.2 _ _ (sym at-node-at.node_at.ensures ∙ at-read6.read6.given.1) at-inside6.inside6.ensures at-judge-node6.judge-node6.ensures at_start.pre.1.0 _ _ at-begin-method.begin-method.ensures (yes_test _ at-else2.if2.false)), ((space_still at-judge-node6.judge-node6.kept.1.1.1.1.1.0 at-judge-node6.judge-node6.kept.1.1.1.1.1.1.0 at_start.pre.1.0), at_start.pre.1.1, asked_method at_start.pre.1.1 (calls_fit _ _ at_start.pre.1.1) _ at_start.pre.1.2 _ _ (sym at-node-at.node_at.ensures ∙ at-read6.read6.given.1) at-inside6.inside6.ensures at-judge-node6.judge-node6.ensures at_start.pre.1.0 _ _ at-begin-method.begin-method.ensures (yes_test _ at-else2.if2.false)))
 
   node-finish-call-requires-2 : judge-node-lts.Need-finish-call-requires-2 (node-claims t) (judge-node-at t) judge-node.Post
   node-finish-call-requires-2 c κs =
@@ -487,21 +487,21 @@ module _ (t : ℕ) where
       let at-read6 = before-inside6 at-inside6 in
       let at-node-at = before-read6 at-read6 in
       let at_start = before-node-at at-node-at in
-      ((space_still (at-judge-row2.judge-row2.auto.1.1.1.1.1.1.0 ∙ at-judge-node6.judge-node6.kept.1.1.1.1.1.0) (at-judge-row2.judge-row2.auto.1.1.1.1.1.1.1.0 ∙ at-judge-node6.judge-node6.kept.1.1.1.1.1.1.0) at_start.pre.1.0).lent, at_start.pre.1.1, method_ready at_start.pre.1.1 (calls_fit _ _ at_start.pre.1.1) _ at_start.pre.1.2 _ _ (sym at-node-at.node_at_lem.ensures ∙ at-read6.read6.given.1) at-inside6.inside6.ensures at-judge-node6.judge-node6.ensures at_start.pre.1.0 _ _ at-begin-method.begin-method.ensures (yes_test _ at-else2.if2.left) (space_still (at-judge-row2.judge-row2.auto.1.1.1.1.1.1.0 ∙ at-judge-node6.judge-node6.kept.1.1.1.1.1.0) (at-judge-row2.judge-row2.auto.1.1.1.1.1.1.1.0 ∙ at-judge-node6.judge-node6.kept.1.1.1.1.1.1.0) at_start.pre.1.0) at-judge-row2.judge-row2.ensures)
+      ((space_still (at-judge-row2.judge-row2.auto.1.1.1.1.1.1.0 ∙ at-judge-node6.judge-node6.kept.1.1.1.1.1.0) (at-judge-row2.judge-row2.auto.1.1.1.1.1.1.1.0 ∙ at-judge-node6.judge-node6.kept.1.1.1.1.1.1.0) at_start.pre.1.0).lent, at_start.pre.1.1, method_ready at_start.pre.1.1 (calls_fit _ _ at_start.pre.1.1) _ at_start.pre.1.2 _ _ (sym at-node-at.node_at.ensures ∙ at-read6.read6.given.1) at-inside6.inside6.ensures at-judge-node6.judge-node6.ensures at_start.pre.1.0 _ _ at-begin-method.begin-method.ensures (yes_test _ at-else2.if2.left) (space_still (at-judge-row2.judge-row2.auto.1.1.1.1.1.1.0 ∙ at-judge-node6.judge-node6.kept.1.1.1.1.1.0) (at-judge-row2.judge-row2.auto.1.1.1.1.1.1.1.0 ∙ at-judge-node6.judge-node6.kept.1.1.1.1.1.1.0) at_start.pre.1.0) at-judge-row2.judge-row2.ensures)
 
   node-returns-3 : judge-node-lts.Need-returns-3 (node-claims t) (judge-node-at t) judge-node.Post
   node-returns-3 c =
       let at-enum-told = c in
       let at-node-at = before-enum-told at-enum-told in
       let at_start = before-node-at at-node-at in
-      λ x. ret_bad at_start.pre.1.1 _ x (sym at-node-at.node_at_lem.ensures ∙ at-enum-told.enum_told.given.1)
+      λ x. ret_bad at_start.pre.1.1 _ x (sym at-node-at.node_at.ensures ∙ at-enum-told.enum_told.given.1)
 
   node-returns-4 : judge-node-lts.Need-returns-4 (node-claims t) (judge-node-at t) judge-node.Post
   node-returns-4 c =
       let at-enum-told2 = c in
       let at-node-at = before-enum-told2 at-enum-told2 in
       let at_start = before-node-at at-node-at in
-      λ x. ret_endless at_start.pre.1.1 _ x _ (sym at-node-at.node_at_lem.ensures ∙ at-enum-told2.enum-told2.given.1)
+      λ x. ret_endless at_start.pre.1.1 _ x _ (sym at-node-at.node_at.ensures ∙ at-enum-told2.enum-told2.given.1)
 
   node-same-length-7 : judge-node-lts.Need-same-length-7 (node-claims t) (judge-node-at t) judge-node.Post
   node-same-length-7 c =
@@ -519,7 +519,7 @@ module _ (t : ℕ) where
       let at_read = before-judge-leaf at-judge-leaf in
       let at-node-at = before-read at_read in
       let at_start = before-node-at at-node-at in
-      λ x. ret_leaf at_start.pre.1.1 _ x _ _ (sym at-node-at.node_at_lem.ensures ∙ at_read.read.given.1) at-judge-leaf.judge-leaf.ensures _
+      λ x. ret_leaf at_start.pre.1.1 _ x _ _ (sym at-node-at.node_at.ensures ∙ at_read.read.given.1) at-judge-leaf.judge-leaf.ensures _
 
   node-same-length-9 : judge-node-lts.Need-same-length-9 (node-claims t) (judge-node-at t) judge-node.Post
   node-same-length-9 c =
@@ -551,7 +551,7 @@ module _ (t : ℕ) where
       let at-read2 = before-inside at-inside in
       let at-node-at = before-read2 at-read2 in
       let at_start = before-node-at at-node-at in
-      λ x. ret_binary at_start.pre.1.1 _ x _ (sym at-node-at.node_at_lem.ensures ∙ at-read2.read2.given.1) at-inside.inside.ensures at-judge-node.judge-node.ensures (space_still (at-judge-node2.judge-node2.kept.1.1.1.1.1.0 ∙ at-judge-node.judge-node.kept.1.1.1.1.1.0) (at-judge-node2.judge-node2.kept.1.1.1.1.1.1.0 ∙ at-judge-node.judge-node.kept.1.1.1.1.1.1.0) at_start.pre.1.0) at-judge-node2.judge-node2.ensures at-finish-binary.finish-binary.ensures
+      λ x. ret_binary at_start.pre.1.1 _ x _ (sym at-node-at.node_at.ensures ∙ at-read2.read2.given.1) at-inside.inside.ensures at-judge-node.judge-node.ensures (space_still (at-judge-node2.judge-node2.kept.1.1.1.1.1.0 ∙ at-judge-node.judge-node.kept.1.1.1.1.1.0) (at-judge-node2.judge-node2.kept.1.1.1.1.1.1.0 ∙ at-judge-node.judge-node.kept.1.1.1.1.1.1.0) at_start.pre.1.0) at-judge-node2.judge-node2.ensures at-finish-binary.finish-binary.ensures
 
   node-same-length-12 : judge-node-lts.Need-same-length-12 (node-claims t) (judge-node-at t) judge-node.Post
   node-same-length-12 c =
@@ -579,7 +579,7 @@ module _ (t : ℕ) where
       let at-read3 = before-inside2 at-inside2 in
       let at-node-at = before-read3 at-read3 in
       let at_start = before-node-at at-node-at in
-      λ x. ret_unary at_start.pre.1.1 _ x _ (sym at-node-at.node_at_lem.ensures ∙ at-read3.read3.given.1) at-inside2.inside2.ensures (space_still at-judge-node3.judge-node3.kept.1.1.1.1.1.0 at-judge-node3.judge-node3.kept.1.1.1.1.1.1.0 at_start.pre.1.0) at-judge-node3.judge-node3.ensures at-finish-unary.finish-unary.ensures
+      λ x. ret_unary at_start.pre.1.1 _ x _ (sym at-node-at.node_at.ensures ∙ at-read3.read3.given.1) at-inside2.inside2.ensures (space_still at-judge-node3.judge-node3.kept.1.1.1.1.1.0 at-judge-node3.judge-node3.kept.1.1.1.1.1.1.0 at_start.pre.1.0) at-judge-node3.judge-node3.ensures at-finish-unary.finish-unary.ensures
 
   node-same-length-15 : judge-node-lts.Need-same-length-15 (node-claims t) (judge-node-at t) judge-node.Post
   node-same-length-15 c =
@@ -607,7 +607,7 @@ module _ (t : ℕ) where
       let at-enum-told3 = before-inside3 at-inside3 in
       let at-node-at = before-enum-told3 at-enum-told3 in
       let at_start = before-node-at at-node-at in
-      λ x. ret_named at_start.pre.1.1 _ x _ (sym at-node-at.node_at_lem.ensures ∙ at-enum-told3.enum-told3.given.1) at-inside3.inside3.ensures (space_still at-judge-node4.judge-node4.kept.1.1.1.1.1.0 at-judge-node4.judge-node4.kept.1.1.1.1.1.1.0 at_start.pre.1.0) at-judge-node4.judge-node4.ensures at-finish-named.finish_named.ensures
+      λ x. ret_named at_start.pre.1.1 _ x _ (sym at-node-at.node_at.ensures ∙ at-enum-told3.enum-told3.given.1) at-inside3.inside3.ensures (space_still at-judge-node4.judge-node4.kept.1.1.1.1.1.0 at-judge-node4.judge-node4.kept.1.1.1.1.1.1.0 at_start.pre.1.0) at-judge-node4.judge-node4.ensures at-finish-named.finish_named.ensures
 
   node-same-length-18 : judge-node-lts.Need-same-length-18 (node-claims t) (judge-node-at t) judge-node.Post
   node-same-length-18 c =
@@ -635,7 +635,7 @@ module _ (t : ℕ) where
       let at-read4 = before-inside4 at-inside4 in
       let at-node-at = before-read4 at-read4 in
       let at_start = before-node-at at-node-at in
-      λ x. ret_member at_start.pre.1.1 _ x _ (sym at-node-at.node_at_lem.ensures ∙ at-read4.read4.given.1) at-inside4.inside4.ensures (space_still at-judge-node5.judge-node5.kept.1.1.1.1.1.0 at-judge-node5.judge-node5.kept.1.1.1.1.1.1.0 at_start.pre.1.0) at-judge-node5.judge-node5.ensures at-finish-member.finish-member.ensures
+      λ x. ret_member at_start.pre.1.1 _ x _ (sym at-node-at.node_at.ensures ∙ at-read4.read4.given.1) at-inside4.inside4.ensures (space_still at-judge-node5.judge-node5.kept.1.1.1.1.1.0 at-judge-node5.judge-node5.kept.1.1.1.1.1.1.0 at_start.pre.1.0) at-judge-node5.judge-node5.ensures at-finish-member.finish-member.ensures
 
   node-same-length-21 : judge-node-lts.Need-same-length-21 (node-claims t) (judge-node-at t) judge-node.Post
   node-same-length-21 c =
@@ -667,7 +667,7 @@ module _ (t : ℕ) where
       let at-read5 = before-inside5 at-inside5 in
       let at-node-at = before-read5 at-read5 in
       let at_start = before-node-at at-node-at in
-      λ x. ret_call at_start.pre.1.1 (calls_fit _ _ at_start.pre.1.1) _ x _ _ (sym at-node-at.node_at_lem.ensures ∙ at-read5.read5.given.1) at-inside5.inside5.ensures _ _ _ at-begin-call.begin-call.ensures (yes_test _ at-else1.if1.left) (space_still at-judge-row.judge-row.kept.1.1.1.1.1.1.0 at-judge-row.judge-row.kept.1.1.1.1.1.1.1.0 at_start.pre.1.0) at-judge-row.judge-row.ensures at-finish-call.finish-call.ensures
+      λ x. ret_call at_start.pre.1.1 (calls_fit _ _ at_start.pre.1.1) _ x _ _ (sym at-node-at.node_at.ensures ∙ at-read5.read5.given.1) at-inside5.inside5.ensures _ _ _ at-begin-call.begin-call.ensures (yes_test _ at-else1.if1.left) (space_still at-judge-row.judge-row.kept.1.1.1.1.1.1.0 at-judge-row.judge-row.kept.1.1.1.1.1.1.1.0 at_start.pre.1.0) at-judge-row.judge-row.ensures at-finish-call.finish-call.ensures
 
   node-same-length-24 : judge-node-lts.Need-same-length-24 (node-claims t) (judge-node-at t) judge-node.Post
   node-same-length-24 c =
@@ -707,7 +707,7 @@ module _ (t : ℕ) where
       let at-read6 = before-inside6 at-inside6 in
       let at-node-at = before-read6 at-read6 in
       let at_start = before-node-at at-node-at in
-      λ x. ret_method at_start.pre.1.1 (calls_fit _ _ at_start.pre.1.1) _ x _ _ (sym at-node-at.node_at_lem.ensures ∙ at-read6.read6.given.1) at-inside6.inside6.ensures at-judge-node6.judge-node6.ensures at_start.pre.1.0 _ _ at-begin-method.begin-method.ensures (yes_test _ at-else2.if2.left) (space_still (at-judge-row2.judge-row2.kept.1.1.1.1.1.1.0 ∙ at-judge-node6.judge-node6.kept.1.1.1.1.1.0) (at-judge-row2.judge-row2.kept.1.1.1.1.1.1.1.0 ∙ at-judge-node6.judge-node6.kept.1.1.1.1.1.1.0) at_start.pre.1.0) at-judge-row2.judge-row2.ensures at-finish-call2.finish-call2.ensures
+      λ x. ret_method at_start.pre.1.1 (calls_fit _ _ at_start.pre.1.1) _ x _ _ (sym at-node-at.node_at.ensures ∙ at-read6.read6.given.1) at-inside6.inside6.ensures at-judge-node6.judge-node6.ensures at_start.pre.1.0 _ _ at-begin-method.begin-method.ensures (yes_test _ at-else2.if2.left) (space_still (at-judge-row2.judge-row2.kept.1.1.1.1.1.1.0 ∙ at-judge-node6.judge-node6.kept.1.1.1.1.1.0) (at-judge-row2.judge-row2.kept.1.1.1.1.1.1.1.0 ∙ at-judge-node6.judge-node6.kept.1.1.1.1.1.1.0) at_start.pre.1.0) at-judge-row2.judge-row2.ensures at-finish-call2.finish-call2.ensures
 
 abbrev invariant-loop : judge-row-lts.invariant-loop
 invariant-loop table index q header n area₀ lens₀ buf₀ count nodes₀ names₀ e₀ k₀ area lens buf nodes names e k =

@@ -35,39 +35,39 @@ enum-told-8 c = search rules
 
 returns : tie.Need-returns
 unfolding name_read
-returns c = rw (← c.before.before.node_at_lem.ensures, c.enum_told.given.1)
+returns c = rw (← c.before.before.node_at.ensures, c.enum_told.given.1)
 
 returns-2 : tie.Need-returns-2
 unfolding name_read
-returns-2 c = rw (← c.before.before.node_at_lem.ensures, c.enum-told2.given.1)
+returns-2 c = rw (← c.before.before.node_at.ensures, c.enum-told2.given.1)
 
 returns-3 : tie.Need-returns-3
 unfolding name_read
-returns-3 c = rw (← c.before.before.node_at_lem.ensures, c.enum-told3.given.1)
+returns-3 c = rw (← c.before.before.node_at.ensures, c.enum-told3.given.1)
 
 returns-4 : tie.Need-returns-4
 unfolding name_read
-returns-4 c = rw (← c.before.before.node_at_lem.ensures, c.enum-told4.given.1)
+returns-4 c = rw (← c.before.before.node_at.ensures, c.enum-told4.given.1)
 
 returns-5 : tie.Need-returns-5
 unfolding name_read
-returns-5 c = rw (← c.before.before.node_at_lem.ensures, c.enum-told5.given.1)
+returns-5 c = rw (← c.before.before.node_at.ensures, c.enum-told5.given.1)
 
 returns-6 : tie.Need-returns-6
 unfolding name_read
-returns-6 c = rw (← c.before.before.before.node_at_lem.ensures, c.before.read.given.1)
+returns-6 c = rw (← c.before.before.before.node_at.ensures, c.before.read.given.1)
 
 returns-7 : tie.Need-returns-7
 unfolding name_read
-returns-7 c = rw (← c.before.before.node_at_lem.ensures, c.enum-told6.given.1)
+returns-7 c = rw (← c.before.before.node_at.ensures, c.enum-told6.given.1)
 
 returns-8 : tie.Need-returns-8
 unfolding name_read
-returns-8 c = rw (← c.before.before.node_at_lem.ensures, c.enum-told7.given.1)
+returns-8 c = rw (← c.before.before.node_at.ensures, c.enum-told7.given.1)
 
 returns-9 : tie.Need-returns-9
 unfolding name_read
-returns-9 c = rw (← c.before.before.node_at_lem.ensures, c.enum-told8.given.1)
+returns-9 c = rw (← c.before.before.node_at.ensures, c.enum-told8.given.1)
 
 pub argument-name-spec : {M : Type 1} → statement M
 argument-name-spec =

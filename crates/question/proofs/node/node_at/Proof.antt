@@ -1,7 +1,7 @@
 use borrow.Author.Rules.{rules}
 use mathlib.Core.Path.{◌∙◌}
-use Rattle.question.proofs.node.node_at_lem.Statement.{statement}
-use Rattle.question.proofs.node.node_at_lem.Tie as tie
+use Rattle.question.proofs.node.node_at.Statement.{statement}
+use Rattle.question.proofs.node.node_at.Tie as tie
 use Rattle.question.specs.NodeRead.{node_at}
 
 pub node_at_spec : {M : Type 1} → statement M

@@ -34,7 +34,7 @@ own-bytes-requires c κs = search rules
 
 add_at : tie.Need-overflow-add-at invariant-loop decreases-loop
 add_at c =
-    let o = c.own-bytes.ensures ∙ ap own_bytes c.before.node_at_lem.ensures in
+    let o = c.own-bytes.ensures ∙ ap own_bytes c.before.node_at.ensures in
     omega (arith, step_small c.before.before.before.before.before.before.args.q.now c.before.before.before.before.loop.at)
 
 add-nodes : tie.Need-overflow-add-nodes invariant-loop decreases-loop
@@ -48,7 +48,7 @@ children-requires c κs = search rules
 
 add-pending : tie.Need-overflow-add-pending invariant-loop decreases-loop
 add-pending c =
-    let k = c.children.ensures ∙ ap children c.before.before.node_at_lem.ensures in
+    let k = c.children.ensures ∙ ap children c.before.before.node_at.ensures in
     omega (arith, step_few c.before.before.before.before.before.before.before.args.q.now c.before.before.before.before.before.loop.at, c.before.before.before.before.before.loop.invariant)
 
 loop-less : tie.Need-loop-smaller invariant-loop decreases-loop
@@ -58,8 +58,8 @@ loop-again : tie.Need-loop-preserved invariant-loop decreases-loop
 loop-again c =
     let q = c.before.before.before.before.before.before.before.args.q.now in
     let s = c.before.before.before.before.before.loop in
-    let o = c.before.own-bytes.ensures ∙ ap own_bytes c.before.before.node_at_lem.ensures in
-    let k = c.children.ensures ∙ ap children c.before.before.node_at_lem.ensures in (
+    let o = c.before.own-bytes.ensures ∙ ap own_bytes c.before.before.node_at.ensures in
+    let k = c.children.ensures ∙ ap children c.before.before.node_at.ensures in (
       skip_turn q s.at s.nodes s.pending _ _ (omega arith) (omega arith) o k ∙ s.invariant.0,
       omega arith,
       omega (arith, step_few q s.at, s.invariant),

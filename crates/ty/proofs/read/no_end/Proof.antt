@@ -1,6 +1,6 @@
 use Rattle.ty.proofs.Choice.{chain}
-use Rattle.ty.proofs.read.no_end_lem.Statement.{statement}
-use Rattle.ty.proofs.read.no_end_lem.Tie as tie
+use Rattle.ty.proofs.read.no_end.Statement.{statement}
+use Rattle.ty.proofs.read.no_end.Tie as tie
 use Rattle.ty.specs.Read.{no_end}
 
 pub no-end-spec : {M : Type 1} → statement M

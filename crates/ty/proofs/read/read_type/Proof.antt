@@ -68,7 +68,7 @@ no-end-requires : tie.Need-no-end-requires invariant-loop decreases-loop
 no-end-requires c κs = search rules
 
 returns-2 : tie.Need-returns-2 invariant-loop decreases-loop
-returns-2 c = c.no_end_lem.ensures ∙ sym (found c.before.before.before Out c.before.enum-told2.given.1)
+returns-2 c = c.no_end.ensures ∙ sym (found c.before.before.before Out c.before.enum-told2.given.1)
 
 enum-known-found : tie.Need-enum-known-found invariant-loop decreases-loop
 enum-known-found c = search rules
