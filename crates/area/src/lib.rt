@@ -15,7 +15,7 @@ use written::{copy_in, put_two};
 
 // Where a node's type comes from: a kind without body, a List of one, a name, a child's type, what the first child's type holds, a Pointer to it, a
 // part of the table, or a Function without parameters whose result is such a part.
-#[derive(Drop)]
+#[derive(Clone, Copy)]
 pub enum Source {
     Kind(u8),
     ListOf(u8),

@@ -10,12 +10,12 @@ pub const SHORT_TABLE: usize = 2048;
 pub const MIDDLE_TABLE: usize = 16384;
 
 // A record that was found, by its first byte.
-#[derive(Drop)]
+#[derive(Clone, Copy)]
 pub struct Place {
     pub at: usize,
 }
 
-#[derive(Drop)]
+#[derive(Clone, Copy)]
 pub enum Found {
     Nothing,
     Here(Place),

@@ -43,7 +43,7 @@ fn is_function(k: u8, i: u16, j: u16, one: u16, two: u16) -> bool
 }
 
 // A place in the list of a bucket: the owner and the name that are looked for, and the function here by its first byte, counted from 1; 0 is the list's end.
-#[derive(Drop)]
+#[derive(Clone, Copy)]
 pub struct ListCursor {
     pub owner: u16,
     pub name: u16,

@@ -14,14 +14,14 @@ use crate::index::{Found, Place, bucket_count, child_at, entry_at, key_bucket, n
 use ty::{byte_at, id_at, same_bytes};
 
 // What a search looks for: the name of the record at a place, or a kind from 2 on with its ids.
-#[derive(Drop)]
+#[derive(Clone, Copy)]
 pub enum Key {
     Name(Place),
     Ids { kind: u8, one: u16, two: u16 },
 }
 
 // Where a search ends: at a record with the key, or at an empty entry.
-#[derive(Drop)]
+#[derive(Clone, Copy)]
 pub enum Spot {
     Taken(Place),
     Free(usize),
@@ -185,7 +185,7 @@ fn has(t: &[u8], p: usize, key: Key) -> bool
 
 // A place in the tree of a key: an entry of the index, the record here by its first byte, counted from 1 (0 where the entry is empty), how many records are
 // above it, and the number that the last digit was taken from.
-#[derive(Drop)]
+#[derive(Clone, Copy)]
 pub struct TreeCursor {
     pub entry: usize,
     pub here: usize,

@@ -14,7 +14,7 @@ use room::judge_sized;
 use written::clear;
 
 // The answer: refusal number (0 for none), pass mark, the type in 256 bytes with zeros behind its length, that length, and how many diagnostics there are.
-#[derive(Drop)]
+#[derive(Clone, Copy)]
 pub struct Answer {
     pub number: u8,
     pub pass: u8,
@@ -24,7 +24,7 @@ pub struct Answer {
 }
 
 // An answer without its type, whose 256 bytes are lent.
-#[derive(Drop)]
+#[derive(Clone, Copy)]
 pub struct Outcome {
     pub len: usize,
     pub count: usize,

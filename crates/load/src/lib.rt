@@ -13,7 +13,7 @@ ghost use Rattle.written.specs.Output.{Writes};
 use written::{TOO_SHORT, Written, clear, copy_in, refuse};
 
 // Whether a node is a binary, else it is a unary, and the state behind that draw.
-#[derive(Drop)]
+#[derive(Clone, Copy)]
 struct Shape {
     binary: bool,
     state: u32,

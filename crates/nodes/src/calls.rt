@@ -23,7 +23,7 @@ use symbol::lookups::first_function;
 use ty::{Kind, NameId};
 
 // What a call finds: whether there is a list of functions, whose it is, and how far the judgement is before its arguments.
-#[derive(Drop)]
+#[derive(Clone, Copy)]
 pub struct Begun {
     pub listed: bool,
     pub owner: u16,
@@ -31,14 +31,14 @@ pub struct Begun {
 }
 
 // The owner of a method: whether the base is Named, and its name.
-#[derive(Drop)]
+#[derive(Clone, Copy)]
 pub struct Owner {
     pub named: bool,
     pub id: u16,
 }
 
 // A judged argument row: its arguments, and how far the judgement is behind it.
-#[derive(Drop)]
+#[derive(Clone, Copy)]
 pub struct RowJudged {
     pub args: Args,
     pub state: State,

@@ -11,7 +11,7 @@ use ty::NameId;
 
 // How far a judgement is: the next position in the question, the next node's number, how many diagnostics were reported,
 // and whether no finished node is Error.
-#[derive(Drop)]
+#[derive(Clone, Copy)]
 pub struct State {
     pub at: usize,
     pub node: usize,

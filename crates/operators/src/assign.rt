@@ -11,7 +11,7 @@ use ty::{Kind, NameId};
 
 // What one look at two types says: yes, no, or it goes by the type inside the left one, inside the right one, or inside both, or by the classes of two
 // Named types.
-#[derive(Drop)]
+#[derive(Clone, Copy)]
 pub enum Next {
     Yes,
     No,

@@ -14,7 +14,7 @@ use area::Source;
 use ty::{Kind, NameId};
 
 // The numbers of the binary operators.
-#[derive(Drop)]
+#[derive(Clone, Copy)]
 pub struct BinOp(pub u8);
 
 impl BinOp {

@@ -11,7 +11,7 @@ use symbol::lookups::{Mask, first_function, operators_of, superclass_of};
 use ty::{Kind, NameId};
 
 // The type that an operator method gives: there is no such method, it is Any, or a part of the table.
-#[derive(Drop)]
+#[derive(Clone, Copy)]
 pub enum Method {
     Nothing,
     Any,

@@ -6,7 +6,7 @@ use area::Source;
 use ty::Kind;
 
 // A diagnostic at the node itself: its kind, 0 for none, and its number.
-#[derive(Drop)]
+#[derive(Clone, Copy)]
 pub struct Diagnostic {
     pub kind: u8,
     pub number: u8,
@@ -63,7 +63,7 @@ impl Diagnostic {
 }
 
 // Where the node's type comes from, and what is reported, in order.
-#[derive(Drop)]
+#[derive(Clone, Copy)]
 pub struct Ruled {
     pub source: Source,
     pub first: Diagnostic,
@@ -71,7 +71,7 @@ pub struct Ruled {
 }
 
 // The same where at most one diagnostic is reported, which has no number; kind 0 is none.
-#[derive(Drop)]
+#[derive(Clone, Copy)]
 pub struct OneReport {
     pub source: Source,
     pub kind: u8,

@@ -8,7 +8,7 @@ use area::Source;
 use ty::Kind;
 
 // The numbers of the unary operators.
-#[derive(Drop)]
+#[derive(Clone, Copy)]
 pub struct UnOp(pub u8);
 
 impl UnOp {

@@ -26,7 +26,7 @@ use symbol::lookups::Functions;
 use ty::Kind;
 
 // The highest score so far: whether anything matches, the score, how many have it, and where the result of the first of them lies in the table.
-#[derive(Drop)]
+#[derive(Clone, Copy)]
 pub struct Highest {
     pub matched: bool,
     pub score: usize,
@@ -36,7 +36,7 @@ pub struct Highest {
 }
 
 // What the walk over a function list keeps: the first overload that fits in number, how many fit, the highest score, and how many diagnostics there are.
-#[derive(Drop)]
+#[derive(Clone, Copy)]
 pub struct Tally {
     pub first: Found,
     pub fitting: usize,
@@ -45,7 +45,7 @@ pub struct Tally {
 }
 
 // What a call answers: where its type comes from, and how many diagnostics there are.
-#[derive(Drop)]
+#[derive(Clone, Copy)]
 pub struct Called {
     pub source: Source,
     pub count: usize,

@@ -14,7 +14,7 @@ use ty::name::id_defined;
 use ty::{NameId, byte_at, id_at};
 
 // Where the script stands: the current type and package, NameId::NONE for none, and whether in a suspend function.
-#[derive(Drop)]
+#[derive(Clone, Copy)]
 pub struct Header {
     pub current: u16,
     pub pkg: u16,
@@ -22,7 +22,7 @@ pub struct Header {
 }
 
 // What a question asks of the table's names: how many there are.
-#[derive(Drop)]
+#[derive(Clone, Copy)]
 pub struct Names {
     pub count: u16,
 }

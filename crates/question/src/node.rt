@@ -8,7 +8,7 @@ use ty::read::read_type;
 use ty::{Kind, TypeRead, byte_at, id_at, kind_of, tail};
 
 // What stands at a position of the question: a node's own bytes, without its children.
-#[derive(Drop)]
+#[derive(Clone, Copy)]
 pub enum NodeRead {
     // No node: malformed, or cut.
     Bad,
@@ -26,7 +26,7 @@ pub enum NodeRead {
 }
 
 // Where nodes end: the next position, and how many nodes were passed.
-#[derive(Drop)]
+#[derive(Clone, Copy)]
 pub struct Skipped {
     pub at: usize,
     pub nodes: usize,

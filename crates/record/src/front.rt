@@ -14,7 +14,7 @@ pub const LONGEST: u16 = 192;
 // What a record says at its front: its kind, its first two numbers (of a class its name and superclass, of an operator set class and mask, of the later kinds
 // owner and name; a name has none), its length, the highest id that it uses and that must be defined, and whether it is malformed or cut, repeats a parameter's
 // name, or has Error in a type or a type without end. A malformed record has kind 0. Where a record is not whole, its length is that of all that is left.
-#[derive(Drop)]
+#[derive(Clone, Copy)]
 pub struct Head {
     pub kind: u8,
     pub one: u16,

@@ -10,7 +10,7 @@ use ty::{TypeRead, byte_at, highest, id_at, tail};
 
 // The parameters read so far: the bytes passed, the highest id, whether a name was repeated, whether Error was met, the state (0 whole so far, 1 malformed or
 // cut, 2 a type without end), how many there are, and their names.
-#[derive(Drop)]
+#[derive(Clone, Copy)]
 pub struct Reading {
     pub len: usize,
     pub top: u16,

@@ -5,14 +5,14 @@ ghost use Rattle.record.specs.Inside.Walk.{start, StepIs};
 use crate::front::{Head, read_record};
 
 // A place in the table: the next record's first byte, and how many records are behind.
-#[derive(Drop)]
+#[derive(Clone, Copy)]
 pub struct Cursor {
     pub at: usize,
     pub index: usize,
 }
 
 // A record's front, and the cursor behind it.
-#[derive(Drop)]
+#[derive(Clone, Copy)]
 pub struct Step {
     pub head: Head,
     pub next: Cursor,

@@ -12,7 +12,7 @@ use symbol::subclass::is_subclass;
 use ty::NameId;
 
 // The numbers of the visibilities.
-#[derive(Drop)]
+#[derive(Clone, Copy)]
 pub struct Vis(pub u8);
 
 impl Vis {

@@ -23,7 +23,7 @@ use symbol::lookups::{
 use ty::{Kind, NameId};
 
 // What a name of a class stands for: nothing, a field or a function, by the part of the table where its type or its result type lies.
-#[derive(Drop)]
+#[derive(Clone, Copy)]
 pub enum Variable {
     Nothing,
     Field { start: usize, len: usize },

@@ -1,7 +1,7 @@
 // A call's arguments.
 
 // How many there are, and of each its node and its name, NameId::NONE for an unnamed one. A node's type lies in the node's slot.
-#[derive(Drop)]
+#[derive(Clone, Copy)]
 pub struct Args {
     pub count: usize,
     pub nodes: [usize; 16],

@@ -15,14 +15,14 @@ use symbol::functions::{Function, Params};
 use ty::NameId;
 
 // Whether there is a match, and the score, 0 where there is none.
-#[derive(Drop)]
+#[derive(Clone, Copy)]
 pub struct Score {
     pub matched: bool,
     pub points: usize,
 }
 
 // What the named pass hands on: its score, and a mark for each parameter that an argument names.
-#[derive(Drop)]
+#[derive(Clone, Copy)]
 pub struct NamedPass {
     pub score: Score,
     pub marks: [bool; 16],

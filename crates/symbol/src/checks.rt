@@ -26,7 +26,7 @@ use ty::NameId;
 use ty::name::id_defined;
 
 // What the check of a table answers: a number, and how many names the table has. A refusal has no names.
-#[derive(Drop)]
+#[derive(Clone, Copy)]
 pub struct Checked {
     pub number: u8,
     pub names: u16,
@@ -34,7 +34,7 @@ pub struct Checked {
 
 // What a record that draws no number does in the index: it fills an empty entry of its tree, or joins a list of functions.
 // Taken: an earlier record has its key.
-#[derive(Drop)]
+#[derive(Clone, Copy)]
 pub enum Entry {
     Taken,
     Tree(usize),

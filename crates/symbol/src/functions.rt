@@ -13,7 +13,7 @@ use ty::read::read_type;
 use ty::{TypeRead, byte_at, id_at, tail};
 
 // The parameters of a function: how many, and of each its name, whether it has a default and is vararg, and where its type lies in the table.
-#[derive(Drop)]
+#[derive(Clone, Copy)]
 pub struct Params {
     pub count: usize,
     pub names: [u16; 16],
@@ -24,7 +24,7 @@ pub struct Params {
 }
 
 // A function; its result type lies in the table, from start on.
-#[derive(Drop)]
+#[derive(Clone, Copy)]
 pub struct Function {
     pub builtin: bool,
     pub visibility: u8,

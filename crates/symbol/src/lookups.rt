@@ -13,21 +13,21 @@ use record::front::read_record;
 use ty::{NameId, byte_at, id_at, tail};
 
 // A part of the table.
-#[derive(Drop)]
+#[derive(Clone, Copy)]
 pub enum Part {
     Nothing,
     At { start: usize, len: usize },
 }
 
 // The mask of an operator set.
-#[derive(Drop)]
+#[derive(Clone, Copy)]
 pub enum Mask {
     Nothing,
     Is(u16),
 }
 
 // A member's visibility.
-#[derive(Drop)]
+#[derive(Clone, Copy)]
 pub enum Visibility {
     Nothing,
     Is(u8),
@@ -136,7 +136,7 @@ pub fn is_variant(t: &[u8], x: &[u16], owner: u16, name: u16) -> bool
 }
 
 // A place in the list of functions of an owner, which may be NameId::NONE, and a name: at one of them, or at the list's end.
-#[derive(Drop)]
+#[derive(Clone, Copy)]
 pub struct Functions {
     pub list: ListCursor,
 }

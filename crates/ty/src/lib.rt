@@ -11,7 +11,7 @@ pub use name::NameId;
 pub use read::{Item, TypeRead};
 
 // The numbers of the kinds.
-#[derive(Drop)]
+#[derive(Clone, Copy)]
 pub struct Kind(pub u8);
 
 impl Kind {

@@ -3,7 +3,7 @@ ghost use Rattle.std.specs.Prelude.{◌≡◌};
 ghost use Rattle.ty.specs.Name.{id_defined};
 
 // The number of a name, with the numbers of the built-in names.
-#[derive(Drop)]
+#[derive(Clone, Copy)]
 pub struct NameId(pub u16);
 
 impl NameId {

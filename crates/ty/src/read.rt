@@ -5,7 +5,7 @@ ghost use Rattle.ty.specs.Read.{body_length, child_count, good_body, id_in, item
 use crate::{Kind, byte_at, highest, id_at};
 
 // What reading a type finds. `top` is the highest id that was examined, 0 for none; `error` says whether Error was.
-#[derive(Drop)]
+#[derive(Clone, Copy)]
 pub enum TypeRead {
     // It ends before byte len.
     Whole { len: usize, top: u16, error: bool },
@@ -17,7 +17,7 @@ pub enum TypeRead {
 }
 
 // A kind with its body.
-#[derive(Drop)]
+#[derive(Clone, Copy)]
 pub enum Item {
     // It ends before byte next.
     Part {

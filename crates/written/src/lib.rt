@@ -7,7 +7,7 @@ ghost use Rattle.ty.specs.Bytes.{two_bytes};
 ghost use Rattle.written.specs.Output.{refused, Writes};
 
 // The answer of a writing part: 0 and how many bytes it wrote, or the number with which it refuses and 0.
-#[derive(Drop)]
+#[derive(Clone, Copy)]
 pub struct Written {
     pub number: u8,
     pub len: usize,
