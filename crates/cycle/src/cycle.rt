@@ -23,7 +23,7 @@ pub fn judge_node(
     buf: &mut [u8],
 ) -> State
     requires { Space q.now area.old lens.old × IndexedTable table.now index.now × NodeAsked q.now s }
-    ensures { JudgesNode table q header s area lens buf result }
+    ensures { JudgesNode table.now q.now header s area lens buf result }
 {
     let node = s.node;
     let read = node_at(q, s.at);
@@ -82,7 +82,7 @@ fn judge_row(
     buf: &mut [u8],
 ) -> RowJudged
     requires { Space q.now area.old lens.old × IndexedTable table.now index.now × RowAsked q.now s 0 n }
-    ensures { JudgesRow table q header s n area lens buf result }
+    ensures { JudgesRow table.now q.now header s n area lens buf result }
 {
     let count = n as usize;
     let mut nodes = [0usize; 16];

@@ -7,7 +7,7 @@ use Rattle.record.specs.TableRefused.{table_fault}
 use Rattle.typing.specs.Answer as of
 use Rattle.typing.specs.Answer.{names_of, answer_of, buffer_of}
 use Rattle.typing.specs.Demand3.{Demand3}
-use Rattle.ty.specs.Slice.{Borrowed}
+use Rattle.ty.specs.Slice.{Slice, Borrowed}
 
 -- number, pass mark, type in 256 bytes, its length, diagnostic count
 abbrev pub answer_is : Answer → of.Answer
@@ -32,9 +32,9 @@ abbrev pub AcceptedDemand3 : List ℕ → List ℕ → ℕ → of.Answer → Lis
 AcceptedDemand3 t q lent r b = AcceptedUnder t q → Demand3 t q lent r b
 
 -- P of a call: of the table's bytes, the question's, how many bytes the lent buffer has, the answer, and the buffer afterwards
-abbrev pub OfCall : (List ℕ → List ℕ → ℕ → of.Answer → List ℕ → Type 0) → Borrowed → Borrowed → Borrowed → of.Answer → Type 0
-OfCall P table question buffer r = P table.entry.now question.entry.now (length buffer.entry.now) r buffer.exit.now
+abbrev pub OfCall : (List ℕ → List ℕ → ℕ → of.Answer → List ℕ → Type 0) → Slice → Slice → Borrowed → of.Answer → Type 0
+OfCall P table question buffer r = P table question (length buffer.entry.now) r buffer.exit.now
 
 -- the same where the 256 bytes of the answer's type are lent too
-abbrev pub AnsweredInto : Borrowed → Borrowed → Borrowed → Borrowed → Outcome → Type 0
+abbrev pub AnsweredInto : Slice → Slice → Borrowed → Borrowed → Outcome → Type 0
 AnsweredInto table question buffer ty r = OfCall Answered table question buffer (outcome_is r ty.exit.now)

@@ -34,9 +34,9 @@ pub struct Outcome {
 
 // Judges a question against a table: the answer, and the diagnostics in the lent buffer.
 pub fn judge(table: &[u8], question: &[u8], diagnostics: &mut [u8]) -> Answer
-    ensures answered { OfCall Answered table question diagnostics (answer_is result) }
-    ensures demand1 { OfCall Demand1 table question diagnostics (answer_is result) }
-    ensures demand3 { OfCall AcceptedDemand3 table question diagnostics (answer_is result) }
+    ensures answered { OfCall Answered table.now question.now diagnostics (answer_is result) }
+    ensures demand1 { OfCall Demand1 table.now question.now diagnostics (answer_is result) }
+    ensures demand3 { OfCall AcceptedDemand3 table.now question.now diagnostics (answer_is result) }
 {
     let mut ty = [0u8; 256];
     let outcome = judge_into(table, question, diagnostics, &mut ty);
@@ -52,7 +52,7 @@ pub fn judge(table: &[u8], question: &[u8], diagnostics: &mut [u8]) -> Answer
 // Judges a question against a table: the answer, its type in what is lent for it, and the diagnostics in the lent buffer.
 pub fn judge_into(table: &[u8], question: &[u8], diagnostics: &mut [u8], ty: &mut [u8]) -> Outcome
     requires { ty.old ≡ zeros answer_bytes }
-    ensures { AnsweredInto table question diagnostics ty result }
+    ensures { AnsweredInto table.now question.now diagnostics ty result }
 {
     clear(diagnostics);
     judge_sized(table, question, diagnostics, ty)

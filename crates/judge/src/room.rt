@@ -24,7 +24,7 @@ const MIDDLE_QUESTION: usize = 69;
 // Judges a question against a table, with an index that goes by the table's length.
 pub fn judge_sized(table: &[u8], question: &[u8], diagnostics: &mut [u8], ty: &mut [u8]) -> Outcome
     requires { Clear diagnostics.old ty.old }
-    ensures { AnsweredInto table question diagnostics ty result }
+    ensures { AnsweredInto table.now question.now diagnostics ty result }
 {
     if table.len() == 0 {
         return judge_empty(table, question, diagnostics, ty);
@@ -41,7 +41,7 @@ pub fn judge_sized(table: &[u8], question: &[u8], diagnostics: &mut [u8], ty: &m
 // Judges a question against an empty table, of which an index of one entry is enough.
 fn judge_empty(table: &[u8], question: &[u8], diagnostics: &mut [u8], ty: &mut [u8]) -> Outcome
     requires { Clear diagnostics.old ty.old × (length table.now ≡ 0) }
-    ensures { AnsweredInto table question diagnostics ty result }
+    ensures { AnsweredInto table.now question.now diagnostics ty result }
 {
     let index = [0u16; 1];
     judge_checked(table, &index, 0, question, diagnostics, ty)
@@ -50,7 +50,7 @@ fn judge_empty(table: &[u8], question: &[u8], diagnostics: &mut [u8], ty: &mut [
 // Judges a question against a short table; 1,461 entries are enough for its index.
 fn judge_short(table: &[u8], question: &[u8], diagnostics: &mut [u8], ty: &mut [u8]) -> Outcome
     requires { Clear diagnostics.old ty.old × (length table.now ≤ short_table) }
-    ensures { AnsweredInto table question diagnostics ty result }
+    ensures { AnsweredInto table.now question.now diagnostics ty result }
 {
     let mut index = [0u16; 1461];
     judge_with(table, &mut index, question, diagnostics, ty)
@@ -59,7 +59,7 @@ fn judge_short(table: &[u8], question: &[u8], diagnostics: &mut [u8], ty: &mut [
 // Judges a question against a table of middle length; 11,163 entries are enough for its index.
 fn judge_middle(table: &[u8], question: &[u8], diagnostics: &mut [u8], ty: &mut [u8]) -> Outcome
     requires { Clear diagnostics.old ty.old × (length table.now ≤ middle_table) }
-    ensures { AnsweredInto table question diagnostics ty result }
+    ensures { AnsweredInto table.now question.now diagnostics ty result }
 {
     let mut index = [0u16; 11163];
     judge_with(table, &mut index, question, diagnostics, ty)
@@ -68,7 +68,7 @@ fn judge_middle(table: &[u8], question: &[u8], diagnostics: &mut [u8], ty: &mut 
 // Judges a question against a table; 42,435 entries are enough for the index of the longest.
 fn judge_long(table: &[u8], question: &[u8], diagnostics: &mut [u8], ty: &mut [u8]) -> Outcome
     requires { Clear diagnostics.old ty.old }
-    ensures { AnsweredInto table question diagnostics ty result }
+    ensures { AnsweredInto table.now question.now diagnostics ty result }
 {
     let mut index = [0u16; 42435];
     judge_with(table, &mut index, question, diagnostics, ty)
@@ -83,8 +83,8 @@ fn judge_with(
     ty: &mut [u8],
 ) -> Outcome
     requires { Clear diagnostics.old ty.old × IndexRoom table.now index.old }
-    ensures answered_into { AnsweredInto table question diagnostics ty result }
-    ensures indexed_in { IndexedIn table index }
+    ensures answered_into { AnsweredInto table.now question.now diagnostics ty result }
+    ensures indexed_in { IndexedIn table.now index }
 {
     let checked = check_table(table, index);
     if checked.number != 0 {
@@ -103,7 +103,7 @@ fn judge_checked(
     ty: &mut [u8],
 ) -> Outcome
     requires { Clear diagnostics.old ty.old × IndexedTable table.now index.now × (names ≡ name_count (records_of table.now)) }
-    ensures { AnsweredInto table question diagnostics ty result }
+    ensures { AnsweredInto table.now question.now diagnostics ty result }
 {
     let number = check_question(question, Names { count: names });
     if number != 0 {
@@ -121,7 +121,7 @@ fn judge_accepted(
     ty: &mut [u8],
 ) -> Outcome
     requires { Ready table.now index.now question.now diagnostics.old ty.old }
-    ensures { AnsweredInto table question diagnostics ty result }
+    ensures { AnsweredInto table.now question.now diagnostics ty result }
 {
     if question.len() <= SHORT_QUESTION {
         return judge_few(table, index, question, diagnostics, ty);
@@ -141,7 +141,7 @@ fn judge_few(
     ty: &mut [u8],
 ) -> Outcome
     requires { Ready table.now index.now question.now diagnostics.old ty.old × (length question.now ≤ short_question) }
-    ensures { AnsweredInto table question diagnostics ty result }
+    ensures { AnsweredInto table.now question.now diagnostics ty result }
 {
     let mut area = [0u8; 2048];
     let mut lens = [0usize; 8];
@@ -165,7 +165,7 @@ fn judge_some(
     ty: &mut [u8],
 ) -> Outcome
     requires { Ready table.now index.now question.now diagnostics.old ty.old × (length question.now ≤ middle_question) }
-    ensures { AnsweredInto table question diagnostics ty result }
+    ensures { AnsweredInto table.now question.now diagnostics ty result }
 {
     let mut area = [0u8; 8192];
     let mut lens = [0usize; 32];
@@ -189,7 +189,7 @@ fn judge_many(
     ty: &mut [u8],
 ) -> Outcome
     requires { Ready table.now index.now question.now diagnostics.old ty.old }
-    ensures { AnsweredInto table question diagnostics ty result }
+    ensures { AnsweredInto table.now question.now diagnostics ty result }
 {
     let mut area = [0u8; 16384];
     let mut lens = [0usize; 64];
@@ -215,8 +215,8 @@ fn judge_in(
     ty: &mut [u8],
 ) -> Outcome
     requires { Ready table.now index.now question.now diagnostics.old ty.old × Space question.now area.old lens.old }
-    ensures answered_into { AnsweredInto table question diagnostics ty result }
-    ensures judged_in { JudgedIn table question area lens }
+    ensures answered_into { AnsweredInto table.now question.now diagnostics ty result }
+    ensures judged_in { JudgedIn table.now question.now area lens }
 {
     let header = read_header(question);
     let start = State {

@@ -19,7 +19,7 @@ pub fn answer_root(
     ty: &mut [u8],
 ) -> Outcome
     requires { Lent area.now lens.now × (0 < length lens.now) × (s.count ≤ 4294967296) × (ty.old ≡ zeros answer_bytes) }
-    ensures { Rooted s area lens diagnostics ty result }
+    ensures { Rooted s area.now lens.now diagnostics ty result }
 {
     let count = s.count;
     let len = lens[0];

@@ -83,7 +83,7 @@ pub fn begin_call(
     buf: &mut [u8],
 ) -> Begun
     requires { IndexedTable table.now index.now × (s.count < count_limit) }
-    ensures { Begins no_id node (callee_at table.entry header id) s buf result }
+    ensures { Begins no_id node (callee_at table.now header id) s buf result }
 {
     let found = first_function(table, index, NameId::NONE, id);
     match found {
@@ -97,7 +97,7 @@ pub fn begin_call(
 
 // The owner of a method of the object in a slot.
 fn owner_of(area: &[u8], lens: &[usize], m: usize) -> Owner
-    ensures { result ≡ owner_of (slot_at area.entry lens.entry m) }
+    ensures { result ≡ owner_of (slot_at area.now lens.now m) }
 {
     let base = ty::non_null(slot(area, lens, m));
     Owner {
@@ -118,7 +118,7 @@ fn begin_owned(
     buf: &mut [u8],
 ) -> Begun
     requires { IndexedTable table.now index.now × (s.count + 2 ≤ count_limit) }
-    ensures { Begins owner node (owned_at table.entry header owner id) s buf result }
+    ensures { Begins owner node (owned_at table.now header owner id) s buf result }
 {
     let found = first_function(table, index, owner, id);
     match found {
@@ -154,7 +154,7 @@ pub fn begin_method(
     buf: &mut [u8],
 ) -> Begun
     requires { IndexedTable table.now index.now × (node < slot_count) × (s.count + 2 ≤ count_limit) }
-    ensures { BeginsMethod table header id node (slot_at area.entry lens.entry (node + 1)) s buf result }
+    ensures { BeginsMethod table.now header id node (slot_at area.now lens.now (node + 1)) s buf result }
 {
     let owner = owner_of(area, lens, node + 1);
     if owner.named {
@@ -200,8 +200,8 @@ pub fn finish_call(
     lens: &mut [usize],
     buf: &mut [u8],
 ) -> State
-    requires { CallReady table index area lens owner id node row }
-    ensures { FinishesCall row.state node (verdict_at table.entry area.entry lens.entry owner id node row) area lens buf result }
+    requires { CallReady table.now index.now area.old lens.old owner id node row }
+    ensures { FinishesCall row.state node (verdict_at table.now area.old lens.old owner id node row) area lens buf result }
 {
     let args = row.args;
     let s = row.state;

@@ -34,7 +34,7 @@ pub fn inside(s: State, own: usize) -> State
 
 // Behind a node that is finished: its type lies in its slot, and so many diagnostics have been reported.
 pub fn finished(s: State, node: usize, count: usize, area: &[u8], lens: &[usize]) -> State
-    ensures { result ≡ finished_as s count (slot_at area.entry lens.entry node) }
+    ensures { result ≡ finished_as s count (slot_at area.now lens.now node) }
 {
     let error = is_error(slot(area, lens, node));
     State {

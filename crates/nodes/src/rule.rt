@@ -22,7 +22,7 @@ use rules::member::check_member;
 // A leaf's type is its own.
 pub fn judge_leaf(q: &[u8], len: u16, s: State, area: &mut [u8], lens: &mut [usize]) -> State
     requires { Lent area.old lens.old × LeafAsked q.now lens.old len s }
-    ensures { FinishesSilently (inside_of s (len + 1)) s.node (leaf_at q.entry s len) area lens result }
+    ensures { FinishesSilently (inside_of s (len + 1)) s.node (leaf_at q.now s len) area lens result }
 {
     let node = s.node;
     let n = len as usize;
@@ -40,7 +40,7 @@ pub fn finish_named(
     lens: &mut [usize],
 ) -> State
     requires { Lent area.old lens.old × Slot lens.old node (node + 1) }
-    ensures { FinishesSilently s node (slot_at area.entry lens.entry (node + 1)) area lens result }
+    ensures { FinishesSilently s node (slot_at area.old lens.old (node + 1)) area lens result }
 {
     let first = node + 1;
     store(area, lens, table, node, first, first, Source::First);
@@ -69,8 +69,8 @@ fn finish_rule(
     lens: &mut [usize],
     buf: &mut [u8],
 ) -> State
-    requires { RuleAsked area.old lens.old node second s (ruled_at table area lens ruled (node + 1) second) }
-    ensures { FinishesAs s node (ruled_at table.entry area.entry lens.entry ruled (node + 1) second) area lens buf result }
+    requires { RuleAsked area.old lens.old node second s (ruled_at table.now area.old lens.old ruled (node + 1) second) }
+    ensures { FinishesAs s node (ruled_at table.now area.old lens.old ruled (node + 1) second) area lens buf result }
 {
     let source = ruled.source;
     let one = ruled.first;
@@ -91,7 +91,7 @@ fn binary_rule(
     lens: &[usize],
 ) -> Ruled
     requires { IndexedTable table.now index.now }
-    ensures { BinaryRuledAt table area lens op first second result }
+    ensures { BinaryRuledAt table.now area.now lens.now op first second result }
 {
     check_binary(
         table,
@@ -115,14 +115,14 @@ pub fn finish_binary(
     buf: &mut [u8],
 ) -> State
     requires { IndexedTable table.now index.now × RuleAsked area.old lens.old node second s (binary_at table area lens op (node + 1) second) }
-    ensures { FinishesAs s node (binary_at table.entry area.entry lens.entry op (node + 1) second) area lens buf result }
+    ensures { FinishesAs s node (binary_at table.now area.old lens.old op (node + 1) second) area lens buf result }
 {
     let ruled = binary_rule(table, index, op, node + 1, second, area, lens);
     finish_rule(table, ruled, node, second, s, area, lens, buf)
 }
 
 fn unary_rule(op: u8, first: usize, area: &[u8], lens: &[usize]) -> Ruled
-    ensures { UnaryRuledAt area lens op first result }
+    ensures { UnaryRuledAt area.now lens.now op first result }
 {
     check_unary(op, slot(area, lens, first))
 }
@@ -138,7 +138,7 @@ pub fn finish_unary(
     buf: &mut [u8],
 ) -> State
     requires { RuleAsked area.old lens.old node (node + 1) s (unary_at area lens op (node + 1)) }
-    ensures { FinishesAs s node (unary_at area.entry lens.entry op (node + 1)) area lens buf result }
+    ensures { FinishesAs s node (unary_at area.old lens.old op (node + 1)) area lens buf result }
 {
     let first = node + 1;
     let ruled = unary_rule(op, first, area, lens);
@@ -155,7 +155,7 @@ fn member_rule(
     lens: &[usize],
 ) -> Ruled
     requires { IndexedTable table.now index.now }
-    ensures { MemberRuledAt table area lens header id first result }
+    ensures { MemberRuledAt table.now area.now lens.now header id first result }
 {
     check_member(table, index, header, id, slot(area, lens, first))
 }
@@ -173,7 +173,7 @@ pub fn finish_member(
     buf: &mut [u8],
 ) -> State
     requires { IndexedTable table.now index.now × RuleAsked area.old lens.old node (node + 1) s (member_at table area lens header id (node + 1)) }
-    ensures { FinishesAs s node (member_at table.entry area.entry lens.entry header id (node + 1)) area lens buf result }
+    ensures { FinishesAs s node (member_at table.now area.old lens.old header id (node + 1)) area lens buf result }
 {
     let first = node + 1;
     let ruled = member_rule(table, index, header, id, first, area, lens);

@@ -125,7 +125,7 @@ fn take_one(
     buf: &mut [u8],
 ) -> Tally
     requires { IndexedTable table.now index.now × FunctionAt table.now p × (f ≡ function_at table.now p) × (args.count ≤ 16) × Room w }
-    ensures { TakesOne table (args_lent area lens args) p buf w result }
+    ensures { TakesOne table.now (args_lent area.now lens.now args) p buf w result }
 {
     let params = f.params;
     let found = w.first;
@@ -155,7 +155,7 @@ fn turn(
     buf: &mut [u8],
 ) -> Tally
     requires { IndexedTable table.now index.now × FunctionAt table.now p × (args.count ≤ 16) × Room w }
-    ensures { TakesSome table (args_lent area lens args) (taken table.now own args.count p) buf w result }
+    ensures { TakesSome table.now (args_lent area.now lens.now args) (taken table.now own args.count p) buf w result }
 {
     let f = read_function(table, p);
     if own & f.builtin {
@@ -181,7 +181,7 @@ fn walk(
     count: usize,
 ) -> Tally
     requires { IndexedTable table.now index.now × (args.count ≤ 16) × (count + most_diagnostics ≤ count_limit) }
-    ensures { TalliesAll table (args_lent area lens args) (picked_in table.now own args.count owner id) count buf result }
+    ensures { TalliesAll table.now (args_lent area.now lens.now args) (picked_in table.now own args.count owner id) count buf result }
 {
     let mut c = Functions::first(table, index, owner, id);
     let mut w = Tally {
@@ -248,7 +248,7 @@ fn settle(
     buf: &mut [u8],
 ) -> Called
     requires { IndexedTable table.now index.now × FunctionAt table.now p × (args.count ≤ 16) × Room w }
-    ensures { SettlesCall table (args_lent area lens args) p node buf w result }
+    ensures { SettlesCall table.now (args_lent area.now lens.now args) p node buf w result }
 {
     let h = w.highest;
     if h.matched {
@@ -295,7 +295,7 @@ pub fn check_call_args(
     count: usize,
 ) -> Called
     requires { IndexedTable table.now index.now × (args.count ≤ 16) × (count + most_diagnostics ≤ count_limit) }
-    ensures { CallsAt table owner id node area lens args buf count result }
+    ensures { CallsAt table.now owner id node area.now lens.now args buf count result }
 {
     let own = any_own(table, index, owner, id);
     let w = walk(table, index, own, owner, id, area, lens, args, buf, count);

@@ -1,12 +1,12 @@
 -- Lent slices, as contracts see them.
 use Rattle.std.specs.Prelude.{ℕ, List}
-use Rattle.std.specs.Borrow.{Bor}
+use Rattle.std.specs.Borrow.{MutBor}
 use denote.Triple.Both.{Both}
 
--- a slice at one moment
+-- what a slice holds at one moment
 abbrev pub Slice : Type 0
-Slice = Bor (List ℕ)
+Slice = List ℕ
 
--- a slice that a call is lent: what it holds at entry, and at exit
+-- a slice that a call is lent to write: what it holds at entry, and at exit
 abbrev pub Borrowed : Type 0
-Borrowed = Both Slice Slice
+Borrowed = Both (MutBor Slice) (MutBor Slice)

@@ -6,7 +6,7 @@ use Rattle.overload.specs.Inside.Tally.{most_diagnostics}
 use Rattle.nodes.specs.Inside.AreaFilled.{AreaFilled}
 use Rattle.nodes.specs.Inside.Progress.{Reached}
 use Rattle.nodes.specs.Inside.Row.{nodes_of, ids_of}
-use Rattle.ty.specs.Slice.{Borrowed}
+use Rattle.ty.specs.Slice.{Slice, Borrowed}
 use Rattle.nodes.specs.declared.calls.RowJudged.{RowJudged}
 use Rattle.nodes.specs.declared.progress.State.{State}
 use Rattle.scoring.specs.Arg.{Arg}
@@ -103,15 +103,15 @@ pub record RowIs (t : List ℕ) (H : Header) (s : State) (k n : ℕ) (nodes name
   pub few : length (judges_at t H s trees).diags ≤ most_at_node * sizes trees
 
 -- What the node judge leaves of the slices that it is lent, whatever tree stands at s.
-abbrev pub JudgesNode : Borrowed → Borrowed → Header → State → Borrowed → Borrowed → Borrowed → State → Type 0
+abbrev pub JudgesNode : Slice → Slice → Header → State → Borrowed → Borrowed → Borrowed → State → Type 0
 JudgesNode table q H s area lens buf r =
-    (x : NodeAsked q.entry.now s)
-    → NodeIs table.entry.now H s area.entry.now area.exit.now lens.entry.now lens.exit.now
+    (x : NodeAsked q s)
+    → NodeIs table H s area.entry.now area.exit.now lens.entry.now lens.exit.now
     buf.entry.now buf.exit.now r x.tree
 
 -- What the argument-row judge leaves, whatever n trees stand at s.
-abbrev pub JudgesRow : Borrowed → Borrowed → Header → State → ℕ → Borrowed → Borrowed → Borrowed → RowJudged → Type 0
+abbrev pub JudgesRow : Slice → Slice → Header → State → ℕ → Borrowed → Borrowed → Borrowed → RowJudged → Type 0
 JudgesRow table q H s n area lens buf r =
-    (x : RowAsked q.entry.now s 0 n)
-    → RowIs table.entry.now H s 0 n (replicate 16 0) (replicate 16 0) area.entry.now area.exit.now
+    (x : RowAsked q s 0 n)
+    → RowIs table H s 0 n (replicate 16 0) (replicate 16 0) area.entry.now area.exit.now
     lens.entry.now lens.exit.now buf.entry.now buf.exit.now r x.trees

@@ -4,7 +4,7 @@ use Rattle.question.specs.QuestionRefused.{question_fault}
 use Rattle.index.specs.Inside.IndexedTable.{IndexedTable}
 use Rattle.nodes.specs.Inside.AreaFilled.{AreaFilled}
 use Rattle.symbol.specs.Inside.IndexMade.{index_made}
-use Rattle.ty.specs.Slice.{Borrowed}
+use Rattle.ty.specs.Slice.{Slice, Borrowed}
 use Rattle.typing.specs.Answer.{answer_bytes, names_of, judgement_of, zeros}
 
 -- the lent buffer and the type's bytes are all zero
@@ -19,10 +19,10 @@ pub record Ready (t x q b ty : List ℕ) : Type 0 where
   pub clear : Clear b ty
 
 -- what is left in the slots that are lent to judge a question: the types of the nodes that its judgement finishes, in that order
-abbrev pub JudgedIn : Borrowed → Borrowed → Borrowed → Borrowed → Type 0
+abbrev pub JudgedIn : Slice → Slice → Borrowed → Borrowed → Type 0
 JudgedIn table question area lens =
-    AreaFilled area.entry.now area.exit.now lens.entry.now lens.exit.now (judgement_of table.entry.now question.entry.now).typed
+    AreaFilled area.entry.now area.exit.now lens.entry.now lens.exit.now (judgement_of table question).typed
 
 -- what is left in the index that is lent for the table: what its check makes of it
-abbrev pub IndexedIn : Borrowed → Borrowed → Type 0
-IndexedIn table index = index.exit.now ≡ index_made table.entry.now index.entry.now
+abbrev pub IndexedIn : Slice → Borrowed → Type 0
+IndexedIn table index = index.exit.now ≡ index_made table index.entry.now

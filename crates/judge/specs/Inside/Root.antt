@@ -5,7 +5,7 @@ use Rattle.written.specs.Padding.{padded_to}
 use Rattle.area.specs.Inside.Slot.{slot_of}
 use Rattle.nodes.specs.declared.progress.State.{State}
 use Rattle.judge.specs.Answered.{outcome_is}
-use Rattle.ty.specs.Slice.{Borrowed}
+use Rattle.ty.specs.Slice.{Slice, Borrowed}
 use Rattle.judge.specs.declared.Outcome.{Outcome}
 use Rattle.ty.specs.Bytes.{Ty}
 use Rattle.ty.specs.Choose.{choose}
@@ -34,6 +34,6 @@ pub record RootIs (s : State) (a l b b' : List ℕ) (r : of.Answer) : Type 0 whe
   pub answer : r ≡ root_answer (slot_number s l (length b)) s (slot_of a l 0) (get_or l 0 0)
   pub buffer : b' ≡ choose (eqb (slot_number s l (length b)) 0) b (zeros (length b))
 
-abbrev pub Rooted : State → Borrowed → Borrowed → Borrowed → Borrowed → Outcome → Type 0
+abbrev pub Rooted : State → Slice → Slice → Borrowed → Borrowed → Outcome → Type 0
 Rooted s area lens buffer ty r =
-    RootIs s area.entry.now lens.entry.now buffer.entry.now buffer.exit.now (outcome_is r ty.exit.now)
+    RootIs s area lens buffer.entry.now buffer.exit.now (outcome_is r ty.exit.now)

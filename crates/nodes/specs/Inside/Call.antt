@@ -65,31 +65,31 @@ pub record CallAsked (l : List ℕ) (node : ℕ) (row : RowJudged) (v : Verdict)
 
 -- what a call, a method call on an owner, and one on an object of the type t find in a table
 abbrev pub callee_at : Slice → Header → ℕ → Option Callee
-callee_at table H id = call_of (symbols_of table.now) H id
+callee_at table H id = call_of (symbols_of table) H id
 
 abbrev pub owned_at : Slice → Header → ℕ → ℕ → Option Callee
-owned_at table H owner id = method_in (symbols_of table.now) H owner id ((symbols_of table.now).functions_of owner id)
+owned_at table H owner id = method_in (symbols_of table) H owner id ((symbols_of table).functions_of owner id)
 
 abbrev pub method_at : Slice → Header → ℕ → Ty → Option Callee
-method_at table H id t = method_of (symbols_of table.now) H id t
+method_at table H id t = method_of (symbols_of table) H id t
 
 -- `BegunIs` of a call that is lent the buffer
 abbrev pub Begins : ℕ → ℕ → Option Callee → State → Borrowed → Begun → Type 0
 Begins owner node found s buf r = BegunIs owner node found s buf.entry.now buf.exit.now r
 
 -- of a method call on an object of the type t
-abbrev pub BeginsMethod : Borrowed → Header → ℕ → ℕ → Ty → State → Borrowed → Begun → Type 0
-BeginsMethod table H id node t s buf r = Begins (method_owner t) node (method_at table.entry H id t) s buf r
+abbrev pub BeginsMethod : Slice → Header → ℕ → ℕ → Ty → State → Borrowed → Begun → Type 0
+BeginsMethod table H id node t s buf r = Begins (method_owner t) node (method_at table H id t) s buf r
 
 -- what a call of an owner's list gives for the arguments of a row
 abbrev pub verdict_at : Slice → Slice → Slice → ℕ → ℕ → ℕ → RowJudged → Verdict
 verdict_at table area lens owner id node row =
-    resolve (symbols_of table.now) ((symbols_of table.now).functions_of owner id) node (args_in area.now lens.now row.args)
+    resolve (symbols_of table) ((symbols_of table).functions_of owner id) node (args_in area lens row.args)
 
 -- what it asks of what it is lent
 abbrev pub CallReady : Slice → Slice → Slice → Slice → ℕ → ℕ → ℕ → RowJudged → Type 0
 CallReady table index area lens owner id node row =
-    Lent area.now lens.now × IndexedTable table.now index.now × CallAsked lens.now node row (verdict_at table area lens owner id node row)
+    Lent area lens × IndexedTable table index × CallAsked lens node row (verdict_at table area lens owner id node row)
 
 -- node n is finished with the type and the diagnostics of v
 abbrev pub FinishesCall : State → ℕ → Verdict → Borrowed → Borrowed → Borrowed → State → Type 0

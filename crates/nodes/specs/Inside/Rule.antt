@@ -36,35 +36,35 @@ pub record RuleAsked (a l : List ℕ) (node second : ℕ) (s : State) (o : Out) 
 
 -- the type of len bytes of the leaf that stands at s
 abbrev pub leaf_at : Slice → State → ℕ → Ty
-leaf_at q s len = take len (drop (s.at + 1) q.now)
+leaf_at q s len = take len (drop (s.at + 1) q)
 
 -- what a rule's answer stands for, the types of its operands being in the slots `first` and `second`
 abbrev pub ruled_at : Slice → Slice → Slice → Ruled → ℕ → ℕ → Out
-ruled_at table area lens ruled first second = out_of table.now (slot_at area lens first) (slot_at area lens second) ruled
+ruled_at table area lens ruled first second = out_of table (slot_at area lens first) (slot_at area lens second) ruled
 
 -- what the definitions give for operands in slots
 abbrev pub binary_at : Slice → Slice → Slice → ℕ → ℕ → ℕ → Out
-binary_at table area lens op first second = binary_out (symbols_of table.now) op (slot_at area lens first) (slot_at area lens second)
+binary_at table area lens op first second = binary_out (symbols_of table) op (slot_at area lens first) (slot_at area lens second)
 
 abbrev pub unary_at : Slice → Slice → ℕ → ℕ → Out
 unary_at area lens op first = unary_out op (slot_at area lens first)
 
 abbrev pub member_at : Slice → Slice → Slice → Header → ℕ → ℕ → Out
-member_at table area lens H id first = member_out (symbols_of table.now) H id (slot_at area lens first)
+member_at table area lens H id first = member_out (symbols_of table) H id (slot_at area lens first)
 
 -- a rule has answered what the definition gives; where it has one operand, whatever a second would be, and a unary operator under any table
-abbrev pub BinaryRuledAt : Borrowed → Borrowed → Borrowed → ℕ → ℕ → ℕ → Ruled → Type 0
+abbrev pub BinaryRuledAt : Slice → Slice → Slice → ℕ → ℕ → ℕ → Ruled → Type 0
 BinaryRuledAt table area lens op first second r =
-    ruled_at table.entry area.entry lens.entry r first second ≡ binary_at table.entry area.entry lens.entry op first second
+    ruled_at table area lens r first second ≡ binary_at table area lens op first second
 
-abbrev pub UnaryRuledAt : Borrowed → Borrowed → ℕ → ℕ → Ruled → Type 0
+abbrev pub UnaryRuledAt : Slice → Slice → ℕ → ℕ → Ruled → Type 0
 UnaryRuledAt area lens op first r =
-    (t y : List ℕ) → out_of t (slot_at area.entry lens.entry first) y r ≡ unary_at area.entry lens.entry op first
+    (t y : List ℕ) → out_of t (slot_at area lens first) y r ≡ unary_at area lens op first
 
-abbrev pub MemberRuledAt : Borrowed → Borrowed → Borrowed → Header → ℕ → ℕ → Ruled → Type 0
+abbrev pub MemberRuledAt : Slice → Slice → Slice → Header → ℕ → ℕ → Ruled → Type 0
 MemberRuledAt table area lens H id first r =
     (y : List ℕ)
-    → out_of table.entry.now (slot_at area.entry lens.entry first) y r ≡ member_at table.entry area.entry lens.entry H id first
+    → out_of table (slot_at area lens first) y r ≡ member_at table area lens H id first
 
 -- node n is finished with the type and the reports of o
 abbrev pub FinishesAs : State → ℕ → Out → Borrowed → Borrowed → Borrowed → State → Type 0

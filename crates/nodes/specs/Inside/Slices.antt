@@ -6,4 +6,4 @@ use Rattle.ty.specs.Slice.{Slice}
 
 -- the type in slot m
 abbrev pub slot_at : Slice → Slice → ℕ → Ty
-slot_at area lens m = slot_of area.now lens.now m
+slot_at area lens m = slot_of area lens m

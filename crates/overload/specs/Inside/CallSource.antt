@@ -1,7 +1,7 @@
 -- What a call answers: where its type comes from, and how many diagnostics there are.
 use Rattle.std.specs.Prelude.{ℕ, ◌+◌, List, [], ◌∷◌, eqb, length, ◌≡◌}
 use Rattle.ty.specs.Choose.{choose}
-use Rattle.ty.specs.Slice.{Borrowed}
+use Rattle.ty.specs.Slice.{Slice, Borrowed}
 use Rattle.symbol.specs.Lookup.{symbols_of}
 use Rattle.symbol.specs.Inside.LookupAnswer.{overload_at}
 use Rattle.index.specs.declared.index.Place.{Place}
@@ -54,36 +54,36 @@ call_source t owner id xs =
 -- ---- of calls that are lent slices
 
 -- the arguments of a call, where they lie
-abbrev pub args_lent : Borrowed → Borrowed → Args → List Arg
-args_lent area lens x = args_in area.entry.now lens.entry.now x
+abbrev pub args_lent : Slice → Slice → Args → List Arg
+args_lent area lens x = args_in area lens x
 
 -- so many diagnostics having been reported, ds were reported too
 abbrev pub Reports : ℕ → List Diag → Borrowed → Type 0
 Reports n ds buf = buf.exit.now ≡ put_all buf.entry.now n ds
 
 -- the tally w became r: the overload at a place is taken, for the arguments xs
-abbrev pub TakesOne : Borrowed → List Arg → Place → Borrowed → Tally → Tally → Type 0
-TakesOne table xs p buf w r = (r ≡ tally_with table.entry.now xs w p) × Reports w.count (unknowns_at table.entry.now p xs) buf
+abbrev pub TakesOne : Slice → List Arg → Place → Borrowed → Tally → Tally → Type 0
+TakesOne table xs p buf w r = (r ≡ tally_with table xs w p) × Reports w.count (unknowns_at table p xs) buf
 
 -- those at some places are taken
-abbrev pub TakesSome : Borrowed → List Arg → List Place → Borrowed → Tally → Tally → Type 0
-TakesSome table xs ps buf w r = (r ≡ tally_more table.entry.now xs w ps) × Reports w.count (all_unknown_at table.entry.now ps xs) buf
+abbrev pub TakesSome : Slice → List Arg → List Place → Borrowed → Tally → Tally → Type 0
+TakesSome table xs ps buf w r = (r ≡ tally_more table xs w ps) × Reports w.count (all_unknown_at table ps xs) buf
 
 -- r is the tally of those at some places, n diagnostics having been reported before
-abbrev pub TalliesAll : Borrowed → List Arg → List Place → ℕ → Borrowed → Tally → Type 0
-TalliesAll table xs ps n buf r = (r ≡ tally_of table.entry.now xs n ps) × Reports n (all_unknown_at table.entry.now ps xs) buf
+abbrev pub TalliesAll : Slice → List Arg → List Place → ℕ → Borrowed → Tally → Type 0
+TalliesAll table xs ps n buf r = (r ≡ tally_of table xs n ps) × Reports n (all_unknown_at table ps xs) buf
 
 -- a call has this source and reports ds
 abbrev pub AnswersCall : Source → ℕ → List Diag → Borrowed → Called → Type 0
 AnswersCall source n ds buf r = (r ≡ called_with source n ds) × Reports n ds buf
 
 -- the tally w, whose first overload stands at p, is settled at a node
-abbrev pub SettlesCall : Borrowed → List Arg → Place → ℕ → Borrowed → Tally → Called → Type 0
+abbrev pub SettlesCall : Slice → List Arg → Place → ℕ → Borrowed → Tally → Called → Type 0
 SettlesCall table xs p node buf w r =
-    AnswersCall (settled_source table.entry.now p w) w.count (settled_diags table.entry.now p node xs w) buf r
+    AnswersCall (settled_source table p w) w.count (settled_diags table p node xs w) buf r
 
 -- the call at a node of the functions of an owner and a name, n diagnostics having been reported before
-abbrev pub CallsAt : Borrowed → ℕ → ℕ → ℕ → Borrowed → Borrowed → Args → Borrowed → ℕ → Called → Type 0
+abbrev pub CallsAt : Slice → ℕ → ℕ → ℕ → Slice → Slice → Args → Borrowed → ℕ → Called → Type 0
 CallsAt table owner id node area lens x buf n r =
-    AnswersCall (call_source table.entry.now owner id (args_lent area lens x)) n
-    (call_at table.entry.now owner id node area.entry.now lens.entry.now x).diags buf r
+    AnswersCall (call_source table owner id (args_lent area lens x)) n
+    (call_at table owner id node area lens x).diags buf r

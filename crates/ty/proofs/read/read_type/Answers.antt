@@ -21,34 +21,34 @@ loop-pending-init c = let a = c.args in
     (omega arith, omega arith, starts a.s.now a.limit c.least-end.result c.least-end.ensures)
 
 pub returns-in-Broken : goal.returns-in-Broken
-returns-in-Broken c = 
+returns-in-Broken c =
     sym
     (found c.args.s.now c.args.limit c.least-end.result c.loop-pending.at c.loop-pending.pending c.loop-pending.top c.loop-pending.error
     c.item_at-found.result Broken c.least-end.ensures c.loop-pending.invariant c.loop-pending-test.true c.item_at-found.ensures c.in-Broken.is)
 
 pub returns-in-Out : goal.returns-in-Out
-returns-in-Out c = 
+returns-in-Out c =
     c.no_end.ensures ∙ sym
     (found c.args.s.now c.args.limit c.least-end.result c.loop-pending.at c.loop-pending.pending c.loop-pending.top c.loop-pending.error
     c.item_at-found.result Out c.least-end.ensures c.loop-pending.invariant c.loop-pending-test.true c.item_at-found.ensures c.in-Out.is)
 
 pub overflow_add-pending : goal.overflow_add-pending
-overflow_add-pending c = 
+overflow_add-pending c =
     let w = found c.args.s.now c.args.limit c.least-end.result c.loop-pending.at c.loop-pending.pending c.loop-pending.top c.loop-pending.error
     c.item_at-found.result (Part c.in-Part.next c.in-Part.more c.in-Part.id c.in-Part.e) c.least-end.ensures c.loop-pending.invariant c.loop-pending-test.true c.item_at-found.ensures c.in-Part.is in
-     omega arith
+    omega arith
 
 pub loop-pending-smaller : goal.loop-pending-smaller
-loop-pending-smaller c = 
+loop-pending-smaller c =
     let w = found c.args.s.now c.args.limit c.least-end.result c.loop-pending.at c.loop-pending.pending c.loop-pending.top c.loop-pending.error
     c.item_at-found.result (Part c.in-Part.next c.in-Part.more c.in-Part.id c.in-Part.e) c.least-end.ensures c.loop-pending.invariant c.loop-pending-test.true c.item_at-found.ensures c.in-Part.is in
-     omega arith
+    omega arith
 
 pub loop-pending-preserved : goal.loop-pending-preserved
-loop-pending-preserved c = 
+loop-pending-preserved c =
     let w = found c.args.s.now c.args.limit c.least-end.result c.loop-pending.at c.loop-pending.pending c.loop-pending.top c.loop-pending.error
     c.item_at-found.result (Part c.in-Part.next c.in-Part.more c.in-Part.id c.in-Part.e) c.least-end.ensures c.loop-pending.invariant c.loop-pending-test.true c.item_at-found.ensures c.in-Part.is in
-     (omega arith, omega arith, rw c.highest-top.ensures w.3)
+    (omega arith, omega arith, rw c.highest-top.ensures w.3)
 
 pub returns : goal.returns
 returns c = let a = c.args in
