@@ -114,7 +114,7 @@ pub fn finish_binary(
     lens: &mut [usize],
     buf: &mut [u8],
 ) -> State
-    requires { IndexedTable table.now index.now × RuleAsked area.old lens.old node second s (binary_at table area lens op (node + 1) second) }
+    requires { IndexedTable table.now index.now × RuleAsked area.old lens.old node second s (binary_at table.now area.old lens.old op (node + 1) second) }
     ensures { FinishesAs s node (binary_at table.now area.old lens.old op (node + 1) second) area lens buf result }
 {
     let ruled = binary_rule(table, index, op, node + 1, second, area, lens);
@@ -137,7 +137,7 @@ pub fn finish_unary(
     lens: &mut [usize],
     buf: &mut [u8],
 ) -> State
-    requires { RuleAsked area.old lens.old node (node + 1) s (unary_at area lens op (node + 1)) }
+    requires { RuleAsked area.old lens.old node (node + 1) s (unary_at area.old lens.old op (node + 1)) }
     ensures { FinishesAs s node (unary_at area.old lens.old op (node + 1)) area lens buf result }
 {
     let first = node + 1;
@@ -172,7 +172,7 @@ pub fn finish_member(
     lens: &mut [usize],
     buf: &mut [u8],
 ) -> State
-    requires { IndexedTable table.now index.now × RuleAsked area.old lens.old node (node + 1) s (member_at table area lens header id (node + 1)) }
+    requires { IndexedTable table.now index.now × RuleAsked area.old lens.old node (node + 1) s (member_at table.now area.old lens.old header id (node + 1)) }
     ensures { FinishesAs s node (member_at table.now area.old lens.old header id (node + 1)) area lens buf result }
 {
     let first = node + 1;

@@ -1,0 +1,12 @@
+use borrow.Author.Rules.{rules}
+use lib.ListN.{length-set}
+use mathlib.Core.Path.{refl}
+use native.Mathlib.Omega.{arith}
+use Rattle.area.proofs.Diagnostics.{put_one-not, first-length, second_length, put_bytes}
+use Rattle.area.proofs.report.Goals as goal
+
+pub returns-then-buf-p : goal.returns-then-buf-p
+returns-then-buf-p c = (refl, put_one-not _ _ _ c.if-buf-p.true)
+
+pub returns : goal.returns
+returns c = let a = c.args in let h = c.if-buf-p.false in (refl, put_bytes a.buf.now a.count a.kind a.node c.put_two.ensures a.number c.put_two-2.ensures h)

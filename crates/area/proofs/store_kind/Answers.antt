@@ -1,0 +1,6 @@
+use borrow.Author.Rules.{rules}
+use Rattle.area.proofs.Stores.{stored_kind}
+use Rattle.area.proofs.store_kind.Goals as goal
+
+pub returns : goal.returns
+returns c = stored_kind _ _ _ _

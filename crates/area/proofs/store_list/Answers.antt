@@ -1,0 +1,8 @@
+use borrow.Author.Rules.{rules}
+use lib.ListN.{length-set}
+use native.Mathlib.Omega.{arith}
+use Rattle.area.proofs.Stores.{stored_two}
+use Rattle.area.proofs.store_list.Goals as goal
+
+pub returns : goal.returns
+returns c = stored_two _ _ _ _ _

@@ -1,0 +1,12 @@
+use borrow.Author.Rules.{rules}
+use Rattle.question.specs.Inside.Top.{endless_fault}
+use Rattle.ty.proofs.Choice.{chain_calls}
+use Rattle.question.proofs.endless_fault.Goals as goal
+
+pub returns-then-id_defined : goal.returns-then-id_defined
+unfolding endless_fault
+returns-then-id_defined c = search chain_calls depth 8
+
+pub returns-else-id_defined : goal.returns-else-id_defined
+unfolding endless_fault
+returns-else-id_defined c = search chain_calls depth 8

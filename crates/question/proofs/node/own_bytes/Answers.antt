@@ -1,0 +1,39 @@
+use borrow.Author.Rules.{rules}
+use Rattle.question.specs.NodeRead.{own_bytes}
+use Rattle.question.proofs.node.own_bytes.Goals as goal
+
+pub returns-in-Bad : goal.returns-in-Bad
+unfolding own_bytes
+returns-in-Bad c = rw c.in-Bad.is
+
+pub returns-in-Leaf : goal.returns-in-Leaf
+unfolding own_bytes
+returns-in-Leaf c = rw c.in-Leaf.is
+
+pub returns-in-Endless : goal.returns-in-Endless
+unfolding own_bytes
+returns-in-Endless c = rw c.in-Endless.is
+
+pub returns-in-Binary : goal.returns-in-Binary
+unfolding own_bytes
+returns-in-Binary c = rw c.in-Binary.is
+
+pub returns-in-Unary : goal.returns-in-Unary
+unfolding own_bytes
+returns-in-Unary c = rw c.in-Unary.is
+
+pub returns-in-Named : goal.returns-in-Named
+unfolding own_bytes
+returns-in-Named c = rw c.in-Named.is
+
+pub returns-in-Member : goal.returns-in-Member
+unfolding own_bytes
+returns-in-Member c = rw c.in-Member.is
+
+pub returns-in-Call : goal.returns-in-Call
+unfolding own_bytes
+returns-in-Call c = rw c.in-Call.is
+
+pub returns-in-Method : goal.returns-in-Method
+unfolding own_bytes
+returns-in-Method c = rw c.in-Method.is

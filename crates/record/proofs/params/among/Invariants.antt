@@ -1,0 +1,13 @@
+use Prim.Native.Nat.{ℕ, ◌-◌, ◌≤◌}
+use borrow.Author.Rules.{rules}
+use mathlib.Core.Path.{◌≡◌, refl, ap, ◌∙◌}
+use native.Mathlib.Numerals.{add-one}
+use native.Mathlib.Omega.{arith}
+use Rattle.record.specs.Inside.Front.{among}
+use Rattle.record.proofs.params.among.Given as goal
+
+abbrev pub invariant-loop-i : goal.invariant-loop-i
+invariant-loop-i l = (l.i ≤ l.n) × (l.found ≡ among l.i l.ids l.id)
+
+abbrev pub decreases-loop-i : goal.decreases-loop-i
+decreases-loop-i l = l.n - l.i

@@ -1,0 +1,24 @@
+use borrow.Author.Rules.{rules}
+use Rattle.record.specs.Inside.Front.{function_head}
+use Rattle.ty.proofs.Choice.{chain}
+use Rattle.record.proofs.params.read_function_head.Goals as goal
+
+pub returns-then-s-lt8 : goal.returns-then-s-lt8
+unfolding function_head
+returns-then-s-lt8 c = rw c.broken.ensures (search chain depth 14)
+
+pub returns-then-byte_at-gt3 : goal.returns-then-byte_at-gt3
+unfolding function_head
+returns-then-byte_at-gt3 c = rw (c.broken-then-byte_at-gt3.ensures, ← c.byte_at.ensures) (search chain depth 14)
+
+pub returns-then-byte_at-gt1 : goal.returns-then-byte_at-gt1
+unfolding function_head
+returns-then-byte_at-gt1 c = rw (c.broken-then-byte_at-gt1.ensures, ← c.byte_at.ensures, ← c.byte_at-2.ensures) (search chain depth 14)
+
+pub returns-then-count-gt16 : goal.returns-then-count-gt16
+unfolding function_head
+returns-then-count-gt16 c = rw (c.broken-then-count-gt16.ensures, ← c.byte_at.ensures, ← c.byte_at-2.ensures, ← c.byte_at-count.ensures) (search chain depth 14)
+
+pub returns : goal.returns
+unfolding function_head
+returns c = rw (c.function_with.ensures, c.read_params.ensures, ← c.byte_at.ensures, ← c.byte_at-2.ensures, ← c.byte_at-count.ensures) (search chain depth 14)

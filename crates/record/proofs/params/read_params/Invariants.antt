@@ -1,0 +1,16 @@
+use Prim.Native.Nat.{ℕ, ◌-◌, ◌≤◌}
+use borrow.Author.Rules.{rules}
+use lib.ListN.{length}
+use mathlib.Core.Path.{◌≡◌, sym, ap, ap₂, ◌∙◌}
+use native.Mathlib.Nat.{sub-zero}
+use native.Mathlib.Omega.{arith}
+use Rattle.record.proofs.ParamSteps.{param_onward, first-inside, run_step, run_last}
+use Rattle.record.specs.Inside.Front.{run_params, params_read}
+use Rattle.record.specs.declared.params.Reading.{Reading}
+use Rattle.record.proofs.params.read_params.Given as goal
+
+abbrev pub invariant-loop-n : goal.invariant-loop-n
+invariant-loop-n l = (l.n ≤ l.count) × (run_params (l.count - l.n) l.s l.c ≡ params_read l.s) × (l.c.len ≤ length l.s) × (l.c.count ≤ l.n)
+
+abbrev pub decreases-loop-n : goal.decreases-loop-n
+decreases-loop-n l = l.count - l.n

@@ -1,0 +1,6 @@
+use borrow.Author.Rules.{rules}
+use Rattle.written.proofs.Outputs.{refused_writes}
+use Rattle.written.proofs.refuse.Goals as goal
+
+pub returns : goal.returns
+returns c = refused_writes _ _ _ c.clear.ensures
