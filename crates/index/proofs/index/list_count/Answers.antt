@@ -1,0 +1,13 @@
+use mathlib.Core.Path.{sym}
+use native.Mathlib.Omega.{arith}
+use Rattle.index.proofs.Buckets.{lists_many, lists_some, lists_few}
+use Rattle.index.proofs.index.list_count.Goals as goal
+
+pub returns-then-n-gt-MIDDLE_TABLE : goal.returns-then-n-gt-MIDDLE_TABLE
+returns-then-n-gt-MIDDLE_TABLE c = let e = lists_many _ c.if-n-gt-MIDDLE_TABLE.true in (sym e, omega arith)
+
+pub returns-then-n-gt-SHORT_TABLE : goal.returns-then-n-gt-SHORT_TABLE
+returns-then-n-gt-SHORT_TABLE c = let e = lists_some _ c.if-n-gt-MIDDLE_TABLE.false c.if-n-gt-SHORT_TABLE.true in (sym e, omega arith)
+
+pub returns : goal.returns
+returns c = let e = lists_few _ c.if-n-gt-SHORT_TABLE.false in (sym e, omega arith)

@@ -1,0 +1,14 @@
+use Prim.Native.Nat.{ℕ, ◌-◌, ◌*◌, ◌%◌, ◌≤◌, ◌<◌}
+use borrow.Author.Rules.{rules}
+use mathlib.Core.Path.{◌≡◌, refl, ap, ◌∙◌}
+use native.Mathlib.Nat.{mul-le-mul}
+use native.Mathlib.Numerals.{add-one}
+use native.Mathlib.Omega.{arith}
+use Rattle.index.specs.Inside.Bucket.{weight_of, weighed_of, hash_of}
+use Rattle.index.proofs.tree.hash.Given as goal
+
+abbrev pub invariant-loop-i : goal.invariant-loop-i
+invariant-loop-i l = (l.i ≤ 24) × (l.sum ≡ weighed_of l.i l.name) × (l.weight ≡ weight_of l.i) × (l.weight < 32749) × (l.sum ≤ l.i * 8350740)
+
+abbrev pub decreases-loop-i : goal.decreases-loop-i
+decreases-loop-i l = 24 - l.i

@@ -1,0 +1,8 @@
+use borrow.Author.Rules.{rules}
+use mathlib.Core.Path.{refl}
+use native.Mathlib.Omega.{arith}
+use Rattle.symbol.proofs.FunctionsRead.{function-long, function-inside, function_builtin}
+use Rattle.symbol.proofs.functions.is_builtin_function.Goals as goal
+
+pub returns : goal.returns
+returns c = function_builtin c.args.t.now c.args.p c.requires _ refl c.byte_at.result c.byte_at.ensures
