@@ -10,7 +10,6 @@ use Rattle.operators.proofs.Each.{each}
 use Rattle.operators.specs.Inside.Looked.{method_ty}
 use Rattle.operators.specs.Inside.MethodPlace.{result_place, first_result_place, class_place, climb_place, operator_place}
 use Rattle.operators.specs.OperatorMethod.{method_id, first_result, at_class, climb, operator_return}
-use Rattle.operators.specs.declared.method.Method.TheVariants as method
 use Rattle.operators.specs.declared.method.Method.{Method}
 use Rattle.record.specs.TableRefused.{table_fault}
 use Rattle.symbol.proofs.FunctionLists.{first_listed}

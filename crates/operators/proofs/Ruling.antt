@@ -17,7 +17,7 @@ use Rattle.operators.specs.Inside.Ruled.{report_of, reports_of, out_of, one_out,
 use Rattle.operators.specs.Inside.RuledParts.{some_report, no_report, report_unless, one_report, clean_one, plain_one, fails_one, checked_one, ruled_before, ruled_alone}
 use Rattle.operators.specs.Inside.UnaryRule.{unary_one, unary_ruled}
 use Rattle.operators.specs.Operand.{is_logical}
-use Rattle.operators.specs.Out.{Out, clean, plain, unless, report, reports_before, found}
+use Rattle.operators.specs.Out.{Out, clean, plain, unless, reports_before, found}
 use Rattle.operators.specs.Unary.{unary_of, unary_out}
 use Rattle.operators.specs.declared.method.Method.TheVariants as method
 use Rattle.operators.specs.declared.method.Method.{Method}

@@ -1,7 +1,7 @@
 -- A function by its fields is the one that the lookups give.
 use Prim.Native.Nat.{ℕ, zero, suc, ◌+◌, ◌%◌}
 use lib.Dec.{eqb, leb}
-use lib.ListN.{length, get_or, take, drop}
+use lib.ListN.{get_or, take, drop}
 use lib.Seq.{get_or-drop, drop-drop}
 use mathlib.Core.Bool.{false, true≢false}
 use mathlib.Core.List.{List, [], ◌∷◌}

@@ -4,7 +4,7 @@ use borrow.Author.Tests.{eq-eqb}
 use lib.Dec.{eqb}
 use lib.ListN.{length, get_or, drop, set, length-set}
 use lib.Seq.{get_or-drop, get_or-set_same, get_or-set_other}
-use mathlib.Core.Bool.{true, false, true≢false, ◌||◌}
+use mathlib.Core.Bool.{false, true≢false, ◌||◌}
 use mathlib.Core.List.{List, [], ◌∷◌}
 use mathlib.Core.Path.{◌≡◌, refl, sym, ap, ◌∙◌, subst}
 use native.Mathlib.Omega.{arith}

@@ -1,5 +1,5 @@
 -- Number 6: a superclass without an earlier record has a later one exactly where the classes ahead say so.
-use Prim.Native.Nat.{ℕ, ◌-◌}
+use Prim.Native.Nat.{ℕ}
 use lib.Dec.{ltb}
 use lib.ListN.{get_or, drop}
 use mathlib.Core.Bool.{Bool, true, false, ◌&&◌}

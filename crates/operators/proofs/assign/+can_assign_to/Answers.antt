@@ -1,13 +1,11 @@
 -- The step that was taken is the definition's for both types; each call of it is at shorter ones.
-use Prim.Native.Nat.{◌<◌, ◌+◌}
 use borrow.Author.Rules.{rules}
-use lib.ListN.{length}
-use mathlib.Core.Path.{◌≡◌, sym, ◌∙◌}
+use mathlib.Core.Path.{sym, ◌∙◌}
 use native.Mathlib.Omega.{arith}
 use Rattle.operators.proofs.Assigns.{assigns_by, both_shorter}
 use Rattle.operators.proofs.NullablesOpened.{opened_right, left_opened, left_falls, right_falls}
 use Rattle.operators.proofs.assign.+can_assign_to.Goals as goal
-use Rattle.operators.specs.declared.assign.Next.TheVariants.{Yes, No, Left, Right, Both, Climb}
+use Rattle.operators.specs.declared.assign.Next.TheVariants.{Yes, No, Both, Climb}
 
 pub can_assign_to-requires : goal.can_assign_to-requires
 can_assign_to-requires t c =

@@ -1,10 +1,6 @@
-use Prim.Native.Nat.{◌+◌, ◌-◌}
-use borrow.Author.Rules.{rules}
-use lib.ListN.{length, drop}
-use mathlib.Core.Path.{◌≡◌, sym, ◌∙◌}
+use mathlib.Core.Path.{sym, ◌∙◌}
 use native.Mathlib.Omega.{arith}
-use Rattle.operators.proofs.NullablesOpened.{one_more, no_more, still_inside}
-use Rattle.operators.specs.Inside.Nullables.{nullables}
+use Rattle.operators.proofs.NullablesOpened.{one_more, no_more}
 use Rattle.operators.proofs.assign.nullables.Goals as goal
 
 pub loop-n-preserved : goal.loop-n-preserved

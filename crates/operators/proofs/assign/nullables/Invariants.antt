@@ -1,10 +1,7 @@
 -- The loop's invariant: n of them are behind, and the others are left.
 use Prim.Native.Nat.{◌+◌, ◌-◌}
-use borrow.Author.Rules.{rules}
 use lib.ListN.{length, drop}
-use mathlib.Core.Path.{◌≡◌, sym, ◌∙◌}
-use native.Mathlib.Omega.{arith}
-use Rattle.operators.proofs.NullablesOpened.{one_more, no_more, still_inside}
+use mathlib.Core.Path.{◌≡◌}
 use Rattle.operators.specs.Inside.Nullables.{nullables}
 use Rattle.operators.proofs.assign.nullables.Given as goal
 

@@ -1,4 +1,3 @@
-use borrow.Author.Rules.{rules}
 use Rattle.operators.specs.Assign.{assign_step}
 use Rattle.ty.proofs.Choice.{chain}
 use Rattle.operators.proofs.assign.step.Goals as goal

@@ -1,4 +1,3 @@
-use borrow.Author.Rules.{rules}
 use Rattle.operators.specs.Inside.BinaryRule.{arithmetic_ruled}
 use Rattle.ty.proofs.Choice.{chain}
 use Rattle.operators.proofs.binary.arithmetic.Goals as goal

@@ -1,4 +1,3 @@
-use borrow.Author.Rules.{rules}
 use Rattle.operators.specs.Inside.BinaryRule.{bitwise_ruled}
 use Rattle.operators.proofs.binary.bitwise.Goals as goal
 

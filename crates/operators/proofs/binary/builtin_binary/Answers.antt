@@ -1,4 +1,3 @@
-use borrow.Author.Rules.{rules}
 use Rattle.operators.specs.Inside.BinaryRule.{builtin_ruled}
 use Rattle.ty.proofs.Choice.{chain}
 use Rattle.operators.proofs.binary.builtin_binary.Goals as goal

@@ -1,4 +1,3 @@
-use borrow.Author.Rules.{rules}
 use Rattle.operators.specs.Inside.BinaryRule.{equality_ruled}
 use Rattle.operators.proofs.binary.equality.Goals as goal
 

@@ -1,4 +1,3 @@
-use borrow.Author.Rules.{rules}
 use Rattle.operators.specs.Inside.BinaryRule.{logical_ruled}
 use Rattle.operators.proofs.binary.logical.Goals as goal
 

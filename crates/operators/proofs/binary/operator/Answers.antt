@@ -1,4 +1,3 @@
-use borrow.Author.Rules.{rules}
 use Rattle.operators.specs.Inside.BinaryRule.{operator_ruled}
 use Rattle.ty.proofs.Choice.{chain}
 use Rattle.operators.proofs.binary.operator.Goals as goal

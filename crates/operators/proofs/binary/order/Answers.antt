@@ -1,4 +1,3 @@
-use borrow.Author.Rules.{rules}
 use Rattle.operators.specs.Inside.BinaryRule.{order_ruled}
 use Rattle.operators.proofs.binary.order.Goals as goal
 

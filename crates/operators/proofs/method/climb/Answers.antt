@@ -1,8 +1,6 @@
-use borrow.Author.Rules.{rules}
 use mathlib.Core.Path.{sym, ◌∙◌}
-use native.Mathlib.Omega.{arith}
-use Rattle.symbol.proofs.Ranks.{height, super_below}
-use Rattle.operators.proofs.Climbs.{Going, going_first, going_end, no_set, has_method, going_up}
+use Rattle.symbol.proofs.Ranks.{super_below}
+use Rattle.operators.proofs.Climbs.{going_first, going_end, no_set, has_method, going_up}
 use Rattle.operators.proofs.method.climb.Goals as goal
 
 pub loop-at-init : goal.loop-at-init

@@ -1,8 +1,5 @@
-use borrow.Author.Rules.{rules}
-use mathlib.Core.Path.{sym, ◌∙◌}
-use native.Mathlib.Omega.{arith}
-use Rattle.symbol.proofs.Ranks.{height, super_below}
-use Rattle.operators.proofs.Climbs.{Going, going_first, going_end, no_set, has_method, going_up}
+use Rattle.symbol.proofs.Ranks.{height}
+use Rattle.operators.proofs.Climbs.{Going}
 use Rattle.operators.proofs.method.climb.Given as goal
 
 abbrev pub invariant-loop-at : goal.invariant-loop-at

@@ -1,4 +1,3 @@
-use borrow.Author.Rules.{rules}
 use Rattle.operators.proofs.MethodLookups.{first-here}
 use Rattle.operators.specs.Inside.MethodPlace.{first_result_place}
 use Rattle.operators.proofs.method.first_result.Goals as goal

@@ -1,7 +1,5 @@
-use borrow.Author.Rules.{rules}
-use borrow.Author.Tests.{leb-true}
 use Rattle.operators.specs.Inside.MethodPlace.{operator_place}
-use Rattle.ty.proofs.Choice.{chain, and_left}
+use Rattle.ty.proofs.Choice.{chain}
 use Rattle.operators.proofs.method.operator_overload_return.Goals as goal
 
 pub returns-then-op-kind_of : goal.returns-then-op-kind_of

@@ -1,4 +1,3 @@
-use borrow.Author.Rules.{rules}
 use Rattle.operators.specs.Inside.RuledParts.{ruled_alone}
 use Rattle.operators.proofs.ruled.alone.Goals as goal
 

@@ -1,4 +1,3 @@
-use borrow.Author.Rules.{rules}
 use Rattle.operators.specs.Inside.RuledParts.{one_report, checked_one}
 use Rattle.ty.specs.Choose.{choose}
 use Rattle.operators.proofs.ruled.checked.Goals as goal

@@ -1,4 +1,3 @@
-use borrow.Author.Rules.{rules}
 use Rattle.operators.specs.Inside.RuledParts.{plain_one}
 use Rattle.operators.proofs.ruled.plain.Goals as goal
 

@@ -1,4 +1,3 @@
-use borrow.Author.Rules.{rules}
 use Rattle.operators.specs.Inside.RuledParts.{some_report, report_unless}
 use Rattle.ty.specs.Choose.{choose}
 use Rattle.operators.proofs.ruled.unless.Goals as goal

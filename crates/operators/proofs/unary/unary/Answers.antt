@@ -1,4 +1,3 @@
-use borrow.Author.Rules.{rules}
 use Rattle.operators.specs.Inside.UnaryRule.{unary_one}
 use Rattle.ty.proofs.Choice.{chain}
 use Rattle.operators.proofs.unary.unary.Goals as goal

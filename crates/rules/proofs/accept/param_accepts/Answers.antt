@@ -1,4 +1,3 @@
-use borrow.Author.Rules.{rules}
 use Rattle.rules.specs.Accept.{param_accepts}
 use Rattle.rules.proofs.accept.param_accepts.Goals as goal
 

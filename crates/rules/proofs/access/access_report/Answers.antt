@@ -1,4 +1,3 @@
-use borrow.Author.Rules.{rules}
 use Rattle.operators.specs.Inside.RuledParts.{some_report}
 use Rattle.rules.specs.Inside.AccessRule.{access_ruled}
 use Rattle.ty.proofs.Choice.{chain}

@@ -1,4 +1,3 @@
-use borrow.Author.Rules.{rules}
 use Rattle.rules.specs.Access.{blocked}
 use Rattle.ty.proofs.Choice.{chain}
 use Rattle.rules.proofs.access.check_access.Goals as goal

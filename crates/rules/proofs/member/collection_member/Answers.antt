@@ -1,4 +1,3 @@
-use borrow.Author.Rules.{rules}
 use Rattle.rules.specs.Inside.MemberRule.{collection_ruled}
 use Rattle.ty.proofs.Choice.{chain}
 use Rattle.rules.proofs.member.collection_member.Goals as goal

@@ -1,4 +1,3 @@
-use borrow.Author.Rules.{rules}
 use Rattle.operators.proofs.MethodLookups.{first-here}
 use Rattle.rules.specs.Inside.Variable.{function_place}
 use Rattle.rules.proofs.member.lookup_function.Goals as goal

@@ -1,4 +1,3 @@
-use borrow.Author.Rules.{rules}
 use Rattle.rules.specs.Inside.Variable.{variable_place}
 use Rattle.rules.proofs.member.lookup_var_ty.Goals as goal
 

@@ -1,4 +1,3 @@
-use borrow.Author.Rules.{rules}
 use Rattle.rules.specs.Inside.MemberRule.{map_ruled}
 use Rattle.ty.proofs.Choice.{chain}
 use Rattle.rules.proofs.member.map_member.Goals as goal

@@ -1,4 +1,3 @@
-use borrow.Author.Rules.{rules}
 use Rattle.rules.specs.Inside.MemberRule.{named_ruled}
 use Rattle.ty.proofs.Choice.{chain}
 use Rattle.rules.proofs.member.named_member.Goals as goal

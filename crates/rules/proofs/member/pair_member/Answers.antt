@@ -1,4 +1,3 @@
-use borrow.Author.Rules.{rules}
 use Rattle.rules.specs.Inside.MemberRule.{pair_ruled}
 use Rattle.ty.proofs.Choice.{chain}
 use Rattle.rules.proofs.member.pair_member.Goals as goal

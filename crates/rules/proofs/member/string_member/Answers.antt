@@ -1,4 +1,3 @@
-use borrow.Author.Rules.{rules}
 use Rattle.rules.specs.Inside.MemberRule.{string_ruled}
 use Rattle.ty.proofs.Choice.{chain}
 use Rattle.rules.proofs.member.string_member.Goals as goal

@@ -1,4 +1,3 @@
-use borrow.Author.Rules.{rules}
 use Rattle.rules.specs.Inside.AccessRule.{visibility_ruled}
 use Rattle.rules.proofs.member.visibility_report.Goals as goal
 

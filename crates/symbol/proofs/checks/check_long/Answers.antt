@@ -1,4 +1,3 @@
-use borrow.Author.Rules.{rules}
 use Rattle.index.proofs.Rooms.{late_long}
 use Rattle.symbol.proofs.checks.check_long.Goals as goal
 

@@ -1,11 +1,7 @@
-use Prim.Native.Nat.{◌-◌}
-use borrow.Author.Rules.{rules}
-use lib.ListN.{length}
-use mathlib.Core.Path.{◌≡◌, refl, ◌∙◌}
-use native.Mathlib.Omega.{arith}
-use Rattle.symbol.proofs.IndexMakes.{Making, making_start, making_stopped, making_next, making_done}
-use Rattle.symbol.proofs.LateMakes.{Noting, noting_start, noting_own, noting_key, noting_next, noting_done}
-use Rattle.symbol.proofs.Passes.{Going, going_start, going_asked, own_is, own-refused, own-stopped, going_prepared, going_key, both, key_refused, key_stopped, going_placed, going_join, going_next, going_done, going_room, going_accepted}
+use mathlib.Core.Path.{refl, ◌∙◌}
+use Rattle.symbol.proofs.IndexMakes.{making_start, making_stopped, making_next, making_done}
+use Rattle.symbol.proofs.LateMakes.{noting_start, noting_own, noting_key, noting_next, noting_done}
+use Rattle.symbol.proofs.Passes.{going_start, own_is, own-refused, own-stopped, going_prepared, going_key, both, key_refused, key_stopped, going_placed, going_join, going_next, going_done, going_accepted}
 use Rattle.symbol.proofs.checks.check_records.Goals as goal
 
 pub loop-c-init : goal.loop-c-init

@@ -1,4 +1,3 @@
-use borrow.Author.Rules.{rules}
 use native.Mathlib.Omega.{arith}
 use Rattle.index.proofs.Rooms.{late_short}
 use Rattle.symbol.proofs.checks.check_short.Goals as goal

@@ -1,6 +1,4 @@
-use borrow.Author.Rules.{rules}
 use mathlib.Core.Path.{subst}
-use native.Mathlib.Omega.{arith}
 use Rattle.index.proofs.TreeWalks.{search_spot}
 use Rattle.index.specs.Inside.Spot.{SpotIs}
 use Rattle.index.specs.declared.tree.Key.TheVariants.{Ids}

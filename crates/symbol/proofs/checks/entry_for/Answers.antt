@@ -1,8 +1,6 @@
 use Prim.Native.Nat.{ℕ, ◌+◌, ◌%◌}
-use borrow.Author.Rules.{rules}
 use lib.ListN.{length}
 use mathlib.Core.Path.{sym, ap, ◌∙◌, subst}
-use native.Mathlib.Omega.{arith}
 use Rattle.index.proofs.Searches.{root_free}
 use Rattle.index.proofs.TreeWalks.{search_spot}
 use Rattle.index.specs.Inside.Index.{list_count}

@@ -1,4 +1,3 @@
-use borrow.Author.Rules.{rules}
 use mathlib.Core.Path.{refl, sym, ◌∙◌}
 use Rattle.symbol.proofs.SuperLate.{late_is}
 use Rattle.record.proofs.RecordSizes.{stands_own}

@@ -1,7 +1,5 @@
-use borrow.Author.Rules.{rules}
 use mathlib.Core.Path.{refl}
-use native.Mathlib.Omega.{arith}
-use Rattle.symbol.proofs.FunctionsRead.{function-long, function-inside, function_builtin}
+use Rattle.symbol.proofs.FunctionsRead.{function_builtin}
 use Rattle.symbol.proofs.functions.is_builtin_function.Goals as goal
 
 pub returns : goal.returns

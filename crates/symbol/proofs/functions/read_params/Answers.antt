@@ -1,11 +1,9 @@
-use Prim.Native.Nat.{◌+◌, ◌-◌}
-use borrow.Author.Rules.{rules}
-use mathlib.Core.Path.{refl, ap}
+use Prim.Native.Nat.{◌+◌}
+use mathlib.Core.Path.{refl}
 use native.Mathlib.Omega.{arith}
-use Rattle.symbol.proofs.Arrays.{RowReading, reading_starts, reading_done, row_room, reading_next}
+use Rattle.symbol.proofs.Arrays.{reading_starts, reading_done, row_room, reading_next}
 use Rattle.record.specs.Inside.Keyed.{type_length}
 use Rattle.symbol.specs.Inside.ParamsRow.{part}
-use Rattle.symbol.specs.declared.functions.Params.{Params}
 use Rattle.symbol.proofs.functions.read_params.Goals as goal
 
 pub loop-p-init : goal.loop-p-init

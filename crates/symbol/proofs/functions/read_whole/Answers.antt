@@ -1,4 +1,3 @@
-use borrow.Author.Rules.{rules}
 use native.Mathlib.Omega.{arith}
 use Rattle.symbol.proofs.FunctionsRead.{function-long, function-inside, function_room, function-count, function_row, function-fields}
 use Rattle.symbol.proofs.functions.read_whole.Goals as goal

@@ -1,4 +1,3 @@
-use borrow.Author.Rules.{rules}
 use mathlib.Core.Path.{◌∙◌}
 use Rattle.record.specs.Inside.Keyed.{type_length}
 use Rattle.symbol.proofs.functions.type_length.Goals as goal

@@ -1,10 +1,9 @@
-use borrow.Author.Rules.{rules}
 use Prim.Native.Nat.{ℕ, ◌+◌, ◌-◌}
 use lib.ListN.{length-drop, drop}
 use mathlib.Core.Path.{◌≡◌, ap, refl, ◌∙◌}
 use native.Mathlib.Omega.{arith}
 use Rattle.index.proofs.Firsts.{found_first}
-use Rattle.index.proofs.ListSearch.{place-fits, place_inside}
+use Rattle.index.proofs.ListSearch.{place-fits}
 use Rattle.record.specs.Inside.Front.{head_of}
 use Rattle.symbol.proofs.FieldPlaces.{field_searched}
 use Rattle.record.proofs.Agree.{same_size}

@@ -1,4 +1,3 @@
-use borrow.Author.Rules.{rules}
 use mathlib.Core.Path.{◌∙◌}
 use Rattle.symbol.proofs.FunctionCursors.{first-here}
 use Rattle.symbol.proofs.lookups.first_function.Goals as goal

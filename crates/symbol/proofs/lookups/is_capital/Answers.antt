@@ -1,5 +1,4 @@
 use Prim.Native.Nat.{◌-◌, ◌<◌}
-use borrow.Author.Rules.{rules}
 use borrow.Author.Tests.{le-ltb}
 use mathlib.Core.List.{[]}
 use mathlib.Core.Path.{◌∙◌}

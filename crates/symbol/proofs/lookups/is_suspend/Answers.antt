@@ -1,5 +1,3 @@
-use borrow.Author.Rules.{rules}
-use native.Mathlib.Omega.{arith}
 use Rattle.index.proofs.Firsts.{found_first}
 use Rattle.symbol.proofs.LaidLookups.{suspend_told}
 use Rattle.record.specs.Table.{records_of}

@@ -1,4 +1,3 @@
-use borrow.Author.Rules.{rules}
 use native.Mathlib.Omega.{arith}
 use Rattle.index.proofs.Firsts.{found_first}
 use Rattle.index.proofs.ListSearch.{place-two}

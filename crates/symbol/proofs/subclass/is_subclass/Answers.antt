@@ -1,7 +1,6 @@
-use borrow.Author.Rules.{rules}
 use mathlib.Core.Path.{sym}
-use Rattle.symbol.proofs.Ranks.{height, super_below}
-use Rattle.symbol.proofs.Subclasses.{Climbing, climbing_first, climbing_met, climbing_up, climbing_end}
+use Rattle.symbol.proofs.Ranks.{super_below}
+use Rattle.symbol.proofs.Subclasses.{climbing_first, climbing_met, climbing_up, climbing_end}
 use Rattle.symbol.proofs.subclass.is_subclass.Goals as goal
 
 pub loop-at-init : goal.loop-at-init

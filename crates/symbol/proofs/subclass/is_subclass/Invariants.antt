@@ -1,7 +1,5 @@
-use borrow.Author.Rules.{rules}
-use mathlib.Core.Path.{sym}
-use Rattle.symbol.proofs.Ranks.{height, super_below}
-use Rattle.symbol.proofs.Subclasses.{Climbing, climbing_first, climbing_met, climbing_up, climbing_end}
+use Rattle.symbol.proofs.Ranks.{height}
+use Rattle.symbol.proofs.Subclasses.{Climbing}
 use Rattle.symbol.proofs.subclass.is_subclass.Given as goal
 
 abbrev pub invariant-loop-at : goal.invariant-loop-at

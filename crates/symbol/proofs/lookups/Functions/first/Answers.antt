@@ -1,4 +1,3 @@
-use borrow.Author.Rules.{rules}
 use Rattle.symbol.proofs.FunctionCursors.{first_asked, first_is}
 use Rattle.symbol.proofs.lookups.Functions.first.Goals as goal
 

@@ -1,4 +1,3 @@
-use borrow.Author.Rules.{rules}
 use Rattle.symbol.specs.Inside.FunctionCursor.{found_here}
 use Rattle.symbol.proofs.lookups.Functions.found.Goals as goal
 

@@ -1,4 +1,3 @@
-use borrow.Author.Rules.{rules}
 use Rattle.symbol.proofs.FunctionCursors.{next_asked, next_is}
 use Rattle.symbol.proofs.lookups.Functions.next.Goals as goal
 

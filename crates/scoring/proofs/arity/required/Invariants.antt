@@ -1,0 +1,13 @@
+use Prim.Native.Nat.{ℕ, ◌+◌, ◌-◌, ◌≤◌}
+use mathlib.Core.List.{List}
+use mathlib.Core.Path.{◌≡◌}
+use Rattle.scoring.proofs.ParamsAndArgsLeft.{params_left}
+use Rattle.scoring.specs.Arity.{required}
+use Rattle.scoring.specs.Inside.Params.{params_in}
+use Rattle.scoring.proofs.arity.required.Given as goal
+
+abbrev pub invariant-loop-i : goal.invariant-loop-i
+invariant-loop-i l = (l.i ≤ l.params.count) × (l.n ≤ l.i) × ((t : List ℕ) → l.n + required (params_left t l.params l.i l.params.count) ≡ required (params_in t l.params))
+
+abbrev pub decreases-loop-i : goal.decreases-loop-i
+decreases-loop-i l = l.params.count - l.i
