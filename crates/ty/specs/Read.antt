@@ -1,5 +1,5 @@
 -- Reading one type from the front of some bytes. Document 01, "Types as bytes" and, of what has no end, "Refused, and by whose doing".
-use Rattle.std.specs.Prelude.{ℕ, zero, suc, ◌+◌, ◌-◌, min, max, Bool, false, not, ◌&&◌, ◌||◌, List, [], ◌∷◌, ◌++◌, length, get_or, ltb, leb, eqb}
+use Rattle.std.specs.Prelude.{ℕ, zero, suc, ◌+◌, ◌-◌, min, max, Bool, false, not, ◌&&◌, ◌||◌, List, length, get_or, ltb, leb, eqb}
 use Rattle.ty.specs.Choose.{choose}
 use Rattle.ty.specs.Kind.{nullable_kind, array_kind, list_kind, map_kind, named_kind, function_kind, type_var_kind, module_kind, error_kind}
 use Rattle.ty.specs.Bytes.{id_at}

@@ -1,9 +1,7 @@
-use Prim.Native.Nat.{◌≤◌, ◌-◌}
 use borrow.Author.Rules.{rules}
-use lib.ListN.{length}
-use mathlib.Core.Path.{◌≡◌, refl}
+use mathlib.Core.Path.{refl}
 use native.Mathlib.Omega.{arith}
-use Rattle.written.proofs.CopyLoops.{filled, fill_zero, fill_next, fill_past, fill_done}
+use Rattle.written.proofs.CopyLoops.{fill_zero, fill_next, fill_past, fill_done}
 use Rattle.area.proofs.move_down.Goals as goal
 
 pub loop-i-init : goal.loop-i-init

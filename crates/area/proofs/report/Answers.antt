@@ -1,8 +1,5 @@
-use borrow.Author.Rules.{rules}
-use lib.ListN.{length-set}
 use mathlib.Core.Path.{refl}
-use native.Mathlib.Omega.{arith}
-use Rattle.area.proofs.Diagnostics.{put_one-not, first-length, second_length, put_bytes}
+use Rattle.area.proofs.Diagnostics.{put_one-not, put_bytes}
 use Rattle.area.proofs.report.Goals as goal
 
 pub returns-then-buf-p : goal.returns-then-buf-p

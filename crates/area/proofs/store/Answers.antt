@@ -1,4 +1,3 @@
-use borrow.Author.Rules.{rules}
 use Rattle.area.proofs.Sources.{asks_first, asks_second, asks_inner, asks_pointer, asks_part, asks_function, from_kind, from_list, from_name, from_first, from_second, from_inner, from-pointer, from-part, from-function}
 use Rattle.area.proofs.store.Goals as goal
 

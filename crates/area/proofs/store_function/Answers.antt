@@ -1,8 +1,5 @@
-use borrow.Author.Rules.{rules}
-use lib.ListN.{length-set}
-use mathlib.Core.Path.{refl, ◌∙◌}
-use native.Mathlib.Omega.{arith}
-use Rattle.area.proofs.Stores.{stored_behind, slot_room}
+use mathlib.Core.Path.{refl}
+use Rattle.area.proofs.Stores.{stored_behind}
 use Rattle.area.proofs.store_function.Goals as goal
 
 pub returns : goal.returns

@@ -1,4 +1,3 @@
-use borrow.Author.Rules.{rules}
 use Rattle.area.proofs.Stores.{stored_inner, inner_fits}
 use Rattle.area.proofs.store_inner.Goals as goal
 

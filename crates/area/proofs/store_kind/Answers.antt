@@ -1,4 +1,3 @@
-use borrow.Author.Rules.{rules}
 use Rattle.area.proofs.Stores.{stored_kind}
 use Rattle.area.proofs.store_kind.Goals as goal
 

@@ -1,4 +1,3 @@
-use borrow.Author.Rules.{rules}
 use Rattle.area.proofs.Stores.{stored_last}
 use Rattle.area.proofs.store_last.Goals as goal
 

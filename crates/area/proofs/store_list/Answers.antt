@@ -1,6 +1,3 @@
-use borrow.Author.Rules.{rules}
-use lib.ListN.{length-set}
-use native.Mathlib.Omega.{arith}
 use Rattle.area.proofs.Stores.{stored_two}
 use Rattle.area.proofs.store_list.Goals as goal
 

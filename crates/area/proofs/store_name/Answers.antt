@@ -1,7 +1,4 @@
-use borrow.Author.Rules.{rules}
-use lib.ListN.{length-set}
-use native.Mathlib.Omega.{arith}
-use Rattle.area.proofs.Stores.{name_length, stored_name}
+use Rattle.area.proofs.Stores.{stored_name}
 use Rattle.ty.specs.Kind.{named_kind}
 use Rattle.area.proofs.store_name.Goals as goal
 

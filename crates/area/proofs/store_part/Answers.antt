@@ -1,6 +1,4 @@
-use borrow.Author.Rules.{rules}
-use native.Mathlib.Omega.{arith}
-use Rattle.area.proofs.Stores.{stored_part, slot_room}
+use Rattle.area.proofs.Stores.{stored_part}
 use Rattle.area.proofs.store_part.Goals as goal
 
 pub returns : goal.returns

@@ -1,4 +1,3 @@
-use borrow.Author.Rules.{rules}
 use mathlib.Core.Path.{sym, ◌∙◌}
 use Rattle.below.proofs.Belows.{below_subclass}
 use Rattle.below.proofs.is_below.Goals as goal

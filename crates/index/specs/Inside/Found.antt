@@ -1,6 +1,5 @@
 -- What a search for the records of a kind with a key finds.
 use Rattle.std.specs.Prelude.{ℕ, zero, suc, ◌+◌, ◌≤◌, ◌<◌, length, drop, false, List, [], ◌∷◌, ◌≡◌}
-use Rattle.std.proofs.Math.Option.{some}
 use Rattle.index.specs.declared.index.Found.TheVariants as found
 use Rattle.index.specs.declared.index.Found.{Found}
 use Rattle.index.specs.declared.index.Place.{Place}

@@ -1,4 +1,3 @@
-use borrow.Author.Rules.{rules}
 use Rattle.question.specs.QuestionRefused.{question_fault}
 use Rattle.ty.proofs.Choice.{chain}
 use Rattle.question.proofs.check_question.Goals as goal

@@ -1,4 +1,3 @@
-use borrow.Author.Rules.{rules}
 use Rattle.question.specs.QuestionRefused.{header_fault}
 use Rattle.ty.proofs.Choice.{chain}
 use Rattle.question.proofs.header_fault.Goals as goal

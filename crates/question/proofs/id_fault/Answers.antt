@@ -1,4 +1,3 @@
-use borrow.Author.Rules.{rules}
 use Rattle.question.specs.Inside.Top.{id_fault}
 use Rattle.ty.proofs.Choice.{chain_calls}
 use Rattle.question.proofs.id_fault.Goals as goal

@@ -1,4 +1,3 @@
-use borrow.Author.Rules.{rules}
 use Rattle.question.specs.QuestionRefused.{more_fault}
 use Rattle.question.proofs.more_fault.Goals as goal
 

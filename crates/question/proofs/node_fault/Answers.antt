@@ -1,4 +1,3 @@
-use borrow.Author.Rules.{rules}
 use Rattle.question.specs.Inside.Top.{read_fault}
 use Rattle.question.proofs.node_fault.Goals as goal
 

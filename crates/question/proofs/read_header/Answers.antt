@@ -1,4 +1,3 @@
-use borrow.Author.Rules.{rules}
 use Rattle.question.specs.Header.{header_of}
 use Rattle.question.proofs.read_header.Goals as goal
 

@@ -1,16 +1,9 @@
 -- The loop's invariant: what is to be found is what is found from `at` on, where at most 17 trees a node wait to be read. The measure is how many nodes
 -- may still come.
 use Prim.Native.Nat.{◌+◌, ◌*◌, ◌≤◌, max}
-use borrow.Author.Rules.{rules}
 use lib.ListN.{length}
-use mathlib.Core.Path.{◌≡◌, refl, sym, ap, ◌∙◌}
-use native.Mathlib.Omega.{arith}
-use Rattle.question.proofs.NodeIds.{same_fault}
-use Rattle.question.proofs.NodeReading.{step_small, step_few}
-use Rattle.question.proofs.Walking.{fault_end, fault_more, fault_stop, fault_turn}
-use Rattle.question.specs.Inside.Top.{read_fault}
-use Rattle.question.specs.NodeRead.{own_bytes, children}
-use Rattle.question.specs.QuestionRefused.{more_fault, nodes_fault, tree_fault}
+use mathlib.Core.Path.{◌≡◌}
+use Rattle.question.specs.QuestionRefused.{nodes_fault, tree_fault}
 use Rattle.question.proofs.tree_fault.Given as goal
 
 -- The loop's invariant: what is to be found is what is found from `at` on, where at most 17 trees a node wait to be read. The measure is how many nodes

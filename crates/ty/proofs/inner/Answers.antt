@@ -1,4 +1,3 @@
-use borrow.Author.Rules.{rules}
 use Rattle.ty.proofs.Choice.{chain_calls}
 use Rattle.ty.specs.Bytes.{inner_of}
 use Rattle.ty.proofs.inner.Goals as goal

@@ -1,4 +1,3 @@
-use borrow.Author.Rules.{rules}
 use Rattle.ty.proofs.Choice.{chain}
 use Rattle.ty.specs.Bytes.{non_null}
 use Rattle.ty.proofs.non_null.Goals as goal

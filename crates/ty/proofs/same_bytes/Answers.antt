@@ -1,10 +1,7 @@
-use Prim.Native.Nat.{◌≤◌, ◌-◌}
-use lib.ListN.{length, drop}
-use mathlib.Core.Path.{◌≡◌, refl, sym, ◌∙◌}
+use mathlib.Core.Path.{sym, ◌∙◌}
 use native.Mathlib.Numerals.{add-one}
 use native.Mathlib.Omega.{arith}
 use Rattle.ty.proofs.Same.{same_length, same_differ, same_more, same_end}
-use Rattle.ty.specs.Bytes.{same_bytes}
 use Rattle.ty.proofs.same_bytes.Goals as goal
 
 pub returns-then-a-b : goal.returns-then-a-b

@@ -1,10 +1,7 @@
 -- The loop's invariant: what is left of both from `i` on decides. The measure is how much that is.
 use Prim.Native.Nat.{◌≤◌, ◌-◌}
 use lib.ListN.{length, drop}
-use mathlib.Core.Path.{◌≡◌, refl, sym, ◌∙◌}
-use native.Mathlib.Numerals.{add-one}
-use native.Mathlib.Omega.{arith}
-use Rattle.ty.proofs.Same.{same_length, same_differ, same_more, same_end}
+use mathlib.Core.Path.{◌≡◌}
 use Rattle.ty.specs.Bytes.{same_bytes}
 use Rattle.ty.proofs.same_bytes.Given as goal
 

@@ -1,11 +1,7 @@
 use Prim.Native.Nat.{◌≤◌, ◌-◌}
-use borrow.Author.Fill.{fill_none}
-use borrow.Author.Rules.{rules}
-use lib.ListN.{length, replicate, drop, length-set}
+use lib.ListN.{length, replicate, drop}
 use mathlib.Core.List.{◌++◌}
 use mathlib.Core.Path.{◌≡◌}
-use native.Mathlib.Omega.{arith}
-use Rattle.written.proofs.ListFacts.{clear_more, clear_done}
 use Rattle.written.proofs.clear.Given as goal
 
 abbrev pub invariant-loop-i : goal.invariant-loop-i

@@ -1,9 +1,7 @@
 use Prim.Native.Nat.{◌≤◌, ◌-◌}
-use borrow.Author.Rules.{rules}
 use lib.ListN.{length}
-use mathlib.Core.Path.{◌≡◌, refl}
-use native.Mathlib.Omega.{arith}
-use Rattle.written.proofs.CopyLoops.{filled, fill_zero, fill_byte, fill_all}
+use mathlib.Core.Path.{◌≡◌}
+use Rattle.written.proofs.CopyLoops.{filled}
 use Rattle.written.proofs.copy_in.Given as goal
 
 abbrev pub invariant-loop-i : goal.invariant-loop-i

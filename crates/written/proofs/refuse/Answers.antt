@@ -1,4 +1,3 @@
-use borrow.Author.Rules.{rules}
 use Rattle.written.proofs.Outputs.{refused_writes}
 use Rattle.written.proofs.refuse.Goals as goal
 

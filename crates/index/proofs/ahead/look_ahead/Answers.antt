@@ -1,11 +1,6 @@
-use Prim.Native.Nat.{◌-◌}
-use lib.ListN.{length}
-use mathlib.Core.Path.{◌≡◌, refl, ◌∙◌}
-use native.Mathlib.Omega.{arith}
+use mathlib.Core.Path.{◌∙◌}
 use Rattle.index.proofs.Aheads.{marked-end, marked_next}
-use Rattle.index.specs.Inside.Ahead.{marked_from}
 use Rattle.record.proofs.Records.{at_next}
-use Rattle.record.specs.Inside.Walk.{CursorAt}
 use Rattle.index.proofs.ahead.look_ahead.Goals as goal
 
 pub loop-c-preserved : goal.loop-c-preserved

@@ -1,10 +1,7 @@
 use Prim.Native.Nat.{◌-◌}
 use lib.ListN.{length}
-use mathlib.Core.Path.{◌≡◌, refl, ◌∙◌}
-use native.Mathlib.Omega.{arith}
-use Rattle.index.proofs.Aheads.{marked-end, marked_next}
+use mathlib.Core.Path.{◌≡◌}
 use Rattle.index.specs.Inside.Ahead.{marked_from}
-use Rattle.record.proofs.Records.{at_next}
 use Rattle.record.specs.Inside.Walk.{CursorAt}
 use Rattle.index.proofs.ahead.look_ahead.Given as goal
 

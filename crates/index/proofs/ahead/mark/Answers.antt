@@ -1,4 +1,3 @@
-use borrow.Author.Rules.{rules}
 use native.Mathlib.Numerals.{add-one}
 use Prim.Native.Nat.{ℕ, suc, ◌+◌}
 use borrow.Author.Tests.{ne_eqb, eq-eqb}

@@ -1,4 +1,3 @@
-use borrow.Author.Rules.{rules}
 use native.Mathlib.Omega.{arith}
 use Rattle.ty.proofs.Choice.{chain}
 use Rattle.index.specs.Inside.Bucket.{key_bucket}

@@ -1,10 +1,8 @@
-use borrow.Author.Rules.{rules}
 use native.Mathlib.Omega.{arith}
 use Prim.Native.Nat.{suc, ◌+◌}
 use lib.ListN.{length, get_or}
 use mathlib.Core.Path.{◌≡◌, ◌∙◌}
 use native.Mathlib.Numerals.{add-one}
-use Rattle.index.proofs.Buckets.{lists_bound}
 use Rattle.index.proofs.Chains.{link_low}
 use Rattle.index.specs.Inside.Entered.{entered}
 use Rattle.index.specs.Inside.Index.{last_at}

@@ -1,7 +1,5 @@
-use borrow.Author.Rules.{rules}
 use native.Mathlib.Omega.{arith}
 use Rattle.index.proofs.Buckets.{lists_bound}
-use Rattle.index.proofs.ListSearch.{positive}
 use Rattle.index.specs.Inside.Entered.{link_at}
 use Rattle.ty.proofs.Choice.{chain}
 use Rattle.index.proofs.list.link_at.Goals as goal

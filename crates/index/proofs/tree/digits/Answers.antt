@@ -1,11 +1,10 @@
 use Prim.Native.Nat.{ℕ, ◌-◌, ◌<◌}
-use mathlib.Core.Path.{◌≡◌, sym, ap, ◌∙◌, subst}
+use mathlib.Core.Path.{◌≡◌, sym, ap, ◌∙◌}
 use native.Mathlib.Omega.{arith, not-le}
 use Rattle.index.proofs.Buckets.{digits-first, digits_later, digits-kept}
 use Rattle.index.specs.Inside.Bucket.{hash_of, digest_of, key_digits}
-use Rattle.index.specs.Inside.SearchKey.{name_bytes_at, digits_for, KeyIn}
+use Rattle.index.specs.Inside.SearchKey.{name_bytes_at, digits_for}
 use Rattle.index.specs.declared.tree.Key.{Key}
-use borrow.Author.Rules.{rules}
 use Rattle.index.proofs.tree.digits.Goals as goal
 
 positive : (d : ℕ) → (d ≡ 0 → ⊥) → 0 < d

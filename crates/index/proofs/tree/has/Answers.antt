@@ -1,8 +1,6 @@
 use mathlib.Core.Path.{sym, ◌∙◌, subst}
-use native.Mathlib.Omega.{arith}
 use Rattle.index.specs.Inside.SearchKey.{KeyIn}
 use Rattle.index.specs.declared.tree.Key.{Key}
-use borrow.Author.Rules.{rules}
 use Rattle.index.proofs.Earlier.{has_other, has_name, has_ids, has_room}
 use Rattle.index.proofs.tree.has.Goals as goal
 

@@ -1,4 +1,3 @@
-use borrow.Author.Rules.{rules}
 use native.Mathlib.Omega.{arith}
 use Rattle.ty.proofs.Choice.{chain}
 use Rattle.index.proofs.tree.second.Goals as goal

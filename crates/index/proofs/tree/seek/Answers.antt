@@ -1,4 +1,3 @@
-use borrow.Author.Rules.{rules}
 use Rattle.index.proofs.Single.{accepted_open, single_found, single_nothing}
 use Rattle.index.proofs.tree.seek.Goals as goal
 

@@ -1,6 +1,5 @@
 use native.Mathlib.Omega.{arith}
 use Rattle.index.specs.Inside.Bucket.{word_at}
-use borrow.Author.Rules.{rules}
 use Rattle.index.proofs.tree.word_at.Goals as goal
 
 pub returns : goal.returns

@@ -1,4 +1,3 @@
-use borrow.Author.Rules.{rules}
 use native.Mathlib.Omega.{arith}
 use Rattle.question.specs.NodeRead.{children}
 use Rattle.question.proofs.node.children.Goals as goal

@@ -1,4 +1,3 @@
-use borrow.Author.Rules.{rules}
 use mathlib.Core.Path.{◌∙◌}
 use Rattle.question.specs.NodeRead.{node_at}
 use Rattle.question.proofs.node.node_at.Goals as goal

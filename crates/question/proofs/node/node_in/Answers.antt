@@ -1,4 +1,3 @@
-use borrow.Author.Rules.{rules}
 use Rattle.question.specs.NodeRead.{node_in}
 use Rattle.ty.proofs.Choice.{chain}
 use Rattle.question.proofs.node.node_in.Goals as goal

@@ -1,4 +1,3 @@
-use borrow.Author.Rules.{rules}
 use Rattle.question.specs.NodeRead.{own_bytes}
 use Rattle.question.proofs.node.own_bytes.Goals as goal
 

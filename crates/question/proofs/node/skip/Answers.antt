@@ -1,11 +1,9 @@
-use Prim.Native.Nat.{◌+◌, ◌*◌, ◌≤◌, ◌-◌, max}
-use borrow.Author.Rules.{rules}
-use lib.ListN.{length}
-use mathlib.Core.Path.{◌≡◌, refl, ap, ◌∙◌}
+use Prim.Native.Nat.{◌-◌}
+use mathlib.Core.Path.{refl, ap, ◌∙◌}
 use native.Mathlib.Omega.{arith}
 use Rattle.question.proofs.NodeReading.{step_small, step_few}
 use Rattle.question.proofs.Walking.{skip_end, skip_stop, skip_turn}
-use Rattle.question.specs.Inside.Skip.{skip_from, skip_at}
+use Rattle.question.specs.Inside.Skip.{skip_at}
 use Rattle.question.specs.NodeRead.{own_bytes, children}
 use Rattle.question.proofs.node.skip.Goals as goal
 

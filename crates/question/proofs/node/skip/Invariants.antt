@@ -1,14 +1,9 @@
 -- The loop's invariant: what is to be passed is what is passed from `at` on, where at most 17 trees a node wait to be passed. The measure is how many
 -- nodes may still come.
 use Prim.Native.Nat.{◌+◌, ◌*◌, ◌≤◌, ◌-◌, max}
-use borrow.Author.Rules.{rules}
 use lib.ListN.{length}
-use mathlib.Core.Path.{◌≡◌, refl, ap, ◌∙◌}
-use native.Mathlib.Omega.{arith}
-use Rattle.question.proofs.NodeReading.{step_small, step_few}
-use Rattle.question.proofs.Walking.{skip_end, skip_stop, skip_turn}
+use mathlib.Core.Path.{◌≡◌}
 use Rattle.question.specs.Inside.Skip.{skip_from, skip_at}
-use Rattle.question.specs.NodeRead.{own_bytes, children}
 use Rattle.question.proofs.node.skip.Given as goal
 
 -- The loop's invariant: what is to be passed is what is passed from `at` on, where at most 17 trees a node wait to be passed. The measure is how many

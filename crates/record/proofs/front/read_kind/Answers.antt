@@ -1,4 +1,3 @@
-use borrow.Author.Rules.{rules}
 use Rattle.record.specs.Inside.Front.{head_by}
 use Rattle.ty.proofs.Choice.{chain}
 use Rattle.record.proofs.front.read_kind.Goals as goal

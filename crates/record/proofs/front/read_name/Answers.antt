@@ -1,4 +1,3 @@
-use borrow.Author.Rules.{rules}
 use Rattle.record.specs.Inside.Front.{plain_head, name_head}
 use Rattle.ty.proofs.Choice.{chain}
 use Rattle.record.proofs.front.read_name.Goals as goal

@@ -1,4 +1,3 @@
-use borrow.Author.Rules.{rules}
 use Rattle.record.specs.Inside.Front.{operators_head}
 use Rattle.record.proofs.front.read_operators.Goals as goal
 

@@ -1,4 +1,3 @@
-use borrow.Author.Rules.{rules}
 use Rattle.record.proofs.Bounds.{head_bounded}
 use Rattle.record.specs.Inside.Front.{head_of}
 use Rattle.record.proofs.front.read_record.Goals as goal

@@ -1,4 +1,3 @@
-use borrow.Author.Rules.{rules}
 use Rattle.record.specs.Inside.Front.{function_with}
 use Rattle.ty.proofs.Choice.{chain}
 use Rattle.record.proofs.params.function_with.Goals as goal

@@ -1,4 +1,3 @@
-use borrow.Author.Rules.{rules}
 use Rattle.record.specs.Inside.Front.{function_head}
 use Rattle.ty.proofs.Choice.{chain}
 use Rattle.record.proofs.params.read_function_head.Goals as goal

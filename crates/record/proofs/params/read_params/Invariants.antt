@@ -1,12 +1,7 @@
-use Prim.Native.Nat.{ℕ, ◌-◌, ◌≤◌}
-use borrow.Author.Rules.{rules}
+use Prim.Native.Nat.{◌-◌, ◌≤◌}
 use lib.ListN.{length}
-use mathlib.Core.Path.{◌≡◌, sym, ap, ap₂, ◌∙◌}
-use native.Mathlib.Nat.{sub-zero}
-use native.Mathlib.Omega.{arith}
-use Rattle.record.proofs.ParamSteps.{param_onward, first-inside, run_step, run_last}
+use mathlib.Core.Path.{◌≡◌}
 use Rattle.record.specs.Inside.Front.{run_params, params_read}
-use Rattle.record.specs.declared.params.Reading.{Reading}
 use Rattle.record.proofs.params.read_params.Given as goal
 
 abbrev pub invariant-loop-n : goal.invariant-loop-n

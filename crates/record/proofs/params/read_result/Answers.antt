@@ -1,5 +1,3 @@
-use borrow.Author.Rules.{rules}
-use mathlib.Core.Path.{◌∙◌}
 use Rattle.record.proofs.Types.{ends_in}
 use Rattle.record.proofs.params.read_result.Goals as goal
 

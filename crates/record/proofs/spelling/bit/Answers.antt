@@ -1,7 +1,6 @@
 use mathlib.Core.Path.{refl}
 use native.Mathlib.Omega.{arith}
 use Rattle.record.specs.Inside.Sieve.{bit_of}
-use borrow.Author.Rules.{rules}
 use Rattle.record.proofs.spelling.bit.Goals as goal
 
 pub returns : goal.returns

@@ -1,10 +1,6 @@
-use Prim.Native.Nat.{◌-◌, ◌*◌, ◌≤◌}
-use borrow.Author.Rules.{rules}
-use lib.ListN.{drop}
-use mathlib.Core.Path.{◌≡◌, refl, sym, ◌∙◌}
+use mathlib.Core.Path.{sym, ◌∙◌}
 use native.Mathlib.Omega.{arith}
 use Rattle.record.proofs.SpellingRows.{rows_found, rows_past, rows_end}
-use Rattle.record.specs.Spelling.{rows_of, spelled}
 use Rattle.record.proofs.spelling.in_rows.Goals as goal
 
 pub returns-then-same_bytes : goal.returns-then-same_bytes

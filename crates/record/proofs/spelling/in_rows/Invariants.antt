@@ -1,9 +1,6 @@
 use Prim.Native.Nat.{◌-◌, ◌*◌, ◌≤◌}
-use borrow.Author.Rules.{rules}
 use lib.ListN.{drop}
-use mathlib.Core.Path.{◌≡◌, refl, sym, ◌∙◌}
-use native.Mathlib.Omega.{arith}
-use Rattle.record.proofs.SpellingRows.{rows_found, rows_past, rows_end}
+use mathlib.Core.Path.{◌≡◌}
 use Rattle.record.specs.Spelling.{rows_of, spelled}
 use Rattle.record.proofs.spelling.in_rows.Given as goal
 

@@ -1,6 +1,5 @@
 use mathlib.Core.Bool.{not}
 use mathlib.Core.Path.{ap}
-use borrow.Author.Rules.{rules}
 use Rattle.record.proofs.SpellingRows.{not-spelled}
 use Rattle.record.proofs.spelling.is_builtin.Goals as goal
 

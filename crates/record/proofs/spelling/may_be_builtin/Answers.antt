@@ -1,5 +1,4 @@
 use Rattle.record.specs.Inside.Sieve.{may_be_builtin}
-use borrow.Author.Rules.{rules}
 use Rattle.record.proofs.spelling.may_be_builtin.Goals as goal
 
 pub returns : goal.returns

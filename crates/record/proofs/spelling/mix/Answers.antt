@@ -1,4 +1,3 @@
-use borrow.Author.Rules.{rules}
 use Rattle.record.specs.Inside.Sieve.{mix_of}
 use Rattle.record.proofs.spelling.mix.Goals as goal
 

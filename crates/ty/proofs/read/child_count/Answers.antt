@@ -1,4 +1,3 @@
-use borrow.Author.Rules.{rules}
 use Rattle.ty.proofs.Choice.{chain}
 use Rattle.ty.specs.Read.{child_count}
 use Rattle.ty.proofs.read.child_count.Goals as goal

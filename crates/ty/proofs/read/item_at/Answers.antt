@@ -1,4 +1,3 @@
-use borrow.Author.Rules.{rules}
 use Rattle.ty.proofs.Choice.{chain}
 use Rattle.ty.specs.Read.{item_at}
 use Rattle.ty.proofs.read.item_at.Goals as goal

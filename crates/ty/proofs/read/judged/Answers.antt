@@ -1,4 +1,3 @@
-use borrow.Author.Rules.{rules}
 use Rattle.ty.proofs.Choice.{chain_calls}
 use Rattle.ty.specs.Read.{item_of}
 use Rattle.ty.proofs.read.judged.Goals as goal

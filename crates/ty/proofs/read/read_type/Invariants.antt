@@ -1,12 +1,7 @@
 -- The loop's invariant: what is to be found is what is found from `at` on, where at most 17 types a byte wait to be read. The measure is what is left
 -- of the bytes that are examined.
 use Prim.Native.Nat.{◌≤◌, ◌-◌, ◌+◌, ◌*◌}
-use borrow.Author.Rules.{rules}
-use mathlib.Core.Path.{◌≡◌, sym, ◌∙◌}
-use native.Mathlib.Omega.{arith}
-use Rattle.ty.proofs.Reading.{Going, Turned, starts, turn, ends}
-use Rattle.ty.specs.declared.read.Item.TheVariants.{Part, Broken, Out}
-use Rattle.ty.specs.declared.read.Item.{Item}
+use Rattle.ty.proofs.Reading.{Going}
 use Rattle.ty.proofs.read.read_type.Given as goal
 
 -- The loop's invariant: what is to be found is what is found from `at` on, where at most 17 types a byte wait to be read. The measure is what is left

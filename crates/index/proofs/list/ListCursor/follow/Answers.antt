@@ -1,9 +1,9 @@
 use Prim.Native.Nat.{◌<◌}
 use lib.ListN.{length}
-use mathlib.Core.Path.{refl, sym, ◌∙◌, subst}
+use mathlib.Core.Path.{sym, ◌∙◌, subst}
 use native.Mathlib.Omega.{arith}
 use Rattle.index.proofs.ListSearch.{left_of, positive}
-use Rattle.index.proofs.ListWalks.{Following, list_low, stays_end, stays_here, step_less, following_next}
+use Rattle.index.proofs.ListWalks.{list_low, stays_end, stays_here, step_less, following_next}
 use Rattle.index.specs.declared.list.ListCursor.{ListCursor}
 use Rattle.index.proofs.list.ListCursor.follow.Goals as goal
 

@@ -1,4 +1,3 @@
-use borrow.Author.Rules.{rules}
 use mathlib.Core.Path.{◌∙◌}
 use Rattle.index.specs.Inside.ListWalk.{here_has_key}
 use Rattle.index.proofs.list.ListCursor.has_key.Goals as goal

@@ -1,4 +1,3 @@
-use borrow.Author.Rules.{rules}
 use Rattle.index.specs.Inside.ListWalk.{list_start}
 use Rattle.index.proofs.list.ListCursor.new.Goals as goal
 

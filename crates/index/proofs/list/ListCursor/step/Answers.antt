@@ -1,4 +1,3 @@
-use borrow.Author.Rules.{rules}
 use Rattle.index.specs.Inside.ListWalk.{list_step}
 use Rattle.index.proofs.list.ListCursor.step.Goals as goal
 

@@ -1,6 +1,5 @@
 use Prim.Native.Nat.{ℕ, ◌+◌}
 use Prim.Native.Nat.{ℕ}
-use borrow.Author.Rules.{rules}
 use mathlib.Core.Path.{ap}
 use Rattle.index.specs.Inside.TreeWalk.{tree_start}
 use Rattle.index.proofs.tree.TreeCursor.new.Goals as goal

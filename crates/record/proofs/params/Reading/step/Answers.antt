@@ -1,5 +1,4 @@
 use Prim.Native.Nat.{◌+◌, ◌≤◌}
-use borrow.Author.Rules.{rules}
 use borrow.Author.Tests.{eq-eqb, ne_eqb, le-ltb}
 use lib.Dec.{ltb}
 use lib.ListN.{length}
