@@ -8,7 +8,12 @@ pub loop-i-init : goal.loop-i-init
 loop-i-init c = (search rules, refl, fill_zero _ _ _ _)
 
 pub loop-i-preserved : goal.loop-i-preserved
-loop-i-preserved c = (search rules, search rules, fill_next _ _ _ _ _ _ _ (omega arith) c.loop-i.invariant.2 (fill_past _ _ _ _ _ _ (omega arith) (omega arith) c.loop-i.invariant.2))
+loop-i-preserved c = (
+  search rules,
+  search rules,
+  fill_next _ _ _ _ _ _ _ (omega arith) c.loop-i.invariant.2
+      (fill_past _ _ _ _ _ _ (omega arith) (omega arith) c.loop-i.invariant.2),
+)
 
 pub returns : goal.returns
 returns c = fill_done _ _ _ _ _ c.args.n _ (omega arith) c.loop-i.invariant.2

@@ -6,4 +6,7 @@ pub returns-then-buf-p : goal.returns-then-buf-p
 returns-then-buf-p c = (refl, put_one-not _ _ _ c.if-buf-p.true)
 
 pub returns : goal.returns
-returns c = let a = c.args in let h = c.if-buf-p.false in (refl, put_bytes a.buf.now a.count a.kind a.node c.put_two.ensures a.number c.put_two-2.ensures h)
+returns c = let a = c.args in let h = c.if-buf-p.false in (
+  refl,
+  put_bytes a.buf.now a.count a.kind a.node c.put_two.ensures a.number c.put_two-2.ensures h,
+)

@@ -13,4 +13,5 @@ pub returns-clause-text : goal.returns-clause-text
 returns-clause-text c = (filled_text _ _ _ _ c.judge-a.ensures.answered.answer _ c.judge-a.ensures.answered.buffer c.print_answer.ensures)
 
 pub returns-clause-short : goal.returns-clause-short
-returns-clause-short c = (λ h. text_short _ _ _ _ c.judge-a.ensures.answered.answer _ c.judge-a.ensures.answered.buffer (omega arith) (omega arith) (omega arith) (λ i. omega (arith, c.slice_known-3-1.given i)) (search rules))
+returns-clause-short c = (λ h. text_short _ _ _ _ c.judge-a.ensures.answered.answer _ c.judge-a.ensures.answered.buffer (omega arith) (omega arith)
+    (omega arith) (λ i. omega (arith, c.slice_known-3-1.given i)) (search rules))

@@ -8,7 +8,8 @@ returns-then-question-byte_at c = rw (← c.byte_at.ensures) (search chain depth
 
 pub returns-then-none_or_defined : goal.returns-then-none_or_defined
 unfolding header_fault
-returns-then-none_or_defined c = rw (← c.byte_at.ensures, ← c.read_header-h.ensures, ← c.none_or_defined.ensures, ← c.none_or_defined-2.ensures) (search chain depth 12)
+returns-then-none_or_defined c = rw (← c.byte_at.ensures, ← c.read_header-h.ensures, ← c.none_or_defined.ensures, ← c.none_or_defined-2.ensures)
+    (search chain depth 12)
 
 pub returns : goal.returns
 unfolding header_fault

@@ -45,14 +45,20 @@ judge_node-inside-requires-in-Method t c =
 pub judge_node-judge_node-l-requires : goal.judge_node-judge_node-l-requires
 judge_node-judge_node-l-requires t c =
     let h = sym c.in-Binary.ensures in
-    let fits = (room_of _ _ _ h).0 in
-    (below c.decreases (inside_falls c.requires.2 2 c.inside.ensures (omega arith) fits), (c.requires.0, c.requires.1, asked_left c.requires.1 c.args.header c.requires.2 _ h c.inside.ensures))
+    let fits = (room_of _ _ _ h).0 in (
+      below c.decreases (inside_falls c.requires.2 2 c.inside.ensures (omega arith) fits),
+      (c.requires.0, c.requires.1, asked_left c.requires.1 c.args.header c.requires.2 _ h c.inside.ensures),
+    )
 
 pub judge_node-judge_node-r-requires : goal.judge_node-judge_node-r-requires
 judge_node-judge_node-r-requires t c =
     let h = sym c.in-Binary.ensures in (
       below c.decreases (right_falls c.requires.1 c.args.header c.requires.2 _ h c.inside.ensures c.judge_node-l.ensures),
-      (space_still c.judge_node-l.auto.area c.judge_node-l.auto.lens c.requires.0, c.requires.1, asked_right c.requires.1 c.args.header c.requires.2 _ h c.inside.ensures c.judge_node-l.ensures),
+      (
+        space_still c.judge_node-l.auto.area c.judge_node-l.auto.lens c.requires.0,
+        c.requires.1,
+        asked_right c.requires.1 c.args.header c.requires.2 _ h c.inside.ensures c.judge_node-l.ensures,
+      ),
     )
 
 pub judge_node-finish_binary-requires : goal.judge_node-finish_binary-requires
@@ -64,19 +70,24 @@ judge_node-finish_binary-requires t c =
 pub judge_node-judge_node-x-requires : goal.judge_node-judge_node-x-requires
 judge_node-judge_node-x-requires t c =
     let h = sym c.in-Unary.ensures in
-    let fits = (room_of _ _ _ h).0 in
-    (below c.decreases (inside_falls c.requires.2 2 c.inside-in-Unary.ensures (omega arith) fits), (c.requires.0, c.requires.1, asked_unary c.requires.1 c.args.header c.requires.2 _ h c.inside-in-Unary.ensures))
+    let fits = (room_of _ _ _ h).0 in (
+      below c.decreases (inside_falls c.requires.2 2 c.inside-in-Unary.ensures (omega arith) fits),
+      (c.requires.0, c.requires.1, asked_unary c.requires.1 c.args.header c.requires.2 _ h c.inside-in-Unary.ensures),
+    )
 
 pub judge_node-finish_unary-requires : goal.judge_node-finish_unary-requires
 judge_node-finish_unary-requires t c =
     let h = sym c.in-Unary.ensures in
-    unary_ready c.requires.1 c.args.header c.requires.2 _ h c.inside-in-Unary.ensures (space_still c.judge_node-x.auto.area c.judge_node-x.auto.lens c.requires.0) c.judge_node-x.ensures
+    unary_ready c.requires.1 c.args.header c.requires.2 _ h c.inside-in-Unary.ensures
+    (space_still c.judge_node-x.auto.area c.judge_node-x.auto.lens c.requires.0) c.judge_node-x.ensures
 
 pub judge_node-judge_node-x-requires-in-Named : goal.judge_node-judge_node-x-requires-in-Named
 judge_node-judge_node-x-requires-in-Named t c =
     let h = sym c.in-Named.ensures in
-    let fits = room_of _ _ _ h in
-    (below c.decreases (inside_falls c.requires.2 3 c.inside-in-Named.ensures (omega arith) fits), (c.requires.0, c.requires.1, asked_named c.requires.1 c.args.header c.requires.2 _ h c.inside-in-Named.ensures))
+    let fits = room_of _ _ _ h in (
+      below c.decreases (inside_falls c.requires.2 3 c.inside-in-Named.ensures (omega arith) fits),
+      (c.requires.0, c.requires.1, asked_named c.requires.1 c.args.header c.requires.2 _ h c.inside-in-Named.ensures),
+    )
 
 pub judge_node-finish_named-requires : goal.judge_node-finish_named-requires
 judge_node-finish_named-requires t c =
@@ -87,66 +98,118 @@ judge_node-finish_named-requires t c =
 pub judge_node-judge_node-x-requires-in-Member : goal.judge_node-judge_node-x-requires-in-Member
 judge_node-judge_node-x-requires-in-Member t c =
     let h = sym c.in-Member.ensures in
-    let fits = room_of _ _ _ h in
-    (below c.decreases (inside_falls c.requires.2 3 c.inside-in-Member.ensures (omega arith) fits), (c.requires.0, c.requires.1, asked_member c.requires.1 c.args.header c.requires.2 _ h c.inside-in-Member.ensures))
+    let fits = room_of _ _ _ h in (
+      below c.decreases (inside_falls c.requires.2 3 c.inside-in-Member.ensures (omega arith) fits),
+      (c.requires.0, c.requires.1, asked_member c.requires.1 c.args.header c.requires.2 _ h c.inside-in-Member.ensures),
+    )
 
 pub judge_node-finish_member-requires : goal.judge_node-finish_member-requires
 judge_node-finish_member-requires t c =
-    let h = sym c.in-Member.ensures in
-    (c.requires.1, member_ready c.requires.1 c.args.header c.requires.2 _ h c.inside-in-Member.ensures (space_still c.judge_node-x-in-Member.auto.area c.judge_node-x-in-Member.auto.lens c.requires.0) c.judge_node-x-in-Member.ensures)
+    let h = sym c.in-Member.ensures in (
+      c.requires.1,
+      member_ready c.requires.1 c.args.header c.requires.2 _ h c.inside-in-Member.ensures
+          (space_still c.judge_node-x-in-Member.auto.area c.judge_node-x-in-Member.auto.lens c.requires.0) c.judge_node-x-in-Member.ensures,
+    )
 
 pub judge_node-unlisted-requires : goal.judge_node-unlisted-requires
 judge_node-unlisted-requires t c =
-    let h = sym c.in-Call.ensures in
-    (c.requires.0.lent, slot_room c.requires.2 c.requires.0, call_passed c.requires.1 (calls_fit _ _ c.requires.1) c.args.header c.requires.2 _ _ h c.inside-in-Call.ensures _ _ _ c.begin_call-c.ensures (no_test _ c.if-not-c.true))
+    let h = sym c.in-Call.ensures in (
+      c.requires.0.lent,
+      slot_room c.requires.2 c.requires.0,
+      call_passed c.requires.1 (calls_fit _ _ c.requires.1) c.args.header c.requires.2 _ _ h c.inside-in-Call.ensures _ _ _ c.begin_call-c.ensures
+          (no_test _ c.if-not-c.true),
+    )
 
 pub judge_node-returns-then-not-c : goal.judge_node-returns-then-not-c
 judge_node-returns-then-not-c t c =
     let h = sym c.in-Call.ensures in
-    λ x. ret_call_none c.requires.1 (calls_fit _ _ c.requires.1) c.args.header x _ _ h c.inside-in-Call.ensures _ _ _ c.begin_call-c.ensures (no_test _ c.if-not-c.true) c.unlisted.ensures
+    λ x. ret_call_none c.requires.1 (calls_fit _ _ c.requires.1) c.args.header x _ _ h c.inside-in-Call.ensures _ _ _ c.begin_call-c.ensures
+    (no_test _ c.if-not-c.true) c.unlisted.ensures
 
 pub judge_node-judge_row-r-requires : goal.judge_node-judge_row-r-requires
 judge_node-judge_row-r-requires t c =
-    let h = sym c.in-Call.ensures in
-    (below c.decreases (args_fall c.requires.1 (calls_fit _ _ c.requires.1) c.args.header c.requires.2 _ _ h c.inside-in-Call.ensures _ _ _ c.begin_call-c.ensures (yes_test _ c.if-not-c.false)), (c.requires.0, c.requires.1, asked_args c.requires.1 (calls_fit _ _ c.requires.1) c.args.header c.requires.2 _ _ h c.inside-in-Call.ensures _ _ _ c.begin_call-c.ensures (yes_test _ c.if-not-c.false)))
+    let h = sym c.in-Call.ensures in (
+      below c.decreases (args_fall c.requires.1 (calls_fit _ _ c.requires.1) c.args.header c.requires.2 _ _ h c.inside-in-Call.ensures _ _ _
+          c.begin_call-c.ensures (yes_test _ c.if-not-c.false)),
+      (
+        c.requires.0,
+        c.requires.1,
+        asked_args c.requires.1 (calls_fit _ _ c.requires.1) c.args.header c.requires.2 _ _ h c.inside-in-Call.ensures _
+            _ _ c.begin_call-c.ensures (yes_test _ c.if-not-c.false),
+      ),
+    )
 
 pub judge_node-finish_call-requires : goal.judge_node-finish_call-requires
 judge_node-finish_call-requires t c =
     let h = sym c.in-Call.ensures in
-    let lent = space_still c.judge_row-r.auto.area c.judge_row-r.auto.lens c.requires.0 in
-    (lent.lent, c.requires.1, args_ready c.requires.1 (calls_fit _ _ c.requires.1) c.args.header c.requires.2 _ _ h c.inside-in-Call.ensures _ _ _ c.begin_call-c.ensures (yes_test _ c.if-not-c.false) lent c.judge_row-r.ensures)
+    let lent = space_still c.judge_row-r.auto.area c.judge_row-r.auto.lens c.requires.0 in (
+      lent.lent,
+      c.requires.1,
+      args_ready c.requires.1 (calls_fit _ _ c.requires.1) c.args.header c.requires.2 _ _ h c.inside-in-Call.ensures _ _ _
+          c.begin_call-c.ensures (yes_test _ c.if-not-c.false) lent c.judge_row-r.ensures,
+    )
 
 pub judge_node-judge_node-x-requires-in-Method : goal.judge_node-judge_node-x-requires-in-Method
 judge_node-judge_node-x-requires-in-Method t c =
     let h = sym c.in-Method.ensures in
-    let fits = (room_of _ _ _ h).0 in
-    (below c.decreases (inside_falls c.requires.2 4 c.inside-in-Method.ensures (omega arith) fits), (c.requires.0, c.requires.1, asked_object c.requires.1 (calls_fit _ _ c.requires.1) c.args.header c.requires.2 _ _ h c.inside-in-Method.ensures))
+    let fits = (room_of _ _ _ h).0 in (
+      below c.decreases (inside_falls c.requires.2 4 c.inside-in-Method.ensures (omega arith) fits),
+      (
+        c.requires.0,
+        c.requires.1,
+        asked_object c.requires.1 (calls_fit _ _ c.requires.1) c.args.header c.requires.2 _ _ h
+            c.inside-in-Method.ensures,
+      ),
+    )
 
 pub judge_node-begin_method-c-requires : goal.judge_node-begin_method-c-requires
 judge_node-begin_method-c-requires t c =
-    let h = sym c.in-Method.ensures in
-    (c.requires.1, node_room c.requires.2, object_few c.requires.1 (calls_fit _ _ c.requires.1) c.args.header c.requires.2 _ _ h c.inside-in-Method.ensures c.judge_node-x-in-Method.ensures)
+    let h = sym c.in-Method.ensures in (
+      c.requires.1,
+      node_room c.requires.2,
+      object_few c.requires.1 (calls_fit _ _ c.requires.1) c.args.header c.requires.2 _ _ h
+          c.inside-in-Method.ensures c.judge_node-x-in-Method.ensures,
+    )
 
 pub judge_node-unlisted-requires-then-not-c-2 : goal.judge_node-unlisted-requires-then-not-c-2
 judge_node-unlisted-requires-then-not-c-2 t c =
-    let h = sym c.in-Method.ensures in
-    ((space_still c.judge_node-x-in-Method.auto.area c.judge_node-x-in-Method.auto.lens c.requires.0).lent, slot_still c.requires.2 c.requires.0 c.judge_node-x-in-Method.auto.lens, method_passed c.requires.1 (calls_fit _ _ c.requires.1) c.args.header c.requires.2 _ _ h c.inside-in-Method.ensures c.judge_node-x-in-Method.ensures c.requires.0 _ _ c.begin_method-c.ensures (no_test _ c.if-not-c-2.true))
+    let h = sym c.in-Method.ensures in (
+      (space_still c.judge_node-x-in-Method.auto.area c.judge_node-x-in-Method.auto.lens c.requires.0).lent,
+      slot_still c.requires.2 c.requires.0 c.judge_node-x-in-Method.auto.lens,
+      method_passed c.requires.1 (calls_fit _ _ c.requires.1) c.args.header c.requires.2 _ _ h c.inside-in-Method.ensures
+          c.judge_node-x-in-Method.ensures c.requires.0 _ _ c.begin_method-c.ensures (no_test _ c.if-not-c-2.true),
+    )
 
 pub judge_node-returns-then-not-c-2 : goal.judge_node-returns-then-not-c-2
 judge_node-returns-then-not-c-2 t c =
     let h = sym c.in-Method.ensures in
-    λ x. ret_method_none c.requires.1 (calls_fit _ _ c.requires.1) c.args.header x _ _ h c.inside-in-Method.ensures c.judge_node-x-in-Method.ensures c.requires.0 _ _ c.begin_method-c.ensures (no_test _ c.if-not-c-2.true) c.unlisted-then-not-c-2.ensures
+    λ x. ret_method_none c.requires.1 (calls_fit _ _ c.requires.1) c.args.header x _ _ h c.inside-in-Method.ensures c.judge_node-x-in-Method.ensures
+    c.requires.0 _ _ c.begin_method-c.ensures (no_test _ c.if-not-c-2.true) c.unlisted-then-not-c-2.ensures
 
 pub judge_node-judge_row-r-requires-in-Method : goal.judge_node-judge_row-r-requires-in-Method
 judge_node-judge_row-r-requires-in-Method t c =
-    let h = sym c.in-Method.ensures in
-    (below c.decreases (method_fall c.requires.1 (calls_fit _ _ c.requires.1) c.args.header c.requires.2 _ _ h c.inside-in-Method.ensures c.judge_node-x-in-Method.ensures c.requires.0 _ _ c.begin_method-c.ensures (yes_test _ c.if-not-c-2.false)), (space_still c.judge_node-x-in-Method.auto.area c.judge_node-x-in-Method.auto.lens c.requires.0, c.requires.1, asked_method c.requires.1 (calls_fit _ _ c.requires.1) c.args.header c.requires.2 _ _ h c.inside-in-Method.ensures c.judge_node-x-in-Method.ensures c.requires.0 _ _ c.begin_method-c.ensures (yes_test _ c.if-not-c-2.false)))
+    let h = sym c.in-Method.ensures in (
+      below c.decreases (method_fall c.requires.1 (calls_fit _ _ c.requires.1) c.args.header c.requires.2 _ _ h c.inside-in-Method.ensures
+          c.judge_node-x-in-Method.ensures c.requires.0 _ _ c.begin_method-c.ensures (yes_test _ c.if-not-c-2.false)),
+      (
+        space_still c.judge_node-x-in-Method.auto.area c.judge_node-x-in-Method.auto.lens c.requires.0,
+        c.requires.1,
+        asked_method c.requires.1 (calls_fit _ _ c.requires.1) c.args.header c.requires.2 _ _ h c.inside-in-Method.ensures
+            c.judge_node-x-in-Method.ensures c.requires.0 _ _ c.begin_method-c.ensures (yes_test _ c.if-not-c-2.false),
+      ),
+    )
 
 pub judge_node-finish_call-requires-in-Method : goal.judge_node-finish_call-requires-in-Method
 judge_node-finish_call-requires-in-Method t c =
     let h = sym c.in-Method.ensures in
-    let lent = space_still (c.judge_row-r-in-Method.auto.area ∙ c.judge_node-x-in-Method.auto.area) (c.judge_row-r-in-Method.auto.lens ∙ c.judge_node-x-in-Method.auto.lens) c.requires.0 in
-    (lent.lent, c.requires.1, method_ready c.requires.1 (calls_fit _ _ c.requires.1) c.args.header c.requires.2 _ _ h c.inside-in-Method.ensures c.judge_node-x-in-Method.ensures c.requires.0 _ _ c.begin_method-c.ensures (yes_test _ c.if-not-c-2.false) lent c.judge_row-r-in-Method.ensures)
+    let lent = space_still (c.judge_row-r-in-Method.auto.area ∙ c.judge_node-x-in-Method.auto.area)
+    (c.judge_row-r-in-Method.auto.lens ∙ c.judge_node-x-in-Method.auto.lens) c.requires.0 in (
+      lent.lent,
+      c.requires.1,
+      method_ready c.requires.1 (calls_fit _ _ c.requires.1) c.args.header c.requires.2 _ _ h c.inside-in-Method.ensures
+          c.judge_node-x-in-Method.ensures c.requires.0 _ _ c.begin_method-c.ensures (yes_test _ c.if-not-c-2.false) lent
+          c.judge_row-r-in-Method.ensures,
+    )
 
 pub judge_node-returns-in-Bad : goal.judge_node-returns-in-Bad
 judge_node-returns-in-Bad t c =
@@ -172,28 +235,37 @@ judge_node-returns-in-Binary t c =
 pub judge_node-returns-in-Unary : goal.judge_node-returns-in-Unary
 judge_node-returns-in-Unary t c =
     let h = sym c.in-Unary.ensures in
-    λ x. ret_unary c.requires.1 c.args.header x _ h c.inside-in-Unary.ensures (space_still c.judge_node-x.auto.area c.judge_node-x.auto.lens c.requires.0) c.judge_node-x.ensures c.finish_unary.ensures
+    λ x. ret_unary c.requires.1 c.args.header x _ h c.inside-in-Unary.ensures
+    (space_still c.judge_node-x.auto.area c.judge_node-x.auto.lens c.requires.0) c.judge_node-x.ensures c.finish_unary.ensures
 
 pub judge_node-returns-in-Named : goal.judge_node-returns-in-Named
 judge_node-returns-in-Named t c =
     let h = sym c.in-Named.ensures in
-    λ x. ret_named c.requires.1 c.args.header x _ h c.inside-in-Named.ensures (space_still c.judge_node-x-in-Named.auto.area c.judge_node-x-in-Named.auto.lens c.requires.0) c.judge_node-x-in-Named.ensures c.finish_named.ensures
+    λ x. ret_named c.requires.1 c.args.header x _ h c.inside-in-Named.ensures
+    (space_still c.judge_node-x-in-Named.auto.area c.judge_node-x-in-Named.auto.lens c.requires.0) c.judge_node-x-in-Named.ensures
+    c.finish_named.ensures
 
 pub judge_node-returns-in-Member : goal.judge_node-returns-in-Member
 judge_node-returns-in-Member t c =
     let h = sym c.in-Member.ensures in
-    λ x. ret_member c.requires.1 c.args.header x _ h c.inside-in-Member.ensures (space_still c.judge_node-x-in-Member.auto.area c.judge_node-x-in-Member.auto.lens c.requires.0) c.judge_node-x-in-Member.ensures c.finish_member.ensures
+    λ x. ret_member c.requires.1 c.args.header x _ h c.inside-in-Member.ensures
+    (space_still c.judge_node-x-in-Member.auto.area c.judge_node-x-in-Member.auto.lens c.requires.0) c.judge_node-x-in-Member.ensures
+    c.finish_member.ensures
 
 pub judge_node-returns-else-not-c : goal.judge_node-returns-else-not-c
 judge_node-returns-else-not-c t c =
     let h = sym c.in-Call.ensures in
-    λ x. ret_call c.requires.1 (calls_fit _ _ c.requires.1) c.args.header x _ _ h c.inside-in-Call.ensures _ _ _ c.begin_call-c.ensures (yes_test _ c.if-not-c.false) (space_still c.judge_row-r.auto.area c.judge_row-r.auto.lens c.requires.0) c.judge_row-r.ensures c.finish_call.ensures
+    λ x. ret_call c.requires.1 (calls_fit _ _ c.requires.1) c.args.header x _ _ h c.inside-in-Call.ensures _ _ _ c.begin_call-c.ensures
+    (yes_test _ c.if-not-c.false) (space_still c.judge_row-r.auto.area c.judge_row-r.auto.lens c.requires.0) c.judge_row-r.ensures
+    c.finish_call.ensures
 
 pub judge_node-returns-else-not-c-2 : goal.judge_node-returns-else-not-c-2
 judge_node-returns-else-not-c-2 t c =
     let h = sym c.in-Method.ensures in
-    let lent = space_still (c.judge_row-r-in-Method.auto.area ∙ c.judge_node-x-in-Method.auto.area) (c.judge_row-r-in-Method.auto.lens ∙ c.judge_node-x-in-Method.auto.lens) c.requires.0 in
-    λ x. ret_method c.requires.1 (calls_fit _ _ c.requires.1) c.args.header x _ _ h c.inside-in-Method.ensures c.judge_node-x-in-Method.ensures c.requires.0 _ _ c.begin_method-c.ensures (yes_test _ c.if-not-c-2.false) lent c.judge_row-r-in-Method.ensures c.finish_call-in-Method.ensures
+    let lent = space_still (c.judge_row-r-in-Method.auto.area ∙ c.judge_node-x-in-Method.auto.area)
+    (c.judge_row-r-in-Method.auto.lens ∙ c.judge_node-x-in-Method.auto.lens) c.requires.0 in
+    λ x. ret_method c.requires.1 (calls_fit _ _ c.requires.1) c.args.header x _ _ h c.inside-in-Method.ensures c.judge_node-x-in-Method.ensures
+    c.requires.0 _ _ c.begin_method-c.ensures (yes_test _ c.if-not-c-2.false) lent c.judge_row-r-in-Method.ensures c.finish_call-in-Method.ensures
 
 pub judge_row-loop-k-init : goal.judge_row-loop-k-init
 judge_row-loop-k-init t c =
@@ -201,8 +273,14 @@ judge_row-loop-k-init t c =
 
 pub judge_row-judge_node-e-requires : goal.judge_row-judge_node-e-requires
 judge_row-judge_node-e-requires t c =
-    let turn = c.loop-k.invariant.1 c.requires.2 in
-    (below c.decreases (turn_falls turn), (space_still c.loop-k.auto.area c.loop-k.auto.lens c.requires.0, c.requires.1, turn_asked turn c.loop-k-test.true))
+    let turn = c.loop-k.invariant.1 c.requires.2 in (
+      below c.decreases (turn_falls turn),
+      (
+        space_still c.loop-k.auto.area c.loop-k.auto.lens c.requires.0,
+        c.requires.1,
+        turn_asked turn c.loop-k-test.true,
+      ),
+    )
 
 pub judge_row-loop-k-preserved : goal.judge_row-loop-k-preserved
 judge_row-loop-k-preserved t c =

@@ -6,7 +6,8 @@ pub returns-then-n-gt-MIDDLE_TABLE : goal.returns-then-n-gt-MIDDLE_TABLE
 returns-then-n-gt-MIDDLE_TABLE c = let e = lists_many _ c.if-n-gt-MIDDLE_TABLE.true in (rw e, rw e (omega arith), omega arith)
 
 pub returns-then-n-gt-SHORT_TABLE : goal.returns-then-n-gt-SHORT_TABLE
-returns-then-n-gt-SHORT_TABLE c = let e = lists_some _ c.if-n-gt-MIDDLE_TABLE.false c.if-n-gt-SHORT_TABLE.true in (rw e, rw e (omega arith), omega arith)
+returns-then-n-gt-SHORT_TABLE c = let e = lists_some _ c.if-n-gt-MIDDLE_TABLE.false c.if-n-gt-SHORT_TABLE.true in
+    (rw e, rw e (omega arith), omega arith)
 
 pub returns : goal.returns
 returns c = let e = lists_few _ c.if-n-gt-SHORT_TABLE.false in (rw e, rw e (omega arith), omega arith)

@@ -6,7 +6,14 @@ pub returns-then-n-gt-MIDDLE_TABLE : goal.returns-then-n-gt-MIDDLE_TABLE
 returns-then-n-gt-MIDDLE_TABLE c = (omega (arith, buckets_many _ c.if-n-gt-MIDDLE_TABLE.true, lists_many _ c.if-n-gt-MIDDLE_TABLE.true), omega arith)
 
 pub returns-then-n-gt-SHORT_TABLE : goal.returns-then-n-gt-SHORT_TABLE
-returns-then-n-gt-SHORT_TABLE c = (omega (arith, buckets_some _ c.if-n-gt-MIDDLE_TABLE.false c.if-n-gt-SHORT_TABLE.true, lists_some _ c.if-n-gt-MIDDLE_TABLE.false c.if-n-gt-SHORT_TABLE.true), omega arith)
+returns-then-n-gt-SHORT_TABLE c = (
+  omega (
+    arith,
+    buckets_some _ c.if-n-gt-MIDDLE_TABLE.false c.if-n-gt-SHORT_TABLE.true,
+    lists_some _ c.if-n-gt-MIDDLE_TABLE.false c.if-n-gt-SHORT_TABLE.true,
+  ),
+  omega arith,
+)
 
 pub returns : goal.returns
 returns c = (omega (arith, buckets_few _ c.if-n-gt-SHORT_TABLE.false, lists_few _ c.if-n-gt-SHORT_TABLE.false), omega arith)

@@ -10,7 +10,11 @@ pub read_function-f-requires : goal.read_function-f-requires
 read_function-f-requires c = (found_here_lem _ _ _ _ (first_listed _ c.requires.0.clean _ _ _ c.first_function-found.ensures) c.in-Here.is).here
 
 pub returns-in-Nothing : goal.returns-in-Nothing
-returns-in-Nothing c = method_none _ _ _ _ _ _ _ _ (found_none _ _ _ (first_listed _ c.requires.0.clean _ _ _ c.first_function-found.ensures) c.in-Nothing.is) c.no_list.ensures
+returns-in-Nothing c = method_none _ _ _ _ _ _ _ _ (found_none _ _ _ (first_listed _ c.requires.0.clean _ _ _ c.first_function-found.ensures)
+    c.in-Nothing.is) c.no_list.ensures
 
 pub returns-in-Here : goal.returns-in-Here
-returns-in-Here c = method_some _ _ _ _ _ _ _ _ (found_here_lem _ _ _ _ (first_listed _ c.requires.0.clean _ _ _ c.first_function-found.ensures) c.in-Here.is).first (ap (λ (o : Overload). o.visibility) (read_is _ _ (found_here_lem _ _ _ _ (first_listed _ c.requires.0.clean _ _ _ c.first_function-found.ensures) c.in-Here.is).here _ c.read_function-f.ensures).same) c.before_method-count.ensures c.listed.ensures
+returns-in-Here c = method_some _ _ _ _ _ _ _ _ (found_here_lem _ _ _ _ (first_listed _ c.requires.0.clean _ _ _ c.first_function-found.ensures)
+    c.in-Here.is).first (ap (λ (o : Overload). o.visibility)
+    (read_is _ _ (found_here_lem _ _ _ _ (first_listed _ c.requires.0.clean _ _ _ c.first_function-found.ensures) c.in-Here.is).here _
+    c.read_function-f.ensures).same) c.before_method-count.ensures c.listed.ensures

@@ -8,7 +8,8 @@ returns-then-either c = rw (c.alone.ensures, c.plain.ensures, ← c.either.ensur
 
 pub returns-in-Nothing : goal.returns-in-Nothing
 unfolding binary_ruled method_ruled
-returns-in-Nothing c = rw (c.builtin_binary.ensures, ← c.operator_overload_return-method.ensures, c.in-Nothing.is, ← c.either.ensures) (search chain depth 16)
+returns-in-Nothing c = rw (c.builtin_binary.ensures, ← c.operator_overload_return-method.ensures, c.in-Nothing.is, ← c.either.ensures)
+    (search chain depth 16)
 
 pub returns-in-Any : goal.returns-in-Any
 unfolding binary_ruled method_ruled

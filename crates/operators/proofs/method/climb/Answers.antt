@@ -20,7 +20,8 @@ loop-at-smaller c = rw c.superclass_of-at.ensures (super_below c.args.table.now 
 
 pub loop-at-preserved : goal.loop-at-preserved
 loop-at-preserved c =
-    rw c.superclass_of-at.ensures (going_up c.args.table.now _ _ _ c.loop-at-test.true c.loop-at.invariant _ c.in-Is.mask c.operators_of-set.ensures c.in-Is.is c.requires.0.clean
+    rw c.superclass_of-at.ensures (going_up c.args.table.now _ _ _ c.loop-at-test.true c.loop-at.invariant _ c.in-Is.mask c.operators_of-set.ensures
+    c.in-Is.is c.requires.0.clean
     (sym c.has_operator.ensures ∙ c.if-has_operator.false))
 
 pub returns : goal.returns

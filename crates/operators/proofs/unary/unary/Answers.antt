@@ -16,7 +16,8 @@ returns-then-op-eq-NOT c = rw (c.checked-then-op-eq-NOT.ensures, c.is_logical.en
 
 pub returns-then-op-le-DECREMENT : goal.returns-then-op-le-DECREMENT
 unfolding unary_one
-returns-then-op-le-DECREMENT c = rw (c.checked-then-op-le-DECREMENT.ensures, c.is_number-then-op-le-DECREMENT.ensures, ← c.kind_of-kind.ensures) (search chain depth 16)
+returns-then-op-le-DECREMENT c = rw (c.checked-then-op-le-DECREMENT.ensures, c.is_number-then-op-le-DECREMENT.ensures, ← c.kind_of-kind.ensures)
+    (search chain depth 16)
 
 pub returns-then-op-eq-ADDR_OF : goal.returns-then-op-eq-ADDR_OF
 unfolding unary_one

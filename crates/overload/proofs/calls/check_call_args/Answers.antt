@@ -18,9 +18,11 @@ settle-requires c = (
 )
 
 pub returns-in-Nothing : goal.returns-in-Nothing
-returns-in-Nothing c = answered_none _ c.requires.0.clean _ _ _ _ _ _ c.any_own-own.ensures (sym (args_length _ _ _ 0 _)) _ _ _ _ _ _ c.walk-w.ensures.0 c.walk-w.ensures.1
+returns-in-Nothing c = answered_none _ c.requires.0.clean _ _ _ _ _ _ c.any_own-own.ensures (sym (args_length _ _ _ 0 _)) _ _ _ _ _ _
+    c.walk-w.ensures.0 c.walk-w.ensures.1
     c.in-Nothing.is c.none_fits.ensures.0 c.none_fits.ensures.1
 
 pub returns-in-Here : goal.returns-in-Here
-returns-in-Here c = answered_some _ c.requires.0.clean _ _ _ _ _ _ c.any_own-own.ensures (sym (args_length _ _ _ 0 _)) _ _ _ _ _ _ c.walk-w.ensures.0 c.walk-w.ensures.1
+returns-in-Here c = answered_some _ c.requires.0.clean _ _ _ _ _ _ c.any_own-own.ensures (sym (args_length _ _ _ 0 _)) _ _ _ _ _ _ c.walk-w.ensures.0
+    c.walk-w.ensures.1
     _ c.in-Here.is c.settle.ensures.0 c.settle.ensures.1

@@ -4,7 +4,8 @@ use Rattle.overload.proofs.Reporting.{reported_none, reported_one, reported_as}
 use Rattle.overload.proofs.calls.none_fits.Goals as goal
 
 pub returns-then-own : goal.returns-then-own
-returns-then-own c = let told = reported_as (none_told _ _ _ c.if-own.true) (reported_one _ _ _ _ _ c.report-more.ensures.0 c.report-more.ensures.1) in
+returns-then-own c = let told = reported_as (none_told _ _ _ c.if-own.true) (reported_one _ _ _ _ _ c.report-more.ensures.0 c.report-more.ensures.1)
+    in
     called_told _ _ refl told
 
 pub returns : goal.returns

@@ -16,7 +16,12 @@ returns-then-h c = let s = c.args in
     called_told _ _ (source_best s.table.now s.p s.node xs s.w c.if-h.true) told
 
 pub by_index-checked-requires : goal.by_index-checked-requires
-by_index-checked-requires c = (c.requires.0, (read_is _ _ c.requires.1 _ c.read_function-f.ensures).count, c.requires.2, omega (arith, c.requires.3.count))
+by_index-checked-requires c = (
+  c.requires.0,
+  (read_is _ _ c.requires.1 _ c.read_function-f.ensures).count,
+  c.requires.2,
+  omega (arith, c.requires.3.count),
+)
 
 pub returns-then-w-eq1 : goal.returns-then-w-eq1
 returns-then-w-eq1 c = let s = c.args in
@@ -32,5 +37,6 @@ pub returns : goal.returns
 returns c = let s = c.args in
     let t = s.table.now in
     let xs = args_in s.area.now s.lens.now s.args in
-    let told = reported_as (diags_none t s.p s.node xs s.w c.if-h.false c.if-w-eq1.false) (reported_one _ _ _ _ _ c.report-more.ensures.0 c.report-more.ensures.1) in
+    let told = reported_as (diags_none t s.p s.node xs s.w c.if-h.false c.if-w-eq1.false)
+    (reported_one _ _ _ _ _ c.report-more.ensures.0 c.report-more.ensures.1) in
     called_told _ _ (source_none t s.p s.node xs s.w c.if-h.false c.if-w-eq1.false) told

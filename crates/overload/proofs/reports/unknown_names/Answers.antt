@@ -7,7 +7,12 @@ pub loop-i-init : goal.loop-i-init
 loop-i-init c = (omega arith, refl, unknown_start _ _ _ _)
 
 pub loop-i-preserved : goal.loop-i-preserved
-loop-i-preserved c = (omega arith, c.unknown_one-reported.auto.buf ∙ c.loop-i.invariant.1, unknown_turn _ _ _ _ _ _ _ (c.loop-i.invariant.2) _ _ (c.loop-i-test.true) (λ t. c.unknown_one-reported.ensures t))
+loop-i-preserved c = (
+  omega arith,
+  c.unknown_one-reported.auto.buf
+      ∙ c.loop-i.invariant.1,
+  unknown_turn _ _ _ _ _ _ _ c.loop-i.invariant.2 _ _ c.loop-i-test.true (λ t. c.unknown_one-reported.ensures t),
+)
 
 pub returns : goal.returns
-returns c = λ t a l. unknown_done _ _ _ _ _ _ _ (c.loop-i.invariant.2) (c.loop-i-test.false) t a l
+returns c = λ t a l. unknown_done _ _ _ _ _ _ _ c.loop-i.invariant.2 c.loop-i-test.false t a l

@@ -14,4 +14,5 @@ field_with-requires c = rw (c.read_type.ensures, c.tail.ensures) (ends_in 5 c.ar
 
 pub returns : goal.returns
 unfolding field_head
-returns c = passed _ _ _ _ (le-ltb _ _ c.if-s-lt5.false) (c.field_with.ensures ∙ rw (c.id_at.ensures, c.id_at-2.ensures, c.read_type.ensures, c.tail.ensures))
+returns c = passed _ _ _ _ (le-ltb _ _ c.if-s-lt5.false) (c.field_with.ensures
+    ∙ rw (c.id_at.ensures, c.id_at-2.ensures, c.read_type.ensures, c.tail.ensures))

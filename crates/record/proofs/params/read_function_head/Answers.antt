@@ -16,8 +16,10 @@ returns-then-byte_at-gt1 c = rw (c.broken-then-byte_at-gt1.ensures, ← c.byte_a
 
 pub returns-then-count-gt16 : goal.returns-then-count-gt16
 unfolding function_head
-returns-then-count-gt16 c = rw (c.broken-then-count-gt16.ensures, ← c.byte_at.ensures, ← c.byte_at-2.ensures, ← c.byte_at-count.ensures) (search chain depth 14)
+returns-then-count-gt16 c = rw (c.broken-then-count-gt16.ensures, ← c.byte_at.ensures, ← c.byte_at-2.ensures, ← c.byte_at-count.ensures)
+    (search chain depth 14)
 
 pub returns : goal.returns
 unfolding function_head
-returns c = rw (c.function_with.ensures, c.read_params.ensures, ← c.byte_at.ensures, ← c.byte_at-2.ensures, ← c.byte_at-count.ensures) (search chain depth 14)
+returns c = rw (c.function_with.ensures, c.read_params.ensures, ← c.byte_at.ensures, ← c.byte_at-2.ensures, ← c.byte_at-count.ensures)
+    (search chain depth 14)

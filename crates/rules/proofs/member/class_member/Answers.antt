@@ -4,7 +4,8 @@ use Rattle.rules.proofs.member.class_member.Goals as goal
 
 pub returns-then-is_variant : goal.returns-then-is_variant
 unfolding variable_or class_ruled
-returns-then-is_variant c = rw (c.clean-then-is_variant.ensures, ← c.lookup_var_ty-variable.ensures, c.in-Nothing.is, ← c.is_variant.ensures) (search chain depth 16)
+returns-then-is_variant c = rw (c.clean-then-is_variant.ensures, ← c.lookup_var_ty-variable.ensures, c.in-Nothing.is, ← c.is_variant.ensures)
+    (search chain depth 16)
 
 pub returns-then-in_types : goal.returns-then-in_types
 unfolding variable_or class_ruled

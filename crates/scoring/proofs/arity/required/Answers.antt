@@ -6,7 +6,7 @@ use Rattle.scoring.proofs.arity.required.Goals as goal
 use Rattle.scoring.proofs.arity.required.Goals.{then-not-params-i, else-not-params-i}
 
 pub loop-i-init : goal.loop-i-init
-loop-i-init c = (omega arith, omega arith, λ t. required-start t (c.args.params))
+loop-i-init c = (omega arith, omega arith, λ t. required-start t c.args.params)
 
 pub loop-i-preserved : goal.loop-i-preserved
 loop-i-preserved c =
@@ -26,4 +26,4 @@ loop-i-preserved c =
     ]
 
 pub returns : goal.returns
-returns c = λ t. required_all t (c.args.params) (c.loop-i.i) (c.loop-i.n) (c.loop-i.invariant.2 t) (c.loop-i-test.false)
+returns c = λ t. required_all t c.args.params c.loop-i.i c.loop-i.n (c.loop-i.invariant.2 t) c.loop-i-test.false

@@ -8,8 +8,9 @@ use Rattle.scoring.proofs.score.named_one.Goals as goal
 
 pub returns-then-id-eq-NONE : goal.returns-then-id-eq-NONE
 unfolding as_score
-returns-then-id-eq-NONE c = ap (λ (s : Option ℕ). as_score s) (named_none _ _ _ _ (c.if-id-eq-NONE.true))
+returns-then-id-eq-NONE c = ap (λ (s : Option ℕ). as_score s) (named_none _ _ _ _ c.if-id-eq-NONE.true)
 
 pub returns : goal.returns
 unfolding as_score
-returns c = c.compare_with.ensures ∙ ap (λ (s : Option ℕ). as_score s) (named_some _ (c.args.table.now) _ _ _ _ (named_place_is (c.args.table.now) _ _ _ (c.named_place.ensures (c.args.table.now))) (c.if-id-eq-NONE.false))
+returns c = c.compare_with.ensures ∙ ap (λ (s : Option ℕ). as_score s)
+    (named_some _ c.args.table.now _ _ _ _ (named_place_is c.args.table.now _ _ _ (c.named_place.ensures c.args.table.now)) c.if-id-eq-NONE.false)

@@ -6,7 +6,8 @@ use Rattle.symbol.specs.Lookup.{symbols_of}
 use Rattle.scoring.proofs.score.named_pass.Given as goal
 
 abbrev pub invariant-loop-i : goal.invariant-loop-i
-invariant-loop-i l = (l.i ≤ l.args.count) × ScoreOfSome l.m.score l.i × NamedFrom (symbols_of l.table) (params_in l.table l.params) l.area l.lens l.args (score_of l.m.score) l.m.marks l.i
+invariant-loop-i l = (l.i ≤ l.args.count) × ScoreOfSome l.m.score l.i × NamedFrom (symbols_of l.table) (params_in l.table l.params) l.area l.lens
+    l.args (score_of l.m.score) l.m.marks l.i
 
 abbrev pub decreases-loop-i : goal.decreases-loop-i
 decreases-loop-i l = l.args.count - l.i

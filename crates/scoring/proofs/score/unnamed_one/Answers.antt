@@ -7,16 +7,16 @@ use Rattle.scoring.proofs.score.unnamed_one.Goals as goal
 
 pub returns-then-id-ne-NONE : goal.returns-then-id-ne-NONE
 unfolding as_score
-returns-then-id-ne-NONE c = ap (λ (s : Option ℕ). as_score s) (unnamed_named _ _ _ _ _ _ _ (c.if-id-ne-NONE.true))
+returns-then-id-ne-NONE c = ap (λ (s : Option ℕ). as_score s) (unnamed_named _ _ _ _ _ _ _ c.if-id-ne-NONE.true)
 
 pub returns-then-j-params : goal.returns-then-j-params
 unfolding as_score
-returns-then-j-params c = c.compare.ensures ∙ ap (λ (s : Option ℕ). as_score s) (unnamed_free _ _ _ _ _ _ _ (c.if-id-ne-NONE.false) (c.if-j-params.true))
+returns-then-j-params c = c.compare.ensures ∙ ap (λ (s : Option ℕ). as_score s) (unnamed_free _ _ _ _ _ _ _ c.if-id-ne-NONE.false c.if-j-params.true)
 
 pub returns-then-v : goal.returns-then-v
 unfolding as_score
-returns-then-v c = ap (λ (s : Option ℕ). as_score s) (unnamed_vararg _ _ _ _ _ _ _ (c.if-id-ne-NONE.false) (c.if-j-params.false) (c.if-v.true))
+returns-then-v c = ap (λ (s : Option ℕ). as_score s) (unnamed_vararg _ _ _ _ _ _ _ c.if-id-ne-NONE.false c.if-j-params.false c.if-v.true)
 
 pub returns : goal.returns
 unfolding as_score
-returns c = ap (λ (s : Option ℕ). as_score s) (unnamed_missing _ _ _ _ _ _ _ (c.if-id-ne-NONE.false) (c.if-j-params.false) (c.if-v.false))
+returns c = ap (λ (s : Option ℕ). as_score s) (unnamed_missing _ _ _ _ _ _ _ c.if-id-ne-NONE.false c.if-j-params.false c.if-v.false)

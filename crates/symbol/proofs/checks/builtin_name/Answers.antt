@@ -13,4 +13,6 @@ pub name_at-requires : goal.name_at-requires
 name_at-requires c = name_room c.args.t.now c.args.me c.args.h c.requires c.if-h-ne1.false
 
 pub returns : goal.returns
-returns c = let x = stands_own c.args.t.now c.args.me c.args.h c.requires in rw (← x, eq-eqb _ _ c.if-h-ne1.false) (c.is_builtin.ensures ∙ ap (λ (z : List ℕ). spelled z builtin_names) (c.name_at.ensures ∙ name_bytes_lem c.args.t.now c.args.me c.args.h c.requires c.if-h-ne1.false))
+returns c = let x = stands_own c.args.t.now c.args.me c.args.h c.requires in
+    rw (← x, eq-eqb _ _ c.if-h-ne1.false) (c.is_builtin.ensures
+    ∙ ap (λ (z : List ℕ). spelled z builtin_names) (c.name_at.ensures ∙ name_bytes_lem c.args.t.now c.args.me c.args.h c.requires c.if-h-ne1.false))

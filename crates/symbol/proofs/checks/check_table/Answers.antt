@@ -6,7 +6,8 @@ use Rattle.symbol.proofs.Passes.{refused}
 use Rattle.symbol.proofs.checks.check_table.Goals as goal
 
 pub returns-then-table-gt60000-clause-value : goal.returns-then-table-gt60000-clause-value
-returns-then-table-gt60000-clause-value c = (c.refuse.ensures ∙ refused c.args.table.now 1 (long_fault c.args.table.now c.if-table-gt60000.true) (λ z. omega arith))
+returns-then-table-gt60000-clause-value c = (c.refuse.ensures
+    ∙ refused c.args.table.now 1 (long_fault c.args.table.now c.if-table-gt60000.true) (λ z. omega arith))
 
 pub returns-then-table-gt60000-clause-indexed_table : goal.returns-then-table-gt60000-clause-indexed_table
 returns-then-table-gt60000-clause-indexed_table c = (λ z. absurd (omega (arith, long_fault c.args.table.now c.if-table-gt60000.true)))

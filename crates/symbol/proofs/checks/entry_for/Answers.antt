@@ -19,39 +19,56 @@ returns-then-h-eq4 c = let k = c.if-h-eq4.true in
       key = list_fresh c.args.t.now c.args.x.now c.args.me c.args.h c.requires k;
       place =
           record {
-            function = ap (λ (z : Head). z.kind) (sym (c.requires.stands.head)) ∙ k;
-            bucket = c.list_reduced.ensures.0 ∙ ap (λ (z : ℕ). z % list_count (length c.args.t.now)) c.key_bucket.ensures.0 ∙ list-bucket c.args.t.now c.args.x.now c.args.me c.args.h c.requires k;
+            function = ap (λ (z : Head). z.kind) (sym c.requires.stands.head) ∙ k;
+            bucket = c.list_reduced.ensures.0 ∙ ap (λ (z : ℕ). z % list_count (length c.args.t.now)) c.key_bucket.ensures.0
+                ∙ list-bucket c.args.t.now c.args.x.now c.args.me c.args.h c.requires k;
             low = c.list_reduced.ensures.1;
           };
     }
 
 pub tree_of-b-requires : goal.tree_of-b-requires
-tree_of-b-requires c = subst (λ (z : Key). KeyIn c.args.t.now z) (sym c.key_of-key.ensures) (own_in c.args.t.now c.args.x.now c.args.me c.args.h c.requires)
+tree_of-b-requires c = subst (λ (z : Key). KeyIn c.args.t.now z) (sym c.key_of-key.ensures)
+    (own_in c.args.t.now c.args.x.now c.args.me c.args.h c.requires)
 
 pub returns-then-entry_at-eq0 : goal.returns-then-entry_at-eq0
-returns-then-entry_at-eq0 c = let f = root_free c.args.t.now c.args.x.now (key_at c.args.me c.args.h) c.tree_of-b.result c.entry_at.result (c.tree_of-b.ensures.0 ∙ ap (tree_for c.args.t.now) c.key_of-key.ensures) c.entry_at.ensures c.if-entry_at-eq0.true in
+returns-then-entry_at-eq0 c = let f = root_free c.args.t.now c.args.x.now (key_at c.args.me c.args.h) c.tree_of-b.result c.entry_at.result
+    (c.tree_of-b.ensures.0 ∙ ap (tree_for c.args.t.now) c.key_of-key.ensures) c.entry_at.ensures c.if-entry_at-eq0.true in
     record {
       key = key_free c.args.t.now c.args.x.now c.args.me c.args.h c.requires c.if-h-eq4.false (1 + c.tree_of-b.result) f;
       place =
           record {
-            other = λ z. c.if-h-eq4.false (ap (λ (y : Head). y.kind) (c.requires.stands.head) ∙ z);
-            free = subst (λ (z : Head). FreeIs c.args.t.now c.args.x.now (key_at c.args.me z) (1 + c.tree_of-b.result)) (c.requires.stands.head) f;
+            other = λ z. c.if-h-eq4.false (ap (λ (y : Head). y.kind) c.requires.stands.head ∙ z);
+            free = subst (λ (z : Head). FreeIs c.args.t.now c.args.x.now (key_at c.args.me z) (1 + c.tree_of-b.result)) c.requires.stands.head f;
           };
     }
 
 pub search-spot-requires : goal.search-spot-requires
-search-spot-requires c = (own_open c.args.t.now c.args.x.now c.args.me c.args.h c.requires, subst (λ (z : Key). KeyIn c.args.t.now z) (sym c.key_of-key.ensures) (own_in c.args.t.now c.args.x.now c.args.me c.args.h c.requires), c.tree_of-b.ensures.0)
+search-spot-requires c = (
+  own_open c.args.t.now c.args.x.now c.args.me c.args.h c.requires,
+  subst (λ (z : Key). KeyIn c.args.t.now z) (sym c.key_of-key.ensures) (own_in c.args.t.now c.args.x.now c.args.me c.args.h c.requires),
+  c.tree_of-b.ensures.0,
+)
 
 pub returns-in-Taken : goal.returns-in-Taken
-returns-in-Taken c = record { key = key_taken c.args.t.now c.args.x.now c.args.me c.args.h c.requires c.if-h-eq4.false _ (subst (λ (z : Spot). SpotIs c.args.t.now c.args.x.now (c.args.me.at) (key_at c.args.me c.args.h) z) c.in-Taken.is (search_spot c.args.t.now c.args.x.now (key_at c.args.me c.args.h) (own_open c.args.t.now c.args.x.now c.args.me c.args.h c.requires) c.search-spot.result (c.search-spot.ensures ∙ ap (search_of c.args.t.now c.args.x.now) c.key_of-key.ensures) (c.args.me.at) (c.requires.planted.tree))); place = tt }
+returns-in-Taken c = record {
+  key = key_taken c.args.t.now c.args.x.now c.args.me c.args.h c.requires c.if-h-eq4.false _
+      (subst (λ (z : Spot). SpotIs c.args.t.now c.args.x.now c.args.me.at (key_at c.args.me c.args.h) z) c.in-Taken.is
+      (search_spot c.args.t.now c.args.x.now (key_at c.args.me c.args.h) (own_open c.args.t.now c.args.x.now c.args.me c.args.h c.requires)
+      c.search-spot.result (c.search-spot.ensures ∙ ap (search_of c.args.t.now c.args.x.now) c.key_of-key.ensures) c.args.me.at
+      c.requires.planted.tree));
+  place = tt;
+}
 
 pub returns-in-Free : goal.returns-in-Free
-returns-in-Free c = let f = subst (λ (z : Spot). SpotIs c.args.t.now c.args.x.now (c.args.me.at) (key_at c.args.me c.args.h) z) c.in-Free.is (search_spot c.args.t.now c.args.x.now (key_at c.args.me c.args.h) (own_open c.args.t.now c.args.x.now c.args.me c.args.h c.requires) c.search-spot.result (c.search-spot.ensures ∙ ap (search_of c.args.t.now c.args.x.now) c.key_of-key.ensures) (c.args.me.at) (c.requires.planted.tree)) in
+returns-in-Free c = let f = subst (λ (z : Spot). SpotIs c.args.t.now c.args.x.now c.args.me.at (key_at c.args.me c.args.h) z) c.in-Free.is
+    (search_spot c.args.t.now c.args.x.now (key_at c.args.me c.args.h) (own_open c.args.t.now c.args.x.now c.args.me c.args.h c.requires)
+    c.search-spot.result (c.search-spot.ensures ∙ ap (search_of c.args.t.now c.args.x.now) c.key_of-key.ensures) c.args.me.at c.requires.planted.tree)
+    in
     record {
       key = key_free c.args.t.now c.args.x.now c.args.me c.args.h c.requires c.if-h-eq4.false _ f;
       place =
           record {
-            other = λ z. c.if-h-eq4.false (ap (λ (y : Head). y.kind) (c.requires.stands.head) ∙ z);
-            free = subst (λ (z : Head). FreeIs c.args.t.now c.args.x.now (key_at c.args.me z) (c.in-Free.at)) (c.requires.stands.head) f;
+            other = λ z. c.if-h-eq4.false (ap (λ (y : Head). y.kind) c.requires.stands.head ∙ z);
+            free = subst (λ (z : Head). FreeIs c.args.t.now c.args.x.now (key_at c.args.me z) c.in-Free.at) c.requires.stands.head f;
           };
     }

@@ -11,12 +11,20 @@ returns-then-is_taken c = chosen _ _ _ _ (sym c.requires.key ∙ sym c.is_taken.
 
 pub returns-then-missing-class_ahead : goal.returns-then-missing-class_ahead
 unfolding key_fault
-returns-then-missing-class_ahead c = passed _ _ _ _ (sym c.requires.key ∙ sym c.is_taken.ensures ∙ c.if-is_taken.false) (chosen _ _ _ _ (sym (late_is c.args.t.now c.args.late.now c.args.me c.args.h c.args.entry c.args.missing c.requires c.class_ahead.result c.class_ahead.ensures) ∙ c.if-missing-class_ahead.true) refl)
+returns-then-missing-class_ahead c = passed _ _ _ _ (sym c.requires.key ∙ sym c.is_taken.ensures ∙ c.if-is_taken.false)
+    (chosen _ _ _ _ (sym (late_is c.args.t.now c.args.late.now c.args.me c.args.h c.args.entry c.args.missing c.requires c.class_ahead.result
+    c.class_ahead.ensures) ∙ c.if-missing-class_ahead.true) refl)
 
 pub returns-then-h : goal.returns-then-h
 unfolding key_fault
-returns-then-h c = let x = stands_own c.args.t.now c.args.me c.args.h c.requires.stands in passed _ _ _ _ (sym c.requires.key ∙ sym c.is_taken.ensures ∙ c.if-is_taken.false) (passed _ _ _ _ (sym (late_is c.args.t.now c.args.late.now c.args.me c.args.h c.args.entry c.args.missing c.requires c.class_ahead.result c.class_ahead.ensures) ∙ c.if-missing-class_ahead.false) (rw (← x) (chosen _ _ _ _ c.if-h.true refl)))
+returns-then-h c = let x = stands_own c.args.t.now c.args.me c.args.h c.requires.stands in
+    passed _ _ _ _ (sym c.requires.key ∙ sym c.is_taken.ensures ∙ c.if-is_taken.false)
+    (passed _ _ _ _ (sym (late_is c.args.t.now c.args.late.now c.args.me c.args.h c.args.entry c.args.missing c.requires c.class_ahead.result
+    c.class_ahead.ensures) ∙ c.if-missing-class_ahead.false) (rw (← x) (chosen _ _ _ _ c.if-h.true refl)))
 
 pub returns : goal.returns
 unfolding key_fault
-returns c = let x = stands_own c.args.t.now c.args.me c.args.h c.requires.stands in passed _ _ _ _ (sym c.requires.key ∙ sym c.is_taken.ensures ∙ c.if-is_taken.false) (passed _ _ _ _ (sym (late_is c.args.t.now c.args.late.now c.args.me c.args.h c.args.entry c.args.missing c.requires c.class_ahead.result c.class_ahead.ensures) ∙ c.if-missing-class_ahead.false) (rw (← x) (passed _ _ _ _ c.if-h.false refl)))
+returns c = let x = stands_own c.args.t.now c.args.me c.args.h c.requires.stands in
+    passed _ _ _ _ (sym c.requires.key ∙ sym c.is_taken.ensures ∙ c.if-is_taken.false)
+    (passed _ _ _ _ (sym (late_is c.args.t.now c.args.late.now c.args.me c.args.h c.args.entry c.args.missing c.requires c.class_ahead.result
+    c.class_ahead.ensures) ∙ c.if-missing-class_ahead.false) (rw (← x) (passed _ _ _ _ c.if-h.false refl)))

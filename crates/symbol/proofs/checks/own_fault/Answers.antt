@@ -17,16 +17,26 @@ returns-then-h-kind c = let x = stands_own c.args.t.now c.args.me c.args.h c.req
 
 pub returns-then-not-id_defined : goal.returns-then-not-id_defined
 unfolding own_fault
-returns-then-not-id_defined c = let x = stands_own c.args.t.now c.args.me c.args.h c.requires.stands in rw (← x, ← c.requires.kind, ← c.requires.names, ← c.id_defined.ensures) (search chain depth 14)
+returns-then-not-id_defined c = let x = stands_own c.args.t.now c.args.me c.args.h c.requires.stands in
+    rw (← x, ← c.requires.kind, ← c.requires.names, ← c.id_defined.ensures) (search chain depth 14)
 
 pub returns-then-h-2 : goal.returns-then-h-2
 unfolding own_fault
-returns-then-h-2 c = let x = stands_own c.args.t.now c.args.me c.args.h c.requires.stands in rw (← x, ← c.requires.kind, ← c.requires.names, ← c.id_defined.ensures, c.if-h-2.true) (passed _ _ _ _ c.if-h.false (passed _ _ _ _ (le-ltb _ _ c.if-h-kind.false) (passed _ _ _ _ (ap not c.if-not-id_defined.false) (chosen _ _ _ _ refl refl))))
+returns-then-h-2 c = let x = stands_own c.args.t.now c.args.me c.args.h c.requires.stands in
+    rw (← x, ← c.requires.kind, ← c.requires.names, ← c.id_defined.ensures, c.if-h-2.true)
+    (passed _ _ _ _ c.if-h.false (passed _ _ _ _ (le-ltb _ _ c.if-h-kind.false)
+    (passed _ _ _ _ (ap not c.if-not-id_defined.false) (chosen _ _ _ _ refl refl))))
 
 pub returns-then-builtin_name : goal.returns-then-builtin_name
 unfolding own_fault
-returns-then-builtin_name c = let x = stands_own c.args.t.now c.args.me c.args.h c.requires.stands in rw (← c.builtin_name.ensures, ← x, ← c.requires.kind, ← c.requires.names, ← c.id_defined.ensures, c.if-h-2.false, c.if-builtin_name.true) (passed _ _ _ _ c.if-h.false (passed _ _ _ _ (le-ltb _ _ c.if-h-kind.false) (passed _ _ _ _ (ap not c.if-not-id_defined.false) (chosen _ _ _ _ refl refl))))
+returns-then-builtin_name c = let x = stands_own c.args.t.now c.args.me c.args.h c.requires.stands in
+    rw (← c.builtin_name.ensures, ← x, ← c.requires.kind, ← c.requires.names, ← c.id_defined.ensures, c.if-h-2.false, c.if-builtin_name.true)
+    (passed _ _ _ _ c.if-h.false (passed _ _ _ _ (le-ltb _ _ c.if-h-kind.false)
+    (passed _ _ _ _ (ap not c.if-not-id_defined.false) (chosen _ _ _ _ refl refl))))
 
 pub returns : goal.returns
 unfolding own_fault
-returns c = let x = stands_own c.args.t.now c.args.me c.args.h c.requires.stands in rw (← c.builtin_name.ensures, ← x, ← c.requires.kind, ← c.requires.names, ← c.id_defined.ensures, c.if-h-2.false, c.if-builtin_name.false) (passed _ _ _ _ c.if-h.false (passed _ _ _ _ (le-ltb _ _ c.if-h-kind.false) (passed _ _ _ _ (ap not c.if-not-id_defined.false) (passed _ _ _ _ refl refl))))
+returns c = let x = stands_own c.args.t.now c.args.me c.args.h c.requires.stands in
+    rw (← c.builtin_name.ensures, ← x, ← c.requires.kind, ← c.requires.names, ← c.id_defined.ensures, c.if-h-2.false, c.if-builtin_name.false)
+    (passed _ _ _ _ c.if-h.false (passed _ _ _ _ (le-ltb _ _ c.if-h-kind.false)
+    (passed _ _ _ _ (ap not c.if-not-id_defined.false) (passed _ _ _ _ refl refl))))

@@ -11,8 +11,10 @@ returns-then-h-ne2 c = let x = stands_own c.args.t.now c.args.me c.args.h c.requ
 
 pub returns-then-h-eq-NONE : goal.returns-then-h-eq-NONE
 unfolding super_missing
-returns-then-h-eq-NONE c = let x = stands_own c.args.t.now c.args.me c.args.h c.requires.stands in rw (← x, eq-eqb _ _ c.if-h-ne2.false, eq-eqb _ _ c.if-h-eq-NONE.true)
+returns-then-h-eq-NONE c = let x = stands_own c.args.t.now c.args.me c.args.h c.requires.stands in
+    rw (← x, eq-eqb _ _ c.if-h-ne2.false, eq-eqb _ _ c.if-h-eq-NONE.true)
 
 pub returns : goal.returns
 unfolding super_missing
-returns c = let x = stands_own c.args.t.now c.args.me c.args.h c.requires.stands in rw (← x, eq-eqb _ _ c.if-h-ne2.false, ne_eqb _ _ c.if-h-eq-NONE.false) (ap not c.class_before.ensures)
+returns c = let x = stands_own c.args.t.now c.args.me c.args.h c.requires.stands in
+    rw (← x, eq-eqb _ _ c.if-h-ne2.false, ne_eqb _ _ c.if-h-eq-NONE.false) (ap not c.class_before.ensures)

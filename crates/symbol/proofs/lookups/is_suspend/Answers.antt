@@ -4,7 +4,9 @@ use Rattle.record.specs.Table.{records_of}
 use Rattle.symbol.proofs.lookups.is_suspend.Goals as goal
 
 pub returns-in-Here : goal.returns-in-Here
-returns-in-Here c = let h = rw c.in-Here.is at (found_first c.args.t.now c.requires.clean 7 c.args.owner c.args.name c.seek-f.result c.seek-f.ensures) in rw (← suspend_told (records_of c.args.t.now) c.args.owner c.args.name, h.first)
+returns-in-Here c = let h = rw c.in-Here.is at (found_first c.args.t.now c.requires.clean 7 c.args.owner c.args.name c.seek-f.result c.seek-f.ensures)
+    in rw (← suspend_told (records_of c.args.t.now) c.args.owner c.args.name, h.first)
 
 pub returns-in-Nothing : goal.returns-in-Nothing
-returns-in-Nothing c = let e = rw c.in-Nothing.is at (found_first c.args.t.now c.requires.clean 7 c.args.owner c.args.name c.seek-f.result c.seek-f.ensures) in rw (← suspend_told (records_of c.args.t.now) c.args.owner c.args.name, e)
+returns-in-Nothing c = let e = rw c.in-Nothing.is at (found_first c.args.t.now c.requires.clean 7 c.args.owner c.args.name c.seek-f.result
+    c.seek-f.ensures) in rw (← suspend_told (records_of c.args.t.now) c.args.owner c.args.name, e)

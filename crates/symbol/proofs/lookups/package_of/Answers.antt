@@ -7,10 +7,15 @@ use Rattle.record.specs.Table.{records_of}
 use Rattle.symbol.proofs.lookups.package_of.Goals as goal
 
 pub overflow_add-p : goal.overflow_add-p
-overflow_add-p c = let h = rw c.in-Here.is at (found_first c.args.t.now c.requires.clean 2 c.args.class 0 c.seek-f.result c.seek-f.ensures) in omega (arith, place_inside c.args.t.now _ 2 c.args.class 0 c.in-Here.p h)
+overflow_add-p c = let h = rw c.in-Here.is at (found_first c.args.t.now c.requires.clean 2 c.args.class 0 c.seek-f.result c.seek-f.ensures) in
+    omega (arith, place_inside c.args.t.now _ 2 c.args.class 0 c.in-Here.p h)
 
 pub returns-in-Here : goal.returns-in-Here
-returns-in-Here c = let h = rw c.in-Here.is at (found_first c.args.t.now c.requires.clean 2 c.args.class 0 c.seek-f.result c.seek-f.ensures) in let n = (place-fits c.args.t.now _ 2 c.args.class 0 c.in-Here.p h).class refl in rw (← package_told (records_of c.args.t.now) c.args.class, h.first) (c.id_at.ensures ∙ sym (place_id c.args.t.now _ 2 c.args.class 0 c.in-Here.p h 5 (omega arith)))
+returns-in-Here c = let h = rw c.in-Here.is at (found_first c.args.t.now c.requires.clean 2 c.args.class 0 c.seek-f.result c.seek-f.ensures) in
+    let n = (place-fits c.args.t.now _ 2 c.args.class 0 c.in-Here.p h).class refl in
+    rw (← package_told (records_of c.args.t.now) c.args.class, h.first)
+    (c.id_at.ensures ∙ sym (place_id c.args.t.now _ 2 c.args.class 0 c.in-Here.p h 5 (omega arith)))
 
 pub returns-in-Nothing : goal.returns-in-Nothing
-returns-in-Nothing c = let e = rw c.in-Nothing.is at (found_first c.args.t.now c.requires.clean 2 c.args.class 0 c.seek-f.result c.seek-f.ensures) in rw (← package_told (records_of c.args.t.now) c.args.class, e)
+returns-in-Nothing c = let e = rw c.in-Nothing.is at (found_first c.args.t.now c.requires.clean 2 c.args.class 0 c.seek-f.result c.seek-f.ensures) in
+    rw (← package_told (records_of c.args.t.now) c.args.class, e)

@@ -7,10 +7,19 @@ use Rattle.record.specs.Table.{records_of}
 use Rattle.symbol.proofs.lookups.visibility_of.Goals as goal
 
 pub overflow_add-p : goal.overflow_add-p
-overflow_add-p c = let h = rw c.in-Here.is at (found_first c.args.t.now c.requires.clean 6 c.args.owner c.args.name c.seek-f.result c.seek-f.ensures) in omega (arith, place_inside c.args.t.now _ 6 c.args.owner c.args.name c.in-Here.p h)
+overflow_add-p c = let h = rw c.in-Here.is at (found_first c.args.t.now c.requires.clean 6 c.args.owner c.args.name c.seek-f.result c.seek-f.ensures)
+    in omega (arith, place_inside c.args.t.now _ 6 c.args.owner c.args.name c.in-Here.p h)
 
 pub returns-in-Here : goal.returns-in-Here
-returns-in-Here c = let h = rw c.in-Here.is at (found_first c.args.t.now c.requires.clean 6 c.args.owner c.args.name c.seek-f.result c.seek-f.ensures) in let n = (place-fits c.args.t.now _ 6 c.args.owner c.args.name c.in-Here.p h).visibility refl in rw (← visibility_told (records_of c.args.t.now) c.args.owner c.args.name, h.first, place_byte c.args.t.now _ 6 c.args.owner c.args.name c.in-Here.p h 5 (omega arith), c.byte_at.ensures)
+returns-in-Here c = let h = rw c.in-Here.is at (found_first c.args.t.now c.requires.clean 6 c.args.owner c.args.name c.seek-f.result c.seek-f.ensures)
+    in let n = (place-fits c.args.t.now _ 6 c.args.owner c.args.name c.in-Here.p h).visibility refl in
+    rw (
+      ← visibility_told (records_of c.args.t.now) c.args.owner c.args.name,
+      h.first,
+      place_byte c.args.t.now _ 6 c.args.owner c.args.name c.in-Here.p h 5 (omega arith),
+      c.byte_at.ensures,
+    )
 
 pub returns-in-Nothing : goal.returns-in-Nothing
-returns-in-Nothing c = let e = rw c.in-Nothing.is at (found_first c.args.t.now c.requires.clean 6 c.args.owner c.args.name c.seek-f.result c.seek-f.ensures) in rw (← visibility_told (records_of c.args.t.now) c.args.owner c.args.name, e)
+returns-in-Nothing c = let e = rw c.in-Nothing.is at (found_first c.args.t.now c.requires.clean 6 c.args.owner c.args.name c.seek-f.result
+    c.seek-f.ensures) in rw (← visibility_told (records_of c.args.t.now) c.args.owner c.args.name, e)

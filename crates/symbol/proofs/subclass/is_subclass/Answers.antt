@@ -13,7 +13,8 @@ pub loop-at-smaller : goal.loop-at-smaller
 loop-at-smaller c = rw c.superclass_of-at-in-loop-at.ensures (super_below c.args.t.now c.requires.clean _ c.loop-at-test.true)
 
 pub loop-at-preserved : goal.loop-at-preserved
-loop-at-preserved c = rw c.superclass_of-at-in-loop-at.ensures (climbing_up c.args.t.now c.requires.clean _ _ _ c.loop-at.invariant c.loop-at-test.true c.if-at-above.false)
+loop-at-preserved c = rw c.superclass_of-at-in-loop-at.ensures
+    (climbing_up c.args.t.now c.requires.clean _ _ _ c.loop-at.invariant c.loop-at-test.true c.if-at-above.false)
 
 pub returns : goal.returns
 returns c = sym (climbing_end c.args.t.now c.requires.clean _ _ _ c.loop-at.invariant c.loop-at-test.false)

@@ -11,7 +11,8 @@ use Rattle.ty.specs.declared.read.Item.{Item}
 use Rattle.ty.proofs.read.read_type.Goals as goal
 
 -- What a turn finds, by the item r that the call gave.
-found : (s : List ℕ) (limit end at pending top : ℕ) (e : Bool) (i r : Item) → end ≡ min (length s) limit → (at ≤ end) × (pending ≤ 17 * at + 1) × Going s limit end at pending top e
+found : (s : List ℕ) (limit end at pending top : ℕ) (e : Bool) (i r : Item) → end ≡ min (length s) limit → (at ≤ end) × (pending ≤ 17 * at + 1)
+    × Going s limit end at pending top e
     → (pending ≡ 0 → ⊥) → i ≡ item_at s end at → i ≡ r → Turned s limit end at pending top e r
 found s limit end at pending top e i r q v p h w = turn s limit end at pending top e q v.0 v.2 p r (sym w ∙ h)
 
@@ -34,19 +35,22 @@ returns-in-Out c =
 pub overflow_add-pending : goal.overflow_add-pending
 overflow_add-pending c =
     let w = found c.args.s.now c.args.limit c.least-end.result c.loop-pending.at c.loop-pending.pending c.loop-pending.top c.loop-pending.error
-    c.item_at-found.result (Part c.in-Part.next c.in-Part.more c.in-Part.id c.in-Part.e) c.least-end.ensures c.loop-pending.invariant c.loop-pending-test.true c.item_at-found.ensures c.in-Part.is in
+    c.item_at-found.result (Part c.in-Part.next c.in-Part.more c.in-Part.id c.in-Part.e) c.least-end.ensures c.loop-pending.invariant
+    c.loop-pending-test.true c.item_at-found.ensures c.in-Part.is in
     omega arith
 
 pub loop-pending-smaller : goal.loop-pending-smaller
 loop-pending-smaller c =
     let w = found c.args.s.now c.args.limit c.least-end.result c.loop-pending.at c.loop-pending.pending c.loop-pending.top c.loop-pending.error
-    c.item_at-found.result (Part c.in-Part.next c.in-Part.more c.in-Part.id c.in-Part.e) c.least-end.ensures c.loop-pending.invariant c.loop-pending-test.true c.item_at-found.ensures c.in-Part.is in
+    c.item_at-found.result (Part c.in-Part.next c.in-Part.more c.in-Part.id c.in-Part.e) c.least-end.ensures c.loop-pending.invariant
+    c.loop-pending-test.true c.item_at-found.ensures c.in-Part.is in
     omega arith
 
 pub loop-pending-preserved : goal.loop-pending-preserved
 loop-pending-preserved c =
     let w = found c.args.s.now c.args.limit c.least-end.result c.loop-pending.at c.loop-pending.pending c.loop-pending.top c.loop-pending.error
-    c.item_at-found.result (Part c.in-Part.next c.in-Part.more c.in-Part.id c.in-Part.e) c.least-end.ensures c.loop-pending.invariant c.loop-pending-test.true c.item_at-found.ensures c.in-Part.is in
+    c.item_at-found.result (Part c.in-Part.next c.in-Part.more c.in-Part.id c.in-Part.e) c.least-end.ensures c.loop-pending.invariant
+    c.loop-pending-test.true c.item_at-found.ensures c.in-Part.is in
     (omega arith, omega arith, rw c.highest-top.ensures w.3)
 
 pub returns : goal.returns

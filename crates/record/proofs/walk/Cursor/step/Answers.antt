@@ -6,4 +6,13 @@ use Rattle.ty.proofs.Laws.{part-drop}
 use Rattle.record.proofs.walk.Cursor.step.Goals as goal
 
 pub returns : goal.returns
-returns c = let h = rw (part-drop c.args.self.at c.args.t.now) at c.read_record-head.ensures in record { head = h.same; own = h.same ∙ sym (record_own c.args.t.now c.args.self c.requires.0); next = refl; index = refl; low = omega (arith, h.low); high = omega (arith, h.high, length-drop c.args.self.at c.args.t.now) }
+returns c = let h = rw (part-drop c.args.self.at c.args.t.now) at c.read_record-head.ensures in
+    record {
+      head = h.same;
+      own = h.same ∙ sym (record_own c.args.t.now c.args.self c.requires.0);
+      next = refl;
+      index = refl;
+      low = omega
+          (arith, h.low);
+      high = omega (arith, h.high, length-drop c.args.self.at c.args.t.now);
+    }
