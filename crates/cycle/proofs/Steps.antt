@@ -23,7 +23,7 @@ use Rattle.question.proofs.Trees.{after_size, some_size}
 use Rattle.question.specs.Legal.{Legal}
 use Rattle.question.specs.NodeRead.{node_at}
 use Rattle.question.specs.Inside.Stands.{TreeStands}
-use Rattle.question.specs.Tree.{Node, binary, unary, named, member, call, number_after, size, count, bytes}
+use Rattle.question.specs.Tree.{Node, binary, unary, named, member, number_after, size, bytes}
 use Rattle.question.specs.declared.Header.{Header}
 use Rattle.question.specs.declared.node.NodeRead.TheVariants.{Bad, Leaf, Endless, Binary, Unary, Named, Member}
 use Rattle.operators.specs.Binary.{binary_out}

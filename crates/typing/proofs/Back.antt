@@ -15,7 +15,7 @@ use Rattle.question.specs.declared.Header.{Header}
 use Rattle.operators.specs.Binary.{binary_out}
 use Rattle.operators.specs.Diag.{reported_at as at}
 use Rattle.rules.specs.Member.{member_out}
-use Rattle.operators.specs.Out.{Out, Report, any_ty, clean, error_ty, found}
+use Rattle.operators.specs.Out.{Out, Report, any_ty, clean, error_ty}
 use Rattle.operators.specs.Unary.{unary_out}
 use Rattle.symbol.specs.Symbols.{Symbols}
 use Rattle.ty.specs.Bytes.{Ty}

@@ -9,7 +9,6 @@ use mathlib.Core.Option.{Option, none, some}
 use mathlib.Core.Path.{◌≡◌, refl, ap, sym, ◌∙◌, subst}
 use native.Mathlib.Omega.{arith}
 use Rattle.area.specs.Diagnostic.{Diag}
-use Rattle.operators.specs.Diag.{reported_at as at}
 use Rattle.scoring.proofs.NoneAndNil.{some≢none}
 use Rattle.operators.specs.Out.{error_ty}
 use Rattle.ty.proofs.Choice.{and_left, and_right}

@@ -13,7 +13,6 @@ use Rattle.scoring.proofs.NoneAndNil.{some≢none}
 use Rattle.scoring.specs.Arg.{Arg}
 use Rattle.overload.specs.Best.{Best, best, better, chosen, nobody}
 use Rattle.scoring.specs.Score.{score}
-use Rattle.operators.specs.Diag.{reported_at as at}
 use Rattle.symbol.specs.Symbols.{Overload, Symbols}
 use Rattle.ty.specs.Choose.{choose}
 use Rattle.typing.proofs.Base.{some_inj}

@@ -9,14 +9,12 @@ use Rattle.scoring.proofs.NoneAndNil.{some≢none}
 use Rattle.scoring.specs.Arg.{Arg}
 use Rattle.question.specs.Tree.{Node, Row, number_after, number_after_row, binary, call, cons, leaf, member, method, named, nil, unary}
 use Rattle.question.specs.declared.Header.{Header}
-use Rattle.operators.specs.Diag.{reported_at as at}
 use Rattle.operators.specs.Out.{any_ty, error_ty}
 use Rattle.symbol.specs.Symbols.{Symbols}
 use Rattle.ty.specs.Bytes.{Ty}
 use Rattle.typing.proofs.Base.{some_inj}
 use Rattle.typing.proofs.Structural.{Has, NoCall, RowTyped, Structural, Typed, Unvisited, WithArgs}
 use Rattle.typing.proofs.Visited.{typed_has, method_listed, visited_iff, visited_real}
-use Rattle.typing.specs.Answer.{given}
 use Rattle.typing.specs.CleanCall.{CleanMethod, HasList}
 use Rattle.typing.specs.Typing.{ArgsBy, Subtree, IsTyping, RowSubtree, RuleAt}
 use Rattle.typing.specs.Visits.{Choice, ListedBy, RowVisits, Visits}

@@ -13,7 +13,7 @@ use Rattle.overload.specs.Resolve.{resolve}
 use Rattle.question.specs.Tree.{Node, Row, number_after, number_after_row, binary, call, cons, leaf, member, method, argument_name, named, nil, unary}
 use Rattle.question.specs.declared.Header.{Header}
 use Rattle.operators.specs.Diag.{reported_at as at}
-use Rattle.operators.specs.Out.{Out, Report, any_ty, clean, found}
+use Rattle.operators.specs.Out.{Out, Report, any_ty, clean}
 use Rattle.symbol.specs.Symbols.{Symbols}
 use Rattle.ty.specs.Bytes.{Ty}
 use Rattle.typing.proofs.Base.{no_error_append, no_error-one, Within, within_join, within_wide, Same, same_join, same_done, split, some_inj}

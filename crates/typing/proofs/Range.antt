@@ -4,7 +4,7 @@ use mathlib.Core.List.{[], ◌++◌}
 use mathlib.Core.Option.{Option, none, some}
 use Rattle.question.specs.Tree.{Node, Row, number_after, number_after_row, binary, call, cons, leaf, member, method, named, nil, unary}
 use Rattle.question.specs.declared.Header.{Header}
-use Rattle.operators.specs.Out.{any_ty, error_ty, found}
+use Rattle.operators.specs.Out.{any_ty, error_ty}
 use Rattle.symbol.specs.Symbols.{Symbols}
 use Rattle.typing.proofs.Base.{Within, within_nil, within_join, within_done, within_wide}
 use Rattle.typing.specs.Callee.{Callee, call_of, method_of}

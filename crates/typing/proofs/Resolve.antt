@@ -25,7 +25,6 @@ use Rattle.ty.specs.Bytes.{Ty}
 use Rattle.ty.specs.Choose.{choose}
 use Rattle.typing.proofs.Chosen.{wins_chosen, Stands, chosen_stands, chosen_nobody}
 use Rattle.typing.specs.CleanCall.{AllKnown, ByIndex, ByScore, CleanArgs, Known, candidates}
-use Rattle.typing.specs.Judge.{called}
 
 -- known names
 known_found : (id : ℕ) (ps : List Param) → Known id ps → param_named id ps ≡ none → ⊥

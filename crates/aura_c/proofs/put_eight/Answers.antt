@@ -1,4 +1,3 @@
-use borrow.Author.Rules.{rules}
 use Rattle.aura_c.proofs.NumberBytes.{put_eight}
 use Rattle.aura_c.proofs.put_eight.Goals as goal
 

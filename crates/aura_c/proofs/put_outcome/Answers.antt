@@ -1,7 +1,4 @@
-use borrow.Author.Rules.{rules}
-use lib.ListN.{length-set}
-use native.Mathlib.Omega.{arith}
-use Rattle.aura_c.proofs.Stored.{first-length, second_length, all_stored}
+use Rattle.aura_c.proofs.Stored.{all_stored}
 use Rattle.aura_c.proofs.put_outcome.Goals as goal
 
 pub returns : goal.returns

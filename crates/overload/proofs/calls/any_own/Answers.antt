@@ -1,6 +1,3 @@
-use mathlib.Core.Bool.{not}
-use mathlib.Core.Path.{ap}
-use borrow.Author.Tests.{not-true, not-false}
 use mathlib.Core.Path.{refl}
 use Rattle.overload.proofs.FunctionListWalk.{own-start, own_none, own-found, own-place, own_on, left_less}
 use Rattle.symbol.proofs.FunctionCursors.{first-here, along_first, along_next, nothing_here, cursor_here, cursor_stands, cursor_next}

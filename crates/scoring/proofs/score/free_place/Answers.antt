@@ -1,6 +1,3 @@
-use mathlib.Core.Bool.{not}
-use mathlib.Core.Path.{ap}
-use borrow.Author.Tests.{not-true, not-false}
 use native.Mathlib.Omega.{arith}
 use Rattle.scoring.proofs.ParamSearch.{free_turn, free-here, free_none}
 use Rattle.scoring.proofs.score.free_place.Goals as goal
