@@ -1,4 +1,4 @@
-//! Links the proved judge: libaura_c.a, which `rt staticlib aura_c` writes.
+//! Links the proved judge: libaura_c.a, which `rt lib` in crates/aura_c writes.
 
 use std::path::PathBuf;
 
@@ -7,12 +7,12 @@ fn main() {
     let root = PathBuf::from(std::env::var("CARGO_MANIFEST_DIR").expect("cargo names the package's folder"));
     let (folder, from) = match std::env::var_os("AURA_LIB_DIR") {
         Some(folder) => (PathBuf::from(folder), "AURA_LIB_DIR names this folder"),
-        None => (root.join("../target/staticlib"), "AURA_LIB_DIR is not set"),
+        None => (root.join("../crates/aura_c/out"), "AURA_LIB_DIR is not set"),
     };
     let library = folder.join("libaura_c.a");
     if !library.is_file() {
         eprintln!(
-            "{} is missing ({}).\nRun `rt staticlib aura_c` in the repository, or set AURA_LIB_DIR to the folder that holds libaura_c.a.",
+            "{} is missing ({}).\nRun `rt lib` in the repository's crates/aura_c, or set AURA_LIB_DIR to the folder that holds libaura_c.a.",
             library.display(),
             from
         );

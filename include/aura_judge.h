@@ -1,4 +1,4 @@
-/* The Aura page-script type judge, as a static library (libaura_c.a, from `rt staticlib aura_c`). Every function is
+/* The Aura page-script type judge, as a static library (libaura_c.a, from `rt lib` in crates/aura_c). Every function is
    proved to do what is said here, whatever the bytes are; none keeps a pointer, allocates or calls out.
    docs/FORMAT.md has the bytes of tables, questions and types, the numbers of refusals and the kinds of diagnostics. */
 #ifndef AURA_JUDGE_H

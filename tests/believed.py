@@ -16,22 +16,22 @@ import believed  # noqa: E402
 SOUND = {
     "crates/ty/specs/Lib.antt": "pub mod Bytes\npub mod Inside\n",
     "crates/ty/specs/Inside.antt": "pub mod Slot\n",
-    "crates/ty/specs/Bytes.antt": "-- Types. use Rattle·ty·specs.specs.Inside.Slot.{slotOf}\nuse Prim.Native.Nat.{ℕ}\n\n"
+    "crates/ty/specs/Bytes.antt": "-- Types. use Rattle.ty.specs.Inside.Slot.{slot_of}\nuse Rattle.std.specs.Prelude.{ℕ}\n\n"
                                   "abbrev pub Ty : Type 0\nTy = ℕ  -- as bytes\n",
-    "crates/ty/specs/Inside/Slot.antt": "use Rattle·ty·specs.specs.Bytes.{Ty}\n\npub slotOf : Ty\nslotOf = 0\n\npub _≺_ : Ty\n_≺_ = 1\n",
+    "crates/ty/specs/Inside/Slot.antt": "use Rattle.ty.specs.Bytes.{Ty}\n\npub slot_of : Ty\nslot_of = 0\n\npub ◌≺◌ : Ty\n◌≺◌ = 1\n",
     "crates/judge/specs/Lib.antt": "pub mod Answer\n",
-    "crates/judge/specs/Answer.antt": "use Rattle·ty.specs.Bytes as bytes\nuse Rattle·judge·specs.specs.declared.State.{State}\n\n"
+    "crates/judge/specs/Answer.antt": "use Rattle.ty.specs.Bytes as bytes\nuse Rattle.judge.specs.declared.State.{State}\n\n"
                                       "pub record Answered : Type 0 where\n  pub ty : bytes.Ty\n",
     "crates/judge/src/lib.rt": "// judge\npub mod cycle;\n\nuse cycle::step;\n"
-                               "ghost use Rattle·judge·specs.specs.Answer.{Answered as Told};\n"
-                               "ghost use Rattle·ty.specs.Inside.Slot.{slotOf as slot, _≺_};\n"
-                               "ghost use Rattle·ty.specs.Inside.Slot as slots;\n\n"
-                               "fn own(x: u8) -> u8\n    ensures { λ r. ⌜ slot r ⌝ }\n{\n    x\n}\n\n"
-                               "pub fn judge(x: u8) -> u8\n    requires { ⌜ 0 x ⌝ }\n    ensures { λ r. ⌜ Told r ⌝ }\n{\n"
-                               "    // ensures { slot }\n    step(own(x))\n}\n",
-    "crates/judge/src/cycle.rt": "ghost use Rattle·ty.specs.Inside.Slot.{slotOf};\n\n"
-                                 "pub fn step(x: u8) -> u8\n    ensures { λ r. ⌜ slotOf r ⌝ }\n{\n    x\n}\n",
-    "crates/judge/proofs/Lib.antt": "use Rattle·ty.specs.Inside.Slot.{slotOf}\n",
+                               "ghost use Rattle.judge.specs.Answer.{Answered as Told};\n"
+                               "ghost use Rattle.ty.specs.Inside.Slot.{slot_of as slot, ◌≺◌};\n"
+                               "ghost use Rattle.ty.specs.Inside.Slot as slots;\n\n"
+                               "fn own(x: u8) -> u8\n    ensures { slot result }\n{\n    x\n}\n\n"
+                               "pub fn judge(x: u8) -> u8\n    requires { 0 x }\n    ensures { Told result }\n{\n"
+                               "    // ensures { slot }\n    /* requires { slot } */\n    step(own(x))\n}\n",
+    "crates/judge/src/cycle.rt": "ghost use Rattle.ty.specs.Inside.Slot.{slot_of};\n\n"
+                                 "pub fn step(x: u8) -> u8\n    ensures { slot_of result }\n{\n    x\n}\n",
+    "crates/judge/proofs/Lib.antt": "use Rattle.ty.specs.Inside.Slot.{slot_of}\n",
     "crates/aura_c/src/lib.rt": "use judge::judge;\n",
 }
 ANSWER, LIB, BYTES = "crates/judge/specs/Answer.antt", "crates/judge/src/lib.rt", "crates/ty/specs/Bytes.antt"
@@ -70,7 +70,7 @@ class Counts(Case):
         for text, lines in [
             ("", 0), ("-- a\n  -- b\n\n \n", 0), ("{- a\nb -}\n", 0), ("f : ℕ  -- a\n", 1), ("f : a--b\n\n", 1),
             ("use A.B.{a, b}\n", 0), ("use A.B as c\nuse A.B\npub use B.*\n", 0),
-            ("use A.B.{\n  a,\n  b as c,\n}\n", 0), ("use A.B.{a,\n  b}\nf : ℕ\n", 1), ("use A.B\n    as c\nf : ℕ\n", 1),
+            ("unfoldable pub use A.B.*\n  use A.B.{a}\n", 0), ("use A.B.{\n  a,\n  b as c,\n}\n", 0), ("use A.B.{a,\n  b}\nf : ℕ\n", 1), ("use A.B\n    as c\nf : ℕ\n", 1),
             ("module _ (S : A) where\n  -- a\n  pub f : ℕ\n  f = 0\n", 3), ("user : ℕ\n", 1),
         ]:
             root = self.tree(files={"crates/a/specs/A.antt": text})
@@ -79,70 +79,84 @@ class Counts(Case):
     def test_the_exit_status_and_what_is_printed(self):
         self.assertEqual(self.run_on(self.tree()), (0, TABLE))
         root = self.tree((ANSWER, "Bytes as bytes", "Gone as bytes"))
-        self.assertEqual(self.run_on(root), (1, f"{TABLE}{ANSWER}:1: there is no module Rattle·ty.specs.Gone\n"))
+        self.assertEqual(self.run_on(root), (1, f"{TABLE}{ANSWER}:1: there is no module Rattle.ty.specs.Gone\n"))
 
 
 class Imports(Case):
     def test_none_of_an_inside(self):
         self.finds(None)
-        for new, line, path in [
-            ("use Rattle·ty.specs.Inside.Slot.{slotOf}\n", 1, "Slot"),
-            ("use Rattle·ty.specs.Inside.Slot.{\n  slotOf,\n  _≺_ as before,\n}\n", 1, "Slot"),
-            ("use Prim.Native.Nat.{\n  ℕ,\n}\nuse Rattle·ty.specs.Inside.Slot as slots\n", 4, "Slot"),
-            ("pub use Rattle·ty.specs.Inside.Slot\n", 1, "Slot"),
-            ("use Rattle·ty.specs as ty\nuse ty.Inside.Slot.{slotOf}\n", 2, "Slot"),
-            ("use Rattle·ty.specs.{Inside.Slot.slotOf}\n", 1, "Slot"),
+        for new, line in [
+            ("use Rattle.ty.specs.Inside.Slot.{slot_of}\n", 1),
+            ("use Rattle.ty.specs.Inside.Slot.{\n  slot_of,\n  ◌≺◌ as before,\n}\n", 1),
+            ("use Rattle.std.specs.Prelude.{\n  ℕ,\n}\nuse Rattle.ty.specs.Inside.Slot as slots\n", 4),
+            ("pub use Rattle.ty.specs.Inside.Slot\n", 1),
+            ("unfoldable pub use Rattle.ty.specs.Inside.Slot.{slot_of}\n", 1),
+            ("  use Rattle.ty.specs.Inside.Slot.{slot_of}\n", 1),
+            ("use package.Rattle.ty.specs.Inside.Slot.{slot_of}\n", 1),
+            ("use Rattle.ty.specs as ty\nuse ty.Inside.Slot.{slot_of}\n", 2),
+            ("use Rattle.ty.specs.{Inside.Slot.slot_of}\n", 1),
         ]:
-            self.finds(f"{ANSWER}:{line}: a file to be believed imports Rattle·ty.specs.Inside.{path}", (ANSWER, "use", new + "use"))
+            self.finds(f"{ANSWER}:{line}: a file to be believed imports Rattle.ty.specs.Inside.Slot", (ANSWER, "use", new + "use"))
 
     def test_none_of_the_own_inside(self):
-        self.finds(f"{BYTES}:2: a file to be believed imports Rattle·ty·specs.specs.Inside.Slot",
-                   (BYTES, "\nuse", "\nuse Rattle·ty·specs.specs.Inside.Slot.{slotOf}\nuse"))
+        self.finds(f"{BYTES}:2: a file to be believed imports Rattle.ty.specs.Inside.Slot",
+                   (BYTES, "\nuse", "\nuse Rattle.ty.specs.Inside.Slot.{slot_of}\nuse"))
+
+    def test_none_is_passed_on(self):
+        name = "crates/ty/specs/Lib.antt"
+        self.finds(f"{name}:1: a file to be believed imports Rattle.ty.specs.Inside.Slot",
+                   (name, "pub mod", "pub use Rattle.ty.specs.Inside.Slot.{slot_of}\npub mod"))
 
     def test_no_whole_path_into_an_inside(self):
-        self.finds(f"{ANSWER}:5: a file to be believed names Rattle·ty.specs.Inside.Slot.slotOf",
-                   (ANSWER, "bytes.Ty", "Rattle·ty.specs.Inside.Slot.slotOf"))
-        self.finds(f"{ANSWER}:6: a file to be believed names Rattle·ty.specs.Inside.Slot.slotOf",
-                   (ANSWER, "bytes.Ty", "(ty.Inside.Slot.slotOf)"), (ANSWER, "use", "use Rattle·ty.specs as ty\nuse"))
+        for before in ["", "package."]:
+            self.finds(f"{ANSWER}:5: a file to be believed names Rattle.ty.specs.Inside.Slot.slot_of",
+                       (ANSWER, "bytes.Ty", f"{before}Rattle.ty.specs.Inside.Slot.slot_of"))
+        self.finds(f"{ANSWER}:6: a file to be believed names Rattle.ty.specs.Inside.Slot.slot_of",
+                   (ANSWER, "bytes.Ty", "(ty.Inside.Slot.slot_of)"), (ANSWER, "use", "use Rattle.ty.specs as ty\nuse"))
 
     def test_lines_keep_their_numbers(self):
-        self.finds(f"{ANSWER}:10: a file to be believed names Rattle·ty.specs.Inside.Slot.slotOf",
-                   (ANSWER, "bytes.Ty", "Rattle·ty.specs.Inside.Slot.slotOf"),
-                   (ANSWER, "use", "{- a\n-}\nuse Prim.Native.Nat.{\n  ℕ,\n}\nuse"))
+        self.finds(f"{ANSWER}:10: a file to be believed names Rattle.ty.specs.Inside.Slot.slot_of",
+                   (ANSWER, "bytes.Ty", "Rattle.ty.specs.Inside.Slot.slot_of"),
+                   (ANSWER, "use", "{- a\n-}\nuse Rattle.std.specs.Prelude.{\n  ℕ,\n}\nuse"))
 
     def test_each_module_is_there(self):
         for name, old, new, line, path in [
-            (ANSWER, "ty.specs.Bytes", "ty.specs.Byte", 1, "Rattle·ty.specs.Byte"),
-            (ANSWER, "use", "use Rattle·judge·specs.specs.Gone.{a}\nuse", 1, "Rattle·judge·specs.specs.Gone"),
-            (ANSWER, "use", "use Rattle·gone.specs.Bytes.{a}\nuse", 1, "Rattle·gone.specs.Bytes"),
-            (ANSWER, "use", "use Rattle·ty.specs.{Gone.a}\nuse", 1, "Rattle·ty.specs.Gone"),
-            ("crates/ty/specs/Inside/Slot.antt", "specs.Bytes", "specs.Slot", 1, "Rattle·ty·specs.specs.Slot"),
-            (LIB, "Inside.Slot as", "Inside.Gone as", 7, "Rattle·ty.specs.Inside.Gone"),
-            ("crates/judge/proofs/Lib.antt", "Inside.Slot", "Slot", 1, "Rattle·ty.specs.Slot"),
+            (ANSWER, "ty.specs.Bytes", "ty.specs.Byte", 1, "Rattle.ty.specs.Byte"),
+            (ANSWER, "use", "use Rattle.judge.specs.Gone.{a}\nuse", 1, "Rattle.judge.specs.Gone"),
+            (ANSWER, "use", "use Rattle.gone.specs.Bytes.{a}\nuse", 1, "Rattle.gone.specs.Bytes"),
+            (ANSWER, "use", "use Rattle.ty.specs.{Gone.a}\nuse", 1, "Rattle.ty.specs.Gone"),
+            ("crates/ty/specs/Inside/Slot.antt", "specs.Bytes", "specs.Slot", 1, "Rattle.ty.specs.Slot"),
+            (LIB, "Inside.Slot as", "Inside.Gone as", 7, "Rattle.ty.specs.Inside.Gone"),
+            ("crates/judge/proofs/Lib.antt", "Inside.Slot", "Slot", 1, "Rattle.ty.specs.Slot"),
         ]:
             self.finds(f"{name}:{line}: there is no module {path}", (name, old, new))
+        self.finds(None, (ANSWER, "use", "use Rattle.std_alloc.specs.Vec.{a}\nuse"))
 
 
 class Contracts(Case):
     def test_none_names_something_inside(self):
-        path = "Rattle·ty.specs.Inside.Slot"
+        path = "Rattle.ty.specs.Inside.Slot"
         for old, new, line, named in [
-            ("0 x", "slot x", 16, "slotOf"), ("Told r", "(slot r)", 17, "slotOf"), ("0 x", "0 ≺ x", 16, "_≺_"),
-            ("0 x", "_≺_ 0 x", 16, "_≺_"), ("Told r", "slots.slotOf r", 17, "slotOf"),
-            ("Told r", f"{path}.slotOf r", 17, "slotOf"), ("Told r", "record { x = 0 } ×\n        slot r", 17, "slotOf"),
-            ("ensures { λ r. ⌜ Told", "ensures { λ r. 0 }\n    ensures text { λ r. ⌜ slot", 18, "slotOf"),
+            ("0 x", "slot x", 16, "slot_of"), ("Told result", "(slot result)", 17, "slot_of"), ("0 x", "0 ≺ x", 16, "◌≺◌"),
+            ("0 x", "◌≺◌ 0 x", 16, "◌≺◌"), ("Told result", "slots.slot_of result", 17, "slot_of"),
+            ("Told result", f"{path}.slot_of result", 17, "slot_of"), ("Told result", f"package.{path}.slot_of result", 17, "slot_of"),
+            ("Told result", "record { x = 0 } ×\n        slot result", 17, "slot_of"),
+            ("Told result", "result.now\n        ≡ slot x.old", 17, "slot_of"),
+            ("ensures { Told", "ensures told { 0 }\n    ensures text { slot", 18, "slot_of"),
+            ("ensures { Told", "ensures* { slot", 17, "slot_of"),
         ]:
             self.finds(f"{LIB}:{line}: the contract of judge names {path}.{named}", (LIB, old, new))
-        self.finds(None, (LIB, "Told r", "(s .slot) × slotted"))
+        self.finds(None, (LIB, "Told result", "s.slot × slotted × result.slot × slot_ × slot_of"))
 
     def test_functions_of_every_form(self):
-        for form in ['pub extern "C" fn own', "pub fn own"]:
-            self.finds(f"{LIB}:10: the contract of own names Rattle·ty.specs.Inside.Slot.slotOf", (LIB, "fn own", form))
-        method = "impl Slots {\n    pub fn own(x: u8)\n        ensures { slot x }\n    {\n    }\n}\n\n"
-        self.finds(f"{LIB}:11: the contract of own names Rattle·ty.specs.Inside.Slot.slotOf", (LIB, "fn own", method + "fn own"))
+        for form in ['pub extern "C" fn own', "pub fn own", "pub const unsafe fn own"]:
+            self.finds(f"{LIB}:10: the contract of own names Rattle.ty.specs.Inside.Slot.slot_of", (LIB, "fn own", form))
+        for head in ["impl Slots", "impl<T> Slots<T>", "impl Clone for Slots<'_>"]:
+            method = head + " {\n    pub fn own(x: u8)\n        ensures { slot x }\n    {\n    }\n}\n\n"
+            self.finds(f"{LIB}:11: the contract of own names Rattle.ty.specs.Inside.Slot.slot_of", (LIB, "fn own", method + "fn own"))
 
     def test_functions_of_other_modules_that_are_offered(self):
-        finding = "crates/judge/src/cycle.rt:4: the contract of step names Rattle·ty.specs.Inside.Slot.slotOf"
+        finding = "crates/judge/src/cycle.rt:4: the contract of step names Rattle.ty.specs.Inside.Slot.slot_of"
         for name, new in [
             (LIB, "pub use cycle::step;\nuse "), (LIB, "pub use cycle::{step};\nuse "),
             ("crates/aura_c/src/lib.rt", "use judge::cycle::step;\nuse "), ("crates/aura_c/src/lib.rt", "use judge::cycle;\nuse "),
@@ -151,14 +165,15 @@ class Contracts(Case):
         self.finds(None, ("crates/aura_c/src/lib.rt", "use ", "use judge::cycle::steps;\nuse "))
 
     def test_methods_of_types_that_are_offered(self):
-        method = "impl Slots {\n    pub fn own(x: u8)\n        ensures { slotOf x }\n    {\n    }\n}\n\npub fn"
-        change = ("crates/judge/src/cycle.rt", "pub fn", method)
-        self.finds(None, change)
-        self.finds("crates/judge/src/cycle.rt:5: the contract of own names Rattle·ty.specs.Inside.Slot.slotOf",
-                   change, (LIB, "use ", "pub use cycle::Slots;\nuse "))
+        for head in ["impl Slots", "impl<T> Slots<T>"]:
+            method = head + " {\n    pub fn own(x: u8)\n        ensures { slot_of x }\n    {\n    }\n}\n\npub fn"
+            change = ("crates/judge/src/cycle.rt", "pub fn", method)
+            self.finds(None, change)
+            self.finds("crates/judge/src/cycle.rt:5: the contract of own names Rattle.ty.specs.Inside.Slot.slot_of",
+                       change, (LIB, "use ", "pub use cycle::Slots;\nuse "))
 
     def test_other_crates_may_cite_them(self):
-        files = {name.replace("crates/judge/", "crates/rules/"): text.replace("·judge·", "·rules·") for name, text in SOUND.items()}
+        files = {name.replace("crates/judge/", "crates/rules/"): text.replace(".judge.", ".rules.") for name, text in SOUND.items()}
         root = self.tree(("crates/rules/src/lib.rt", "0 x", "slot x"), files=files)
         self.assertEqual(believed.findings(root), [])
 

@@ -7,16 +7,16 @@ import re
 import unittest
 
 ROOT = pathlib.Path(__file__).resolve().parent.parent
-ENDINGS = {"Kind": "Kind", "NameId": "Id", "BinOp": "Op", "UnOp": "Op", "Diagnostic": "Diag", "Vis": "Vis"}
+ENDINGS = {"Kind": "kind", "NameId": "id", "BinOp": "op", "UnOp": "op", "Diagnostic": "diag", "Vis": "vis"}
 # where the name of the definition is not that of the constant with the ending behind it
 OTHERS = {
-    ("NameId", "NONE"): "noId",
-    ("NameId", "FIRST_OF_TABLE"): "firstTableId",
+    ("NameId", "NONE"): "no_id",
+    ("NameId", "FIRST_OF_TABLE"): "first_table_id",
     ("Diagnostic", "NONE"): None,
 }
 
 # the kind of no bytes at all, which no type has
-WITHOUT = {"noKind"}
+WITHOUT = {"no_kind"}
 
 
 def constants():
@@ -32,7 +32,7 @@ def constants():
 def definitions():
     """name -> number, of the definitions with one of the endings."""
     found = {}
-    ending = re.compile("(" + "|".join(sorted(set(ENDINGS.values()))) + ")$")
+    ending = re.compile("_(" + "|".join(sorted(set(ENDINGS.values()))) + ")$")
     for path in ROOT.glob("crates/*/specs/**/*.antt"):
         for name, number in re.findall(r"^abbrev pub (\w+) : ℕ\n\1 = (\d+)$", path.read_text(encoding="utf-8"), re.M):
             if ending.search(name):
@@ -41,8 +41,7 @@ def definitions():
 
 
 def defined_as(kind, name):
-    words = name.lower().split("_")
-    return OTHERS.get((kind, name), words[0] + "".join(w.capitalize() for w in words[1:]) + ENDINGS[kind])
+    return OTHERS.get((kind, name), f"{name.lower()}_{ENDINGS[kind]}")
 
 
 class Constants(unittest.TestCase):

@@ -20,8 +20,8 @@ import unittest
 
 ROOT = pathlib.Path(__file__).resolve().parent.parent
 DOCUMENT = "docs/CONTRACTS.md"
-IMPL = re.compile(r"impl\b[^{]*?(\w+)\s*\{")
-FUNCTION = re.compile(r'(pub )?(?:extern "C" )?fn (\w+)')
+IMPL = re.compile(r"impl\b[^{]*?(\w+)(?:<[^{]*>)?\s*\{")
+FUNCTION = re.compile(r'(pub )?(?:pub\(\w+\) )?(?:(?:const|unsafe|extern|"C") )*fn (\w+)')
 CODE = re.compile(r"`([^`]*)`")
 LABEL = re.compile(r"(?<![\w*])\*(\w+)\*(?![\w*])")
 
@@ -123,14 +123,30 @@ impl Pair {
     }
 }
 
+#[unsafe(no_mangle)]
 pub extern "C" fn long(
     x: u8,
 ) -> u8
+    ensures { result ≡ x }
 {
     x
 }
 
+impl<T> Several<T> {
+    pub const unsafe fn most() -> u8 {
+        0
+    }
+}
+
+impl Clone for Pair {
+    fn clone(&self) -> Pair {
+    }
+}
+
 fn hidden() {
+}
+
+pub(crate) fn within() {
 }
 """
 SOUND = {
@@ -141,7 +157,7 @@ SOUND = {
     "crates/ty/must-fail/swapped.edit": "",
     "crates/tool/must-fail/swapped.edit": "",
     DOCUMENT: "# Wrong answers\n\nEach is tried: *in italics* as an edit.\n\n## ty\n\n| routine | wrong answers |\n|---|---|\n"
-              "| `Pair::new` | *swapped*: the other byte |\n| `long`, `read::read` | by hand: `5 *cut* 6`, 0 |\n"
+              "| `Pair::new` | *swapped*: the other byte |\n| `long`, `read::read`, `Several::most` | by hand: `5 *cut* 6`, 0 |\n"
               "| a type (`specs/Ty`) | by hand: none |\n\n"
               "## tool\n\n| routine | wrong answers |\n|---|---|\n| `next` | *cut*: a case is cut; *swapped*: two cases |\n",
 }
@@ -170,14 +186,17 @@ class MadeUp(unittest.TestCase):
         self.finds(("## ty", "## `ty`"))
 
     def test_functions_of_every_form(self):
-        self.assertEqual(list(functions(CODE_OF_TY)), [("Pair::new", True), ("Pair::own", False), ("long", True), ("hidden", False)])
+        found = [("Pair::new", True), ("Pair::own", False), ("long", True), ("Several::most", True), ("Pair::clone", False), ("hidden", False),
+                 ("within", False)]
+        self.assertEqual(list(functions(CODE_OF_TY)), found)
 
     def test_each_public_function_has_a_row(self):
         self.finds(("`Pair::new`", "new"), ": no row for Pair::new below ## ty")
         self.finds(("`long`, ", ""), ": no row for long below ## ty")
-        self.finds(("`long`, `read::read`", "`long`"), ": no row for read::read below ## ty")
+        self.finds(("`read::read`, ", ""), ": no row for read::read below ## ty")
         self.finds(("## ty\n", "## tool\n"), ":9: crate tool has no function Pair::new", ":10: crate tool has no function long",
-                   ":10: crate tool has no function read::read", ": no row for Pair::new below ## ty", ": no row for long below ## ty",
+                   ":10: crate tool has no function read::read", ":10: crate tool has no function Several::most",
+                   ": no row for Pair::new below ## ty", ": no row for long below ## ty", ": no row for Several::most below ## ty",
                    ": no row for read::read below ## ty", ": crates/ty/must-fail/swapped.edit is not named below ## ty")
         self.finds(None, ": no row for more::less below ## ty", files={"crates/ty/src/more.rt": "pub fn less() {\n}\n"})
         self.finds(None, ": no row for less below ## more", files={"crates/more/src/lib.rt": "pub fn less() {\n}\n"})

@@ -13,9 +13,11 @@ sys.dont_write_bytecode = True
 import names  # noqa: E402
 
 SPECS = """-- pub comment : ℕ
-use Rattle·ty.specs.Bytes.{a as imported}
-pub use Rattle·ty.specs.Bytes as bytes
+use Rattle.ty.specs.Bytes.{a as imported}
+pub use Rattle.ty.specs.Bytes as bytes
+unfoldable pub use Rattle.ty.specs.Bytes.{b}
 pub mod Module
+pub open r use {field}
 
 abbrev pub short : ℕ
 short = 256
@@ -29,6 +31,10 @@ hidden x = x
 
 pub plain : ℕ
 plain = 0
+
+pub ruleset rules = plain
+pub infixl 6 ◌deep◌
+opaque pub infix_of_two : ℕ
 
 pub record Pair (a : ℕ) : Type 0 where
   -- of the pair
@@ -44,10 +50,10 @@ module _ (S : Symbols)
   within = 0
 
   pub record Inner : Type 0 where
-    pub inner-field : ℕ
+    pub inner_field : ℕ
 
   module _ {A : Type 0} where
-    pub _deep_ : ℕ
+    pub ◌deep◌ : ℕ
 
   unfoldable mutual
     pub one : ℕ
@@ -75,6 +81,7 @@ pub enum Way {
 fn hidden() {
 }
 
+#[unsafe(no_mangle)]
 pub extern "C" fn long(
     x: u8,
 ) -> u8
@@ -93,7 +100,21 @@ impl Pair {
     }
 }
 
+impl<T> Several<T> {
+    pub const fn most() -> u8 {
+        0
+    }
+}
+
+impl Clone for Pair {
+    fn clone(&self) -> Pair {
+    }
+}
+
 pub fn short() {
+}
+
+pub(crate) fn within() {
 }
 """
 
@@ -115,11 +136,11 @@ class Case(unittest.TestCase):
 
 class Names(Case):
     def test_of_definitions(self):
-        found = "short long plain Pair Way within Inner _deep_ one Node RowAt"
+        found = "short long plain rules infix_of_two Pair Way within Inner ◌deep◌ one Node RowAt"
         self.assertEqual(list(names.definitions(SPECS)), found.split())
 
     def test_of_code(self):
-        self.assertEqual(list(names.items(CODE)), "MOST Pair Way long Pair::NONE Pair::new short".split())
+        self.assertEqual(list(names.items(CODE)), "MOST Pair Way long Pair::NONE Pair::new Several::most short".split())
 
 
 class Listed(Case):
@@ -148,7 +169,7 @@ class Listed(Case):
         for one, other in [("specs", "specs"), ("specs", "specs/Inside"), ("specs/Inside", "specs/Inside"), ("proofs", "proofs")]:
             files = [f"crates/a/{one}/Answer.antt", f"crates/b/{other}/Answer.antt"]
             self.lists(dict.fromkeys(files, ""), [f"{one.partition('/')[0]}/Answer.antt: {', '.join(files)}"])
-        for name in ["specs/Lib.antt", "specs/Inside.antt", "proofs/Lib.antt", "proofs/f/Proof.antt"]:
+        for name in ["specs/Lib.antt", "specs/Inside.antt", "proofs/Lib.antt", "proofs/f/Answers.antt", "proofs/f/Invariants.antt"]:
             self.lists({f"crates/a/{name}": "", f"crates/b/{name}": ""}, [])
         self.lists({"crates/a/specs/Answer.antt": "", "crates/a/proofs/Answer.antt": "", "crates/b/proofs/Answers.antt": ""}, [])
 

@@ -6,7 +6,7 @@
 The exit status is 1 where
 
 - a line has more than 100 characters. Rows of tables and code blocks, indented or fenced, are no prose, nor is a line that
-  is one word or one link;
+  is one word or one link, or one that names a commit at its end, behind a colon;
 - a relative link leads to no file or folder;
 - a path in backticks is no file of the repository. A path has a slash and ends in .md, .rs, .rt, .antt, .py, .txt or .h; it
   begins at the root, in crates/ or in the document's own folder. One with a * or with a placeholder (NAME, F) is no path.
@@ -32,6 +32,7 @@ SPAN = re.compile(r"`[^`]*`")
 LINK = re.compile(r"!?\[[^\]]*\]\(([^)\s]*)\)")
 OUTSIDE = re.compile(r"[a-z]+:|#|$")
 PATH = re.compile(r"`([^`\s*:]+/[^`\s*:]+\.(?:md|rs|rt|antt|py|txt|h))`|(?<![\w`/.-])(docs/[\w/.-]+\.md)\b")
+COMMIT = re.compile(r"[^:]*: [0-9a-f]{40}$")
 PLACEHOLDER = re.compile(r"(?:^|/)(?:[A-Z]/|(?:NAME|LABEL|FILE|CRATE|DIR)[/.])")
 
 
@@ -61,7 +62,7 @@ def lines(text):
 
 def is_long(line):
     """Whether a line is too long and could be broken."""
-    return len(line) > WIDTH and " " in LINK.sub("link", ITEM.sub("", line, count=1)).strip()
+    return len(line) > WIDTH and not COMMIT.match(line) and " " in LINK.sub("link", ITEM.sub("", line, count=1)).strip()
 
 
 def findings_of(root, path):
@@ -134,7 +135,11 @@ class MadeUp(unittest.TestCase):
     def test_what_cannot_be_broken(self):
         for text in ["w" * 120, "- " + "w" * 120, "  " + "w" * 120, f"[{LONG}](https://a.b/c)", f"- ![{LONG}](../README.md)."]:
             self.finds(text + "\n")
+        self.finds(f"The commit of {'a' * 70}: {'0f' * 20}\n")
         self.finds("a " + "w" * 120 + "\n", ":1: 122 characters")
+        self.finds(f"The commit of {'a' * 70}: {'0f' * 20}.\n", ":1: 127 characters")
+        self.finds(f"The commit of {'a' * 70} {'0f' * 20}\n", ":1: 125 characters")
+        self.finds(f"The commit of {'a' * 70}: {'0g' * 20}\n", ":1: 126 characters")
         self.finds(f"[{LONG}](https://a.b/c) a\n", ":1: 121 characters")
 
     def test_links(self):
@@ -145,7 +150,7 @@ class MadeUp(unittest.TestCase):
 
     def test_paths(self):
         self.finds("`docs/A.md`, (`history/B.md`), `crates/ty/specs/Ty.antt`, `ty/specs/Ty.antt`; docs/history/B.md.\n")
-        self.finds("`crates/NAME/specs/Ty.antt`, `proofs/F/Proof.antt`, `docs/*.md`, `docs/FILE.md`\n")
+        self.finds("`crates/NAME/specs/Ty.antt`, `proofs/F/Answers.antt`, `docs/*.md`, `docs/FILE.md`\n")
         self.finds("`a/b.edit`, `a/b`, `b.rs`, a/b.rs, `https://a.b/c.md`, https://a.b/docs/c.md, other-docs/C.md\n")
         self.finds("`docs/FORMAT.md` and\ndocs/C.md.\n", ":1: there is no docs/FORMAT.md", ":2: there is no docs/C.md")
         self.finds("a\n\n| `ty/specs/Type.antt` |\n", ":3: there is no ty/specs/Type.antt")

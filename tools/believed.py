@@ -10,7 +10,7 @@ The exit status is 1 where something was found. A file of specs/ is to be believ
 holds what routines hand each other. Found are:
 
 - a file to be believed that imports or names one of an Inside;
-- an import, in definitions, code or proofs, of a module of specs/ that is not there;
+- an import, in definitions, code or proofs, of a module of specs/ that is not there (the library's own are not looked up);
 - a contract for the products that names something of an Inside. These are the contracts of the public functions of judge,
   judge_text, console, load and aura_c: those in lib.rt, and those of other modules that lib.rt passes on or another crate uses.
 """
@@ -24,10 +24,13 @@ PRODUCTS = "judge judge_text console load aura_c".split()
 BEGIN, END = "<!-- believed: begin -->", "<!-- believed: end -->"
 HEAD = "| crate | files | lines to be believed | files inside | lines inside |\n|---|---|---|---|---|\n"
 NAME = r"[^\s(){}.;,@\"«»]"
-COMMENT = {".antt": re.compile(rf"(?<!{NAME})--.*|\{{-[\s\S]*?-\}}"), ".rt": re.compile(r"//.*")}
-USE = re.compile(r"^(?:pub |ghost )?use\s+([^\s{};]+?)(?:\.\s*\{([^}]*)\}|\s+as\s+([^\s;]+))?(?=\s|;|$)", re.M)
+COMMENT = {".antt": re.compile(rf"(?<!{NAME})--.*|\{{-[\s\S]*?-\}}"), ".rt": re.compile(r"//.*|/\*[\s\S]*?\*/")}
+USE = re.compile(r"^[ \t]*(?:(?:pub|ghost|unfoldable)\s+)*use\s+([^\s{};]+?)(?:\.\s*\{([^}]*)\}|\s+as\s+([^\s;]+))?(?=\s|;|$)", re.M)
 WORD = re.compile(rf"(?:{NAME}|\.)+")
 FUNCTION = re.compile(r'^([ \t]*)pub (?:\w+ |"C" )*fn (\w+)', re.M)
+IMPL = re.compile(r"^impl\b[^{]*?(\w+)(?:<[^{]*>)?\s*\{", re.M)
+# The toolchain's own libraries; a crate here has none of these names.
+LIBRARY = re.compile(r"core|io|libc|os|std(?:_\w+)?")
 
 
 def blanked(pattern, text):
@@ -60,22 +63,21 @@ class File:
             self.uses.append((line, path[:-1]))
 
     def whole(self, word):
-        """The whole path of a dotted word, whose first part may be a name that an import brings."""
+        """The whole path of a dotted word, whose first part may be a name that an import brings; behind `package.` it is none."""
         first, *rest = word.split(".")
-        return self.names.get(first, [first]) + rest
+        return rest if first == "package" else self.names.get(first, [first]) + rest
 
     def cited(self, text):
         """The whole paths that the words of a text may mean; an operator is cited where all its parts are."""
         words = WORD.findall(text)
         parts = {word.split(".")[0] for word in words}
-        operators = [name for name in self.names if "_" in name and set(filter(None, name.split("_"))) <= parts]
+        operators = [name for name in self.names if "◌" in name and set(filter(None, name.split("◌"))) <= parts]
         return [self.whole(word) for word in words + operators]
 
 
 def spec(path):
     """The crate and the module below its specs/ that a whole path names, or None."""
-    crate = re.fullmatch(r"Rattle·([^·]+)(?:·specs)?", path[0])
-    return (crate[1], path[2:]) if crate and path[1:2] == ["specs"] else None
+    return (path[1], path[3:]) if path[0] == "Rattle" and path[2:3] == ["specs"] else None
 
 
 def is_inside(path):
@@ -86,7 +88,7 @@ def is_inside(path):
 def is_there(root, path):
     """False for a path to a module of specs/ that is neither a file nor made from the code."""
     place = spec(path)
-    if place is None or place[1][:1] in ([], ["declared"]):
+    if place is None or LIBRARY.fullmatch(place[0]) or place[1][:1] in ([], ["declared"]):
         return True
     return root.joinpath("crates", place[0], "specs", *place[1][:-1], place[1][-1] + ".antt").is_file()
 
@@ -145,9 +147,9 @@ def kept(root, name, made, write):
 # Findings
 
 def inside_imports(root):
-    """Files to be believed that import or name one of an Inside."""
+    """Files to be believed that import or name one of an Inside; specs/Lib.antt may pass on none."""
     for crate in crates(root):
-        for file in definitions(root, crate)[0]:
+        for file in definitions(root, crate)[0] + [File(root, path) for path in crate.glob("specs/Lib.antt")]:
             for line, path in file.uses:
                 if is_inside(path):
                     yield f"{file.at}:{line}: a file to be believed imports {'.'.join(path)}"
@@ -197,7 +199,7 @@ def functions(root, crate):
     for file in code(root, root / "crates" / crate):
         module = "::".join(file.at.with_suffix("").parts[3:])
         for found in FUNCTION.finditer(file.text):
-            types = re.findall(r"^impl\b[^{]*?(\w+)\s*\{", file.text[:found.start()], re.M) if found[1] else []
+            types = IMPL.findall(file.text[:found.start()]) if found[1] else []
             item = f"{module}::{types[-1] if types else found[2]}"
             if module == "lib" or module in items or any(other == item or other.startswith(item + "::") for other in items):
                 yield file, found[2], found.end()

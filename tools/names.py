@@ -18,7 +18,7 @@ import sys
 
 DECISIONS, SECTION = "docs/DECISIONS.md", "## Names with two meanings"
 BLOCK = re.compile(r"module\b|(?:\w+ )*mutual\b")
-DEFINITION = re.compile(r"(?:unfoldable |abbrev )*pub (?:(?:record|data) )?(?!use |mod )([^\s:(){}]+)")
+DEFINITION = re.compile(r"(?:unfoldable |abbrev |opaque )*pub (?:(?:unfoldable|abbrev|opaque|record|data|ruleset) )*(?!use |mod |open |infix[lr]? )([^\s:(){}]+)")
 IMPL = re.compile(r"impl\b[^{]*?(\w+)(?:<[^{]*>)?\s*\{")
 ITEM = re.compile(r'pub (?:(?:unsafe |const |extern |"C" )*fn|struct|enum|const|static|type|trait) (\w+)')
 

@@ -95,11 +95,11 @@ fn the_numbers_are_those_of_the_code_and_the_header() {
     assert!(header.contains(&format!("#define AURA_LOAD_LONGEST {LOAD_LONGEST} ")));
 }
 
-/// The definition has each name as `inTwentyFour (80 ∷ 97 ∷ 105 ∷ 114 ∷ [])`, in the order of the ids.
+/// The definition has each name as `in_twenty_four (80 ∷ 97 ∷ 105 ∷ 114 ∷ [])`, in the order of the ids.
 #[test]
 fn the_built_in_names_are_those_of_the_definition() {
     let text = read("crates/record/specs/Spelling.antt");
-    let names = text.split("inTwentyFour (").skip(1).map(|rest| {
+    let names = text.split("in_twenty_four (").skip(1).map(|rest| {
         let bytes = rest.split(" ∷ ").map_while(|number| number.parse().ok());
         String::from_utf8(bytes.collect()).expect("a name has letters")
     });

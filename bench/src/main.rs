@@ -30,7 +30,7 @@ use {
 };
 
 const DOCS: &str = concat!(env!("CARGO_MANIFEST_DIR"), "/../docs");
-const COMMAND: &str = "rt staticlib aura_c && cd bench && cargo run --release -- --write";
+const COMMAND: &str = "(cd crates/aura_c && rt lib) && cd bench && cargo run --release -- --write";
 
 /// The times of one input.
 fn times(input: &Input, effort: Effort) -> Times {

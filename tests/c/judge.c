@@ -1,5 +1,5 @@
 /* The C interface on document 01's sample, `!!` on an Int, and on a test load. From the repository's root:
-   cc -Iinclude tests/c/judge.c target/staticlib/libaura_c.a -o target/judge_c && target/judge_c */
+   cc -Iinclude tests/c/judge.c crates/aura_c/out/libaura_c.a -o crates/aura_c/out/judge_c && crates/aura_c/out/judge_c */
 #include "aura_judge.h"
 
 #include <stdio.h>
