@@ -72,7 +72,8 @@ type_read at ids (Endless top error) = typed at 0 ids false true true
 
 -- the field at byte `at` of s
 abbrev pub field_at : Field → List ℕ → ℕ → FieldAt
-field_at name s at = plain_field s at 25 0 (ltb (get_or s at 0) 1 || (ltb 24 (get_or s at 0) || not (good_name (get_or s at 0) (take 24 (drop (at + 1) s))))) [] []
+field_at name s at =
+    plain_field s at 25 0 (ltb (get_or s at 0) 1 || (ltb 24 (get_or s at 0) || not (good_name (get_or s at 0) (take 24 (drop (at + 1) s))))) [] []
 field_at id s at = plain_field s at 2 (id_at s at) false (id_at s at ∷ []) []
 field_at id_or_none s at = plain_field s at 2 (id_at s at) false (choose (eqb (id_at s at) no_id) [] (id_at s at ∷ [])) []
 field_at param s at = plain_field s at 2 (id_at s at) false (id_at s at ∷ []) (id_at s at ∷ [])

@@ -1,6 +1,7 @@
 // Reading one record from the front of a slice.
 ghost use Rattle.std.specs.Prelude.{◌≡◌, ◌<◌, length};
-ghost use Rattle.record.specs.Inside.Front.{broken_head, plain_head, or_none, good_byte, good_bytes, head_by, name_head, class_head, operators_head, field_with};
+ghost use Rattle.record.specs.Inside.Front.{broken_head, plain_head, or_none, good_byte, good_bytes, head_by, name_head, class_head, operators_head};
+ghost use Rattle.record.specs.Inside.Front.{field_with};
 ghost use Rattle.record.specs.Inside.Front.{field_head, visibility_head, suspend_head, variant_head};
 ghost use Rattle.record.specs.Inside.Walk.{HeadIs, EndsIn};
 

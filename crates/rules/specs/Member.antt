@@ -5,8 +5,9 @@ use Rattle.std.specs.Prelude.{ℕ, Bool, not, ◌&&◌, ◌||◌, List, [], ◌�
 use Rattle.std.proofs.Math.Option.{Option, none, some}
 use Rattle.ty.specs.Choose.{choose}
 use Rattle.ty.specs.Kind.{int_kind, boolean_kind, string_kind, any_kind, unit_kind, list_kind, map_kind, named_kind, module_kind, error_kind}
-use Rattle.ty.specs.Name.{pair_id, list_id, set_class_id, to_string_id, hash_code_id, equals_id, first_id, second_id, size_id, count_id, is_empty_id, last_id, get_id, get_at_id}
-use Rattle.ty.specs.Name.{set_id, add_id, push_id, append_id, contains_id, index_of_id, length_id, is_not_empty_id, trim_id, lowercase_id, uppercase_id, keys_id}
+use Rattle.ty.specs.Name.{pair_id, list_id, set_class_id, to_string_id, hash_code_id, equals_id, first_id, second_id, size_id, count_id, is_empty_id, last_id}
+use Rattle.ty.specs.Name.{get_id, get_at_id, set_id, add_id, push_id, append_id, contains_id, index_of_id, length_id, is_not_empty_id}
+use Rattle.ty.specs.Name.{trim_id, lowercase_id, uppercase_id, keys_id}
 use Rattle.ty.specs.Bytes.{Ty, name_of, is_nullable, is_array, inner_of, non_null}
 use Rattle.symbol.specs.Symbols.{Overload, Symbols}
 use Rattle.question.specs.declared.Header.{Header}

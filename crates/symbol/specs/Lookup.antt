@@ -1,7 +1,8 @@
 -- What the rules see of a table, from its records' fields (document 01, "Table and question"; sema/symbol.rs).
 use Rattle.std.specs.Prelude.{ℕ, ◌-◌, ◌%◌, ltb, leb, eqb, length, get_or, drop, Bool, true, false, ◌&&◌, List, [], ◌∷◌, map}
 use Rattle.std.proofs.Math.Option.{none, some}
-use Rattle.record.specs.Layout.{FieldAt, fields_in, nth_field, field_bytes, superclass_field, package_field, types_field, mask_field, visibility_field, type_field}
+use Rattle.record.specs.Layout.{FieldAt, fields_in, nth_field, field_bytes, superclass_field, package_field, types_field, mask_field, visibility_field}
+use Rattle.record.specs.Layout.{type_field}
 use Rattle.symbol.specs.Symbols.{Param, Overload, Symbols}
 use Rattle.record.specs.Table.{Record, records_of, of_kind, keyed}
 use Rattle.ty.specs.Choose.{choose}

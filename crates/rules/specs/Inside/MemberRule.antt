@@ -18,8 +18,9 @@ use Rattle.symbol.specs.Symbols.{Symbols}
 use Rattle.ty.specs.Bytes.{Ty, name_of, non_null}
 use Rattle.ty.specs.Choose.{choose}
 use Rattle.ty.specs.Kind.{int_kind, boolean_kind, string_kind, any_kind, unit_kind, map_kind, named_kind, module_kind, error_kind}
-use Rattle.ty.specs.Name.{pair_id, list_id, set_class_id, to_string_id, hash_code_id, equals_id, first_id, second_id, size_id, count_id, is_empty_id, last_id, get_id, get_at_id}
-use Rattle.ty.specs.Name.{set_id, add_id, push_id, append_id, contains_id, index_of_id, length_id, is_not_empty_id, trim_id, lowercase_id, uppercase_id, keys_id}
+use Rattle.ty.specs.Name.{pair_id, list_id, set_class_id, to_string_id, hash_code_id, equals_id, first_id, second_id, size_id, count_id, is_empty_id, last_id}
+use Rattle.ty.specs.Name.{get_id, get_at_id, set_id, add_id, push_id, append_id, contains_id, index_of_id, length_id, is_not_empty_id}
+use Rattle.ty.specs.Name.{trim_id, lowercase_id, uppercase_id, keys_id}
 
 -- a type variable's members
 unfoldable pub variable_ruled : ℕ → OneReport
@@ -99,4 +100,5 @@ module _ (table : List ℕ) where
   unfoldable pub member_ruled : Header → ℕ → Ty → Ruled
   member_ruled H id t =
       choose (is_nullable_object t) (ruled_alone (fails_one nullable_member_diag))
-      (choose (is_kind module_kind (non_null t)) (ruled_alone (plain_one any_kind)) (ruled_before (base_ruled S H (non_null t) id) (kind_ruled (non_null t) id)))
+      (choose (is_kind module_kind (non_null t)) (ruled_alone (plain_one any_kind))
+      (ruled_before (base_ruled S H (non_null t) id) (kind_ruled (non_null t) id)))
