@@ -6,21 +6,22 @@ ghost use Rattle.console.specs.Buffer.{holding};
 ghost use Rattle.judge_text.specs.ProgramText.{input_text, input_buffer};
 
 use judge_text::input_text;
+use std::io::{self, Read};
 
 // Writes the answer to an input; its text stays in `out`.
-fn respond(input: &[u8], diagnostics: &mut [u8], out: &mut [u8])
+fn respond(rt: &impl Print, input: &[u8], diagnostics: &mut [u8], out: &mut [u8]) -> io::Result<()>
     ensures text { out.new ≡ holding (length out.old) (input_text input.now (length diagnostics.old)) }
     ensures buffer { diagnostics.new ≡ input_buffer input.now (length diagnostics.old) }
 {
     let n = input_text(input, diagnostics, out);
-    io::write_all(1, &out[..n]);
+    rt.write_all(&out[..n])
 }
 
 // Of a longer input the first 81,922 bytes draw the same answer, and no text is longer than `out`: laws of `judge_text` say so.
-fn main() {
-    let mut input = [0u8; 81922];
+fn main(rt: HostRuntime) -> io::Result<()> {
+    let mut input = Vec::new(rt.alloc());
     let mut diagnostics = [0u8; 65535];
     let mut out = [0u8; 210259];
-    let n = io::read_full(0, &mut input);
-    respond(&input[..n], &mut diagnostics, &mut out);
+    rt.reader().take(81_922).read_to_end(&mut input)?;
+    respond(&rt, &input, &mut diagnostics, &mut out)
 }

@@ -8,6 +8,8 @@ ghost use Rattle.load.specs.Load.{load_of};
 ghost use Rattle.written.specs.Output.{lent_after};
 
 use load::write_load;
+use std::env::{Env, FillError};
+use std::io;
 
 // 2^32, which every larger number counts as: it is no start number, and no node count of a question.
 const TOO_LARGE: u64 = 4_294_967_296;
@@ -48,41 +50,40 @@ fn number_in(text: &[u8]) -> u64
 }
 
 // Argument i as a number; one of more than 32 bytes is none.
-fn argument(i: usize) -> u64
+fn argument(rt: &impl Env, i: usize) -> u64
     ensures { result ≤ no_number }
 {
     let mut text = [0u8; 32];
-    let len = os::arg(i, &mut text);
+    let len = rt.arg(i, &mut text).unwrap_or(0);
     number_in(&text[..len])
 }
 
+// Says whether there is an argument i, of whatever length.
+fn is_given(rt: &impl Env, i: usize) -> bool {
+    let mut text = [0u8; 32];
+    !matches!(rt.arg(i, &mut text), Err(FillError::NotPresent))
+}
+
 // Writes the question, or says with which number it is refused; `out` is room for it.
-fn respond(start: u32, nodes: usize, out: &mut [u8])
+fn respond(rt: &(impl Print + Eprint), start: u32, nodes: usize, out: &mut [u8]) -> io::Result<()>
     ensures { out.new ≡ lent_after (length out.old) (load_of start nodes (length out.old)) }
 {
     let w = write_load(start, nodes, out);
     if w.number == 0 {
-        io::write_all(1, &out[..w.len]);
-        return;
+        return rt.write_all(&out[..w.len]);
     }
-    io::write_all(2, b"aura_load: ");
-    io::print_decimal(2, w.number as u64);
-    io::write_all(2, b": the node count is not 1 to 64\n");
+    eprintln!(rt; "aura_load: {}: the node count is not 1 to 64", w.number)
 }
 
-// The longest question has 133 bytes, so that no number but 14 is drawn.
-fn main() {
-    let start = argument(1);
-    let nodes = argument(2);
-    if (os::arg_count() == 3) & (nodes != NO_NUMBER) {
+// The longest question has 133 bytes, so that no number but 14 is drawn. An argument 3 is one too many.
+fn main(rt: HostRuntime) -> io::Result<()> {
+    let start = argument(&rt, 1);
+    let nodes = argument(&rt, 2);
+    if !is_given(&rt, 3) & (nodes != NO_NUMBER) {
         if start < TOO_LARGE {
             let mut out = [0u8; 133];
-            respond(start as u32, nodes as usize, &mut out);
-            return;
+            return respond(&rt, start as u32, nodes as usize, &mut out);
         }
     }
-    io::write_all(
-        2,
-        b"usage: aura_load START NODES (two numbers in decimal, START at most 4294967295)\n",
-    );
+    eprintln!(rt; "usage: aura_load START NODES (two numbers in decimal, START at most 4294967295)")
 }

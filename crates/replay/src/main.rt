@@ -10,6 +10,7 @@ ghost use Rattle.replay.specs.Inside.CaseRead.{ReadTo, CaseRead};
 ghost use Rattle.typing.specs.Answer.{buffer_of};
 
 use judge_text::answer_text;
+use std::io::{self, Read};
 use ty::{id_at, same_bytes};
 
 const END: u8 = 0;
@@ -41,29 +42,29 @@ fn agrees(
     same_bytes(&out[..n], expected)
 }
 
-// Reads a length; 65,536 where the input ends.
-fn read_length() -> usize
+// Reads a length; 65,536 where the input ends or a read fails.
+fn read_length(input: &mut impl Read) -> usize
     ensures { result ≤ 65536 }
 {
     let mut head = [0u8; 2];
-    if io::read_full(0, &mut head) < 2 {
+    if input.read_exact(&mut head).is_err() {
         return NO_LENGTH;
     }
     id_at(&head, 0) as usize
 }
 
 // Reads a length and as many bytes to the front of `space`; 65,536 where they are not all there or do not fit.
-fn read_part(space: &mut [u8]) -> usize
+fn read_part(input: &mut impl Read, space: &mut [u8]) -> usize
     ensures { (result ≤ 65536) × (result ≤ 65535 → ReadTo space result) }
 {
-    let len = read_length();
+    let len = read_length(input);
     if 65535 < len {
         return NO_LENGTH;
     }
     if space.len() < len {
         return NO_LENGTH;
     }
-    if io::read_full(0, &mut space[..len]) < len {
+    if input.read_exact(&mut space[..len]).is_err() {
         return NO_LENGTH;
     }
     len
@@ -71,6 +72,7 @@ fn read_part(space: &mut [u8]) -> usize
 
 // Reads a case and judges it; the slices are room for it.
 fn read_case(
+    input: &mut impl Read,
     table: &mut [u8],
     question: &mut [u8],
     expected: &mut [u8],
@@ -79,15 +81,15 @@ fn read_case(
 ) -> u8
     ensures { CaseRead table question expected diagnostics out result }
 {
-    let t = read_part(table);
+    let t = read_part(input, table);
     if 65535 < t {
         return END;
     }
-    let q = read_part(question);
+    let q = read_part(input, question);
     if 65535 < q {
         return BROKEN;
     }
-    let e = read_part(expected);
+    let e = read_part(input, expected);
     if 65535 < e {
         return BROKEN;
     }
@@ -104,21 +106,19 @@ fn read_case(
 }
 
 // Writes what the run was.
-fn tell(agree: u64, last: u8) {
-    io::print_decimal(1, agree);
-    io::write_all(1, b" cases agree");
+fn tell(rt: &impl Print, agree: u64, last: u8) -> io::Result<()> {
+    print!(rt; "{agree} cases agree")?;
     if last == DIFFERS {
-        io::write_all(1, b", not case ");
-        io::print_decimal(1, agree);
+        print!(rt; ", not case {agree}")?;
     }
     if last == BROKEN {
-        io::write_all(1, b", then the input breaks off");
+        print!(rt; ", then the input breaks off")?;
     }
-    io::write_all(1, b"\n");
+    println!(rt; "")
 }
 
 // The same in slices of its own.
-fn next() -> u8
+fn next(input: &mut impl Read) -> u8
     ensures { result ≤ 3 }
 {
     let mut table = [0u8; 65535];
@@ -127,6 +127,7 @@ fn next() -> u8
     let mut diagnostics = [0u8; 65535];
     let mut out = [0u8; 210259];
     read_case(
+        input,
         &mut table,
         &mut question,
         &mut expected,
@@ -136,12 +137,13 @@ fn next() -> u8
 }
 
 // A loop has to end, and nothing says that the input does: the count ends it.
-fn main() {
+fn main(rt: HostRuntime) -> io::Result<()> {
+    let mut input = rt.reader();
     let mut agree: u64 = 0;
-    let mut last = next();
+    let mut last = next(&mut input);
     while agree < u64::MAX && last == AGREES {
         agree += 1;
-        last = next();
+        last = next(&mut input);
     }
-    tell(agree, last);
+    tell(&rt, agree, last)
 }

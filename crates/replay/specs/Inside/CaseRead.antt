@@ -26,20 +26,20 @@ pub record Ended (question expected diagnostics out : Borrowed) (r : ℕ) : Type
   pub question_kept : Unchanged question
   pub expected_kept : Unchanged expected
   pub diagnostics_kept : Unchanged diagnostics
-  pub out-kept : Unchanged out
+  pub out_kept : Unchanged out
 
 -- it ended within one, or a part had no room
 pub record BrokenOff (diagnostics out : Borrowed) (r : ℕ) : Type 0 where
   pub number : r ≡ 3
   pub diagnostics_kept : Unchanged diagnostics
-  pub out-kept : Unchanged out
+  pub out_kept : Unchanged out
 
 -- a table, a question and a text were read and judged: 1 where they agree, else 2
 pub record Compared (table question expected diagnostics out : Borrowed) (r : ℕ) : Type 0 where
   pub t : ℕ
   pub q : ℕ
   pub e : ℕ
-  pub table-read : ReadTo table t
+  pub table_read : ReadTo table t
   pub question_read : ReadTo question q
   pub expected_read : ReadTo expected e
   pub number : r ≡ choose (agreement (take t table.exit.now) (take q question.exit.now) (take e expected.exit.now)
