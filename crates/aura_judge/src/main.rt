@@ -5,8 +5,9 @@ ghost use Rattle.std.specs.Prelude.{◌≡◌, length};
 ghost use Rattle.console.specs.Buffer.{holding};
 ghost use Rattle.judge_text.specs.ProgramText.{input_text, input_buffer};
 
+use console::read_full;
 use judge_text::input_text;
-use std::io::{self, Read};
+use std::io;
 
 // Writes the answer to an input; its text stays in `out`.
 fn respond(rt: &impl Print, input: &[u8], diagnostics: &mut [u8], out: &mut [u8]) -> io::Result<()>
@@ -19,9 +20,9 @@ fn respond(rt: &impl Print, input: &[u8], diagnostics: &mut [u8], out: &mut [u8]
 
 // Of a longer input the first 81,922 bytes draw the same answer, and no text is longer than `out`: laws of `judge_text` say so.
 fn main(rt: HostRuntime) -> io::Result<()> {
-    let mut input = Vec::new(rt.alloc());
+    let mut input = [0u8; 81922];
     let mut diagnostics = [0u8; 65535];
     let mut out = [0u8; 210259];
-    rt.reader().take(81_922).read_to_end(&mut input)?;
-    respond(&rt, &input, &mut diagnostics, &mut out)
+    let n = read_full(&mut rt.reader(), &mut input)?;
+    respond(&rt, &input[..n], &mut diagnostics, &mut out)
 }

@@ -3,3 +3,4 @@ pub mod TextLists
 pub mod TextSamples
 pub mod TextSizes
 pub mod InputParts
+pub mod ReadFronts

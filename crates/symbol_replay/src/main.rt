@@ -2,26 +2,21 @@
 // table, its length in 2 bytes and the table.
 #![tactic(auto)]
 
-use std::alloc::Global;
-use std::io::{self, Read};
-
-// Reads so many bytes of the input, or all that are left.
-fn read_some(rt: &impl Input, alloc: Global, len: usize) -> io::Result<Vec<u8>> {
-    let mut bytes = Vec::new(alloc);
-    rt.reader().take(len as u64).read_to_end(&mut bytes)?;
-    Ok(bytes)
-}
+use console::read_full;
+use std::io;
 
 // Reads one table and prints its number, or answers false where the input ends.
-fn next(rt: &(impl Input + Print), alloc: Global) -> io::Result<bool> {
-    let head = read_some(rt, alloc, 2)?;
-    if head.len() < 2 {
+fn next(rt: &(impl Input + Print)) -> io::Result<bool> {
+    let mut input = rt.reader();
+    let mut head = [0u8; 2];
+    if read_full(&mut input, &mut head)? < 2 {
         return Ok(false);
     }
     let len = ty::id_at(&head, 0) as usize;
-    let table = read_some(rt, alloc, len)?;
+    let mut space = [0u8; 65535];
+    let n = read_full(&mut input, &mut space[..len])?;
     let mut index = [0u16; 42435];
-    let c = symbol::checks::check_table(&table, &mut index);
+    let c = symbol::checks::check_table(&space[..n], &mut index);
     println!(rt; "{}", c.number)?;
     Ok(true)
 }
@@ -29,7 +24,7 @@ fn next(rt: &(impl Input + Print), alloc: Global) -> io::Result<bool> {
 // A loop has to end, and nothing says that the input does: so it counts its turns.
 fn main(rt: HostRuntime) -> io::Result<()> {
     for _ in 0..u64::MAX {
-        if !next(&rt, rt.alloc())? {
+        if !next(&rt)? {
             break;
         }
     }
