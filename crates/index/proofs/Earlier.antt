@@ -1,4 +1,4 @@
--- Whether one of the records before a byte keyMatches a test.
+-- Whether one of the records before a byte matches a test.
 use Prim.Native.Nat.{ℕ, zero, suc, ◌+◌, ◌-◌, ◌≤◌, ◌<◌}
 use borrow.Author.Tests.{eqb-true, eq-eqb, ne_eqb}
 use lib.Dec.{eqb, ltb}
@@ -24,7 +24,7 @@ use Rattle.index.specs.declared.tree.Key.{Key}
 use Rattle.index.specs.declared.tree.Key.TheVariants.{Name, Ids}
 use Rattle.record.specs.declared.walk.Cursor.{Cursor}
 
--- some record of a list keyMatches a test
+-- some record of a list matches a test
 unfoldable pub any_of : (Record → Bool) → List Record → Bool
 any_of f [] = false
 any_of f (r ∷ rs) = f r || any_of f rs
@@ -53,7 +53,7 @@ sits-before t p w s =
     (record { head = refl; own = sym (sits-own t p w s); next = refl; index = refl; low = sits_later t p w s; high = (sits_at t p w s).inside })
 
 module _ (t : List ℕ) (f : Record → Bool) where
-  -- what keyMatches among the records before that at p
+  -- what matches among the records before that at p
   abbrev some_before : (p : ℕ) → Sits t p → Bool
   some_before p w = any_of f (before w.index (records_of t))
 
@@ -69,7 +69,7 @@ module _ (t : List ℕ) (f : Record → Bool) where
       ap (λ (i : ℕ). any_of f (before i (records_of t)))
       (one_number t p w.index v.index w.at (subst (λ (z : ℕ). CursorAt t (record { at = z; index = v.index })) (sym e) v.at))
 
-  -- what passed before p keyMatches before e
+  -- what passed before p matches before e
   stays : (e : ℕ) (v : Sits t e) (m p : ℕ) → e - p ≤ m → (w : Sits t p) → p ≤ e → some_before p w ≡ true → some_before e v ≡ true
   stays e v zero p h w l y = sym (same_byte p e w v (omega arith)) ∙ y
   stays e v (suc m) p h w l y = go (eqb p e) refl (λ s k z. stays e v m (behind t p) (omega (arith, sits_later t p w s)) (sits_behind p w s) k z)
@@ -85,14 +85,14 @@ module _ (t : List ℕ) (f : Record → Bool) where
           or_true true = refl
           or_true false = refl
 
-  -- what passed at p keyMatches before e
+  -- what passed at p matches before e
   pub passed_before : (e : ℕ) (v : Sits t e) (p : ℕ) (w : Sits t p) → p < e → f (front_record (drop p t)) ≡ true → some_before e v ≡ true
   passed_before e v p w l y =
       let s : p < length t = omega (arith, l, v.at.inside) in
       stays e v (e - behind t p) (behind t p) (omega arith) (sits_behind p w s) (behind-before t p e w v l)
       (one_more p w s ∙ ap (λ (u : Bool). u || some_before p w) y)
 
-  -- where no record before e keyMatches
+  -- where no record before e matches
   none_before : (e : ℕ) (v : Sits t e) → ((q : ℕ) → Sits t q → q < e → f (front_record (drop q t)) ≡ false)
       → (m p : ℕ) → e - p ≤ m → (w : Sits t p) → p ≤ e → some_before p w ≡ false → some_before e v ≡ false
   none_before e v fails zero p h w l y = same_byte e p v w (omega arith) ∙ y

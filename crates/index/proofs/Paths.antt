@@ -226,7 +226,7 @@ module _ (t : List ℕ) (c : Cursor) (h : Head) (s : Stands t c h) where
             ap (digit_for t) (key_ids k) ∙ (rw own) ∙ sym (id_digits _ m),
           )
 
-  -- a record that has the key of this one keyMatches; what is no function has a key
+  -- a record that has the key of this one matches; what is no function has a key
   pub passes_key : (h.kind ≡ 4 → ⊥) → (r : Record) → key_matches t (key_at c h) r ≡ same_key r (record_at t c)
   passes_key f r = go (eqb h.kind 1) refl
     where

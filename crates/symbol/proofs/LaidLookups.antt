@@ -57,7 +57,7 @@ keyed_kind k key (r ∷ rs) = go (eqb (record_kind r) k && same_bytes (key_of r)
     go true q ih = (eqb-true (record_kind r) k (and_left (eqb (record_kind r) k) (same_bytes (key_of r) key) q), ih)
     go false q ih = ih
 
--- of the ofFirst
+-- of the first
 module _ {A : Type 0} (d : A) (f g : Record → A) (k : ℕ) (alike : (r : Record) → record_kind r ≡ k → f r ≡ g r) where
   first_same : (rs : List Record) → Every (λ r. record_kind r ≡ k) rs → of_first d f rs ≡ of_first d g rs
   first_same [] e = refl

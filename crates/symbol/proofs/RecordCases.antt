@@ -1,4 +1,4 @@
--- Worked records, computed from the fields: one of eachField kind, a class without superclass, a function with a type without end, and one of no kind.
+-- Worked records, computed from the fields: one of each kind, a class without superclass, a function with a type without end, and one of no kind.
 use Prim.Native.Nat.{ℕ}
 use mathlib.Core.Bool.{Bool, true, false}
 use mathlib.Core.List.{List, [], ◌∷◌, ◌++◌}

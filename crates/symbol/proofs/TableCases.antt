@@ -1,4 +1,4 @@
--- Worked tables, computed from the definitions: an accepted one with its lookups, and one for eachField number.
+-- Worked tables, computed from the definitions: an accepted one with its lookups, and one for each number.
 use Prim.Native.Nat.{ℕ}
 use mathlib.Core.Path.{◌≡◌, refl}
 use mathlib.Core.Bool.{true, false}

@@ -11,6 +11,6 @@ climbs super (suc n) class above =
     choose (eqb (super class) no_id) false (choose (eqb (super class) above) true (climbs super n (super class) above))
 
 -- In an accepted table a superclass with a record stands earlier, so as many steps as there are classes are enough: the law `climb` says that
--- isSubclass S a b is false where a has no superclass, true where that is b, and else isSubclass S (S.superOf a) b.
+-- is_subclass S a b is false where a has no superclass, true where that is b, and else is_subclass S (S.super_of a) b.
 unfoldable pub is_subclass : Symbols → ℕ → ℕ → Bool
 is_subclass S class above = climbs S.super_of S.classes class above
