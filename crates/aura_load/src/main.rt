@@ -58,12 +58,6 @@ fn argument(rt: &impl Env, i: usize) -> u64
     number_in(&text[..len])
 }
 
-// Says whether there is an argument i, of whatever length.
-fn is_given(rt: &impl Env, i: usize) -> bool {
-    let mut text = [0u8; 32];
-    !matches!(rt.arg(i, &mut text), Err(FillError::NotPresent))
-}
-
 // Writes the question, or says with which number it is refused; `out` is room for it.
 fn respond(rt: &(impl Print + Eprint), start: u32, nodes: usize, out: &mut [u8]) -> io::Result<()>
     ensures { out.new ≡ lent_after (length out.old) (load_of start nodes (length out.old)) }
@@ -79,7 +73,9 @@ fn respond(rt: &(impl Print + Eprint), start: u32, nodes: usize, out: &mut [u8])
 fn main(rt: HostRuntime) -> io::Result<()> {
     let start = argument(&rt, 1);
     let nodes = argument(&rt, 2);
-    if !is_given(&rt, 3) & (nodes != NO_NUMBER) {
+    let mut third = [0u8; 32];
+    let two = matches!(rt.arg(3, &mut third), Err(FillError::NotPresent));
+    if two & (nodes != NO_NUMBER) {
         if start < TOO_LARGE {
             let mut out = [0u8; 133];
             return respond(&rt, start as u32, nodes as usize, &mut out);

@@ -2,21 +2,25 @@
 // each question, the number of the table's names and the question's length, 2 bytes each, and the question.
 #![tactic(auto)]
 
+ghost use Rattle.std.specs.Prelude.{◌≡◌, false, IfOk};
+ghost use Rattle.std.specs.Io.KnownBytes.{IsAtEnd};
+
 use console::read_full;
 use question::Names;
-use std::io;
+use std::io::{self, Read};
 
 // Reads one question and prints its number, or answers false where the input ends.
-fn next(rt: &(impl Input + Print)) -> io::Result<bool> {
-    let mut input = rt.reader();
+fn next<R: Read>(rt: &impl Print, input: &mut R) -> io::Result<bool>
+    ensures { IfOk result (λ more. more ≡ false → IsAtEnd (R.remaining input.new)) }
+{
     let mut head = [0u8; 4];
-    if read_full(&mut input, &mut head)? < 4 {
+    if read_full(input, &mut head)? < 4 {
         return Ok(false);
     }
     let count = ty::id_at(&head, 0);
     let len = ty::id_at(&head, 2) as usize;
     let mut space = [0u8; 65535];
-    let n = read_full(&mut input, &mut space[..len])?;
+    let n = read_full(input, &mut space[..len])?;
     let number = question::check_question(&space[..n], Names { count });
     println!(rt; "{number}")?;
     Ok(true)
@@ -24,8 +28,9 @@ fn next(rt: &(impl Input + Print)) -> io::Result<bool> {
 
 // A loop has to end, and nothing says that the input does: so it counts its turns.
 fn main(rt: HostRuntime) -> io::Result<()> {
+    let mut input = rt.reader();
     for _ in 0..u64::MAX {
-        if !next(&rt)? {
+        if !next(&rt, &mut input)? {
             break;
         }
     }

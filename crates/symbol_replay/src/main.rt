@@ -2,19 +2,23 @@
 // table, its length in 2 bytes and the table.
 #![tactic(auto)]
 
+ghost use Rattle.std.specs.Prelude.{◌≡◌, false, IfOk};
+ghost use Rattle.std.specs.Io.KnownBytes.{IsAtEnd};
+
 use console::read_full;
-use std::io;
+use std::io::{self, Read};
 
 // Reads one table and prints its number, or answers false where the input ends.
-fn next(rt: &(impl Input + Print)) -> io::Result<bool> {
-    let mut input = rt.reader();
+fn next<R: Read>(rt: &impl Print, input: &mut R) -> io::Result<bool>
+    ensures { IfOk result (λ more. more ≡ false → IsAtEnd (R.remaining input.new)) }
+{
     let mut head = [0u8; 2];
-    if read_full(&mut input, &mut head)? < 2 {
+    if read_full(input, &mut head)? < 2 {
         return Ok(false);
     }
     let len = ty::id_at(&head, 0) as usize;
     let mut space = [0u8; 65535];
-    let n = read_full(&mut input, &mut space[..len])?;
+    let n = read_full(input, &mut space[..len])?;
     let mut index = [0u16; 42435];
     let c = symbol::checks::check_table(&space[..n], &mut index);
     println!(rt; "{}", c.number)?;
@@ -23,8 +27,9 @@ fn next(rt: &(impl Input + Print)) -> io::Result<bool> {
 
 // A loop has to end, and nothing says that the input does: so it counts its turns.
 fn main(rt: HostRuntime) -> io::Result<()> {
+    let mut input = rt.reader();
     for _ in 0..u64::MAX {
-        if !next(&rt)? {
+        if !next(&rt, &mut input)? {
             break;
         }
     }
