@@ -7,6 +7,7 @@ use mathlib.Core.Bool.{Bool, true, false, ◌||◌}
 use mathlib.Core.List.{List, [], ◌∷◌}
 use mathlib.Core.Path.{◌≡◌, refl}
 use native.Mathlib.Omega.{arith}
+use Rattle.std.specs.Prelude.{Result, Ok, Err}
 use Rattle.ty.proofs.Bodies.{array_body, no_body}
 use Rattle.ty.proofs.Choice.{by_choice}
 use Rattle.ty.proofs.Laws.{head_any}
@@ -16,10 +17,11 @@ use Rattle.ty.proofs.TypeSizes.{never_whole}
 use Rattle.ty.specs.Bytes.{kind_of, is_array, inner_of, non_null}
 use Rattle.ty.specs.Choose.{choose}
 use Rattle.ty.specs.Kind.{nullable_kind, list_kind, named_kind, function_kind, map_kind, module_kind, error_kind, no_kind}
-use Rattle.ty.specs.Read.{body_length, child_count, id_in, item_of, item_at, no_end, after, read_from, read_type}
-use Rattle.ty.specs.declared.read.Item.TheVariants.{Part, Broken, Out}
+use Rattle.ty.specs.Read.{body_length, child_count, id_in, item_of, item_at, no_end, after, read_from, read_type, whole_read, item_read}
 use Rattle.ty.specs.declared.read.Item.{Item}
-use Rattle.ty.specs.declared.read.TypeRead.TheVariants.{Whole}
+use Rattle.ty.specs.declared.read.ItemFault.{ItemFault}
+use Rattle.ty.specs.declared.read.ItemFault.TheVariants.{Broken, Out}
+use Rattle.ty.specs.declared.read.TypeFault.TheVariants.{Malformed}
 
 -- bytes with a kind are not empty
 pub some_bytes : (s : List ℕ) → (kind_of s ≡ no_kind → ⊥) → 0 < length s
@@ -54,22 +56,17 @@ inner_drop s lo hi =
     by_choice (λ x. drop (1 + body_length (kind_of s)) s ≡ x) (is_array s) (λ e. rw (array_body (kind_of s) e)) (λ e. rw (no_body (kind_of s) lo hi e))
 
 -- an item of one of those kinds ends where what it holds begins, holds one type, and has no id and no Error
-unfoldable Holds : ℕ → Item → Type 0
-Holds k (Part next c i e) = (next ≡ 1 + body_length k) × (c ≡ 1) × (i ≡ 0) × (e ≡ false)
-Holds k Broken = Unit
-Holds k Out = Unit
+unfoldable Holds : ℕ → Result Item ItemFault → Type 0
+Holds k (Ok r) = (r.next ≡ 1 + body_length k) × (r.children ≡ 1) × (r.id ≡ 0) × (r.error ≡ false)
+Holds k (Err fault) = Unit
 
-holds_part : (k next c i : ℕ) (e : Bool) → next ≡ 1 + body_length k → c ≡ 1 → i ≡ 0 → e ≡ false → Holds k (Part next c i e)
+holds_part : (k next c i : ℕ) (e : Bool) → next ≡ 1 + body_length k → c ≡ 1 → i ≡ 0 → e ≡ false → Holds k (item_read next c i e)
 unfolding Holds
 holds_part k next c i e p q r t = (p, q, r, t)
 
-holds_broken : (k : ℕ) → Holds k Broken
+holds_fault : (k : ℕ) (fault : ItemFault) → Holds k (Err fault)
 unfolding Holds
-holds_broken k = tt
-
-holds_out : (k : ℕ) → Holds k Out
-unfolding Holds
-holds_out k = tt
+holds_fault k fault = tt
 
 one_child : (k c : ℕ) → nullable_kind ≤ k → k ≤ list_kind → child_count k c ≡ 1
 unfolding child_count choose
@@ -83,24 +80,24 @@ holds : (s : List ℕ) (end k : ℕ) → k ≡ get_or s 0 0 → nullable_kind �
 unfolding item_at item_of
 holds s end k q lo hi =
     rw (← q)
-    (by_choice (Holds k) _ (λ _. holds_out k) λ _.
-    by_choice (Holds k) _ (λ _. holds_broken k) λ _.
-    by_choice (Holds k) _ (λ _. holds_out k) λ _.
+    (by_choice (Holds k) _ (λ _. holds_fault k Out) λ _.
+    by_choice (Holds k) _ (λ _. holds_fault k Broken) λ _.
+    by_choice (Holds k) _ (λ _. holds_fault k Out) λ _.
     by_choice (Holds k) _
     (λ _. holds_part k _ _ _ _ (omega arith) (one_child k _ lo hi) (no_id_lem k _ lo hi) (ne_eqb k error_kind (omega arith)))
-    (λ _. holds_broken k))
+    (λ _. holds_fault k Broken))
 
-held_from : (f : ℕ) (s : List ℕ) (limit n top k : ℕ) (e : Bool) (r : Item) → Holds k r → Within 0 (min (length s) limit) r
-    → after r (no_end (length s) limit 0 false) (λ next c i e₁. read_from f s limit next (1 - 1 + c) (max 0 i) (false || e₁)) ≡ Whole n top e
-    → (1 + body_length k ≤ min (length s) limit) × (read_from f s limit (1 + body_length k) 1 0 false ≡ Whole n top e)
+held_from : (f : ℕ) (s : List ℕ) (limit n top k : ℕ) (e : Bool) (r : Result Item ItemFault) → Holds k r → Within 0 (min (length s) limit) r
+    → after r (no_end (length s) limit 0 false) (λ next c i e₁. read_from f s limit next (1 - 1 + c) (max 0 i) (false || e₁)) ≡ whole_read n top e
+    → (1 + body_length k ≤ min (length s) limit) × (read_from f s limit (1 + body_length k) 1 0 false ≡ whole_read n top e)
 unfolding Holds Within
-held_from f s limit n top k e (Part next c i e₁) h w r = (omega arith, rw (h.0, h.1, h.2, h.3) at r)
-held_from f s limit n top k e Broken h w r = let z : ◌≡◌ {A = ℕ} 0 1 = cc in absurd (omega arith)
-held_from f s limit n top k e Out h w r = absurd (never_whole (length s) limit 0 n top false e r)
+held_from f s limit n top k e (Ok x) h w r = (omega arith, rw (h.0, h.1, h.2, h.3) at r)
+held_from f s limit n top k e (Err Broken) h w r = absurd (never_whole Malformed n top e r)
+held_from f s limit n top k e (Err Out) h w r = absurd (never_whole (no_end (length s) limit 0 false) n top e r)
 
 module _ (s : List ℕ) (limit top : ℕ) (e : Bool) (lo : nullable_kind ≤ kind_of s) (hi : kind_of s ≤ list_kind) where
-  held : (n : ℕ) → read_type s limit ≡ Whole n top e
-      → (1 + body_length (kind_of s) ≤ min (length s) limit) × (read_from (min (length s) limit) s limit (1 + body_length (kind_of s)) 1 0 false ≡ Whole n top e)
+  held : (n : ℕ) → read_type s limit ≡ whole_read n top e
+      → (1 + body_length (kind_of s) ≤ min (length s) limit) × (read_from (min (length s) limit) s limit (1 + body_length (kind_of s)) 1 0 false ≡ whole_read n top e)
   unfolding read_type read_from choose
   held n r =
       let b : 0 < length s = some_bytes s (λ q. omega arith) in
@@ -109,22 +106,22 @@ module _ (s : List ℕ) (limit top : ℕ) (e : Bool) (lo : nullable_kind ≤ kin
       (within s (min (length s) limit) 0) r
 
   -- what a whole type holds is a whole type, with the same highest id, and an Error in the one is in the other
-  pub inner_reads : (n : ℕ) → read_type s limit ≡ Whole n top e → read_type (inner_of s) limit ≡ Whole (n - (1 + body_length (kind_of s))) top e
+  pub inner_reads : (n : ℕ) → read_type s limit ≡ whole_read n top e → read_type (inner_of s) limit ≡ whole_read (n - (1 + body_length (kind_of s))) top e
   inner_reads n r =
       let h = held n r in
       rw (← inner_drop s lo hi) (reads_dropped s limit (min (length s) limit) (1 + body_length (kind_of s)) n top e h.0 h.1)
 
   -- and as long as what it holds where the type is all of the bytes
-  pub inner_whole : read_type s limit ≡ Whole (length s) top e → read_type (inner_of s) limit ≡ Whole (length (inner_of s)) top e
+  pub inner_whole : read_type s limit ≡ whole_read (length s) top e → read_type (inner_of s) limit ≡ whole_read (length (inner_of s)) top e
   inner_whole r =
       let l : length s - (1 + body_length (kind_of s)) ≡ length (inner_of s) = rw (← inner_drop s lo hi) (simp length-drop) in
       rw l at (inner_reads (length s) r)
 
 -- and so is a whole type with one Nullable taken off
-pub non_null-whole : (s : List ℕ) (limit top : ℕ) (e : Bool) → read_type s limit ≡ Whole (length s) top e
-    → read_type (non_null s) limit ≡ Whole (length (non_null s)) top e
+pub non_null-whole : (s : List ℕ) (limit top : ℕ) (e : Bool) → read_type s limit ≡ whole_read (length s) top e
+    → read_type (non_null s) limit ≡ whole_read (length (non_null s)) top e
 unfolding non_null
 non_null-whole s limit top e r =
-    by_choice (λ x. read_type x limit ≡ Whole (length x) top e) (eqb (kind_of s) nullable_kind) {x = inner_of s} {y = s}
+    by_choice (λ x. read_type x limit ≡ whole_read (length x) top e) (eqb (kind_of s) nullable_kind) {x = inner_of s} {y = s}
     (λ t. let k : kind_of s ≡ nullable_kind = eqb-true (kind_of s) nullable_kind t in inner_whole s limit top e (omega arith) (omega arith) r)
     (λ _. r)

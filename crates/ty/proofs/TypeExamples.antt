@@ -3,66 +3,68 @@ use lib.ListN.{replicate}
 use mathlib.Core.Bool.{true, false}
 use mathlib.Core.List.{[], ◌∷◌, ◌++◌}
 use mathlib.Core.Path.{◌≡◌, refl}
+use Rattle.std.specs.Prelude.{Result, Err}
 use Rattle.ty.specs.Bytes.{Ty, plain_ty, is_nullable, is_string, inner_of, non_null}
 use Rattle.ty.specs.Choose.{choose}
 use Rattle.ty.specs.Kind.{int_kind, string_kind, any_kind, nullable_kind, array_kind, list_kind, map_kind, named_kind, function_kind, type_var_kind, module_kind, error_kind}
-use Rattle.ty.specs.Read.{body_length, child_count, id_in, item_of, item_at, no_end, read_from, read_type, longest_type}
-use Rattle.ty.specs.declared.read.TypeRead.TheVariants.{Whole, Cut, Malformed, Endless}
+use Rattle.ty.specs.Read.{body_length, child_count, id_in, item_of, item_at, no_end, read_from, read_type, longest_type, whole_read}
+use Rattle.ty.specs.declared.read.TypeFault.TheVariants.{Cut, Malformed, Endless}
+use Rattle.ty.specs.declared.read.TypeFault.{TypeFault}
 use Rattle.ty.specs.declared.read.TypeRead.{TypeRead}
 
 -- as in a table or a leaf
-abbrev read : Ty → TypeRead
+abbrev read : Ty → Result TypeRead TypeFault
 read s = read_type s longest_type
 
 abbrev int : Ty
 int = plain_ty int_kind
 
 -- 191 Nullable over Int is taken, and 192 is not
-deep : (read (replicate 191 nullable_kind ++ int) ≡ Whole 192 0 false) × (read (replicate 192 nullable_kind ++ int) ≡ Endless 0 false)
+deep : (read (replicate 191 nullable_kind ++ int) ≡ whole_read 192 0 false) × (read (replicate 192 nullable_kind ++ int) ≡ Err (Endless 0 false))
 unfolding choose body_length child_count id_in item_of item_at no_end read_from read_type
 deep = (refl, refl)
 
 -- broken off by the end of the bytes before the 192nd byte is cut, and behind that it has no end
 broken_off :
-    (read [] ≡ Cut) × (read (replicate 191 nullable_kind) ≡ Cut) × (read (replicate 192 nullable_kind) ≡ Endless 0 false)
-    × (read (named_kind ∷ 40 ∷ []) ≡ Cut) × (read (map_kind ∷ int) ≡ Cut)
+    (read [] ≡ Err Cut) × (read (replicate 191 nullable_kind) ≡ Err Cut) × (read (replicate 192 nullable_kind) ≡ Err (Endless 0 false))
+    × (read (named_kind ∷ 40 ∷ []) ≡ Err Cut) × (read (map_kind ∷ int) ≡ Err Cut)
 unfolding choose body_length child_count id_in item_of item_at no_end read_from read_type
 broken_off = (refl, refl, refl, refl, refl)
 
 -- a body that is not wholly inside the first 192 bytes is not examined
 at_the_limit :
-    (read (replicate 189 nullable_kind ++ (named_kind ∷ 7 ∷ 1 ∷ [])) ≡ Whole 192 263 false)
-    × (read (replicate 190 nullable_kind ++ (named_kind ∷ 7 ∷ 1 ∷ [])) ≡ Endless 0 false)
-    × (read ((map_kind ∷ named_kind ∷ 7 ∷ 1 ∷ []) ++ replicate 188 list_kind) ≡ Endless 263 false)
+    (read (replicate 189 nullable_kind ++ (named_kind ∷ 7 ∷ 1 ∷ [])) ≡ whole_read 192 263 false)
+    × (read (replicate 190 nullable_kind ++ (named_kind ∷ 7 ∷ 1 ∷ [])) ≡ Err (Endless 0 false))
+    × (read ((map_kind ∷ named_kind ∷ 7 ∷ 1 ∷ []) ++ replicate 188 list_kind) ≡ Err (Endless 263 false))
 unfolding choose body_length child_count id_in item_of item_at no_end read_from read_type
 at_the_limit = (refl, refl, refl)
 
 -- a Function of 16 parameters is taken, and of 17 is not
 parameters :
-    (read (function_kind ∷ 16 ∷ replicate 17 int_kind) ≡ Whole 19 0 false) × (read (function_kind ∷ 16 ∷ replicate 16 int_kind) ≡ Cut)
-    × (read (function_kind ∷ 17 ∷ replicate 18 int_kind) ≡ Malformed)
+    (read (function_kind ∷ 16 ∷ replicate 17 int_kind) ≡ whole_read 19 0 false) × (read (function_kind ∷ 16 ∷ replicate 16 int_kind) ≡ Err Cut)
+    × (read (function_kind ∷ 17 ∷ replicate 18 int_kind) ≡ Err Malformed)
 unfolding choose body_length child_count id_in item_of item_at no_end read_from read_type
 parameters = (refl, refl, refl)
 
 -- an Array's flag 0 needs the size 0, flag 1 means a size, and there is no other flag
 arrays :
-    (read (array_kind ∷ 0 ∷ 0 ∷ 0 ∷ 0 ∷ 0 ∷ int) ≡ Whole 7 0 false) × (read (array_kind ∷ 0 ∷ 0 ∷ 0 ∷ 0 ∷ 1 ∷ int) ≡ Malformed)
-    × (read (array_kind ∷ 1 ∷ 3 ∷ 0 ∷ 0 ∷ 1 ∷ int) ≡ Whole 7 0 false) × (read (array_kind ∷ 2 ∷ 0 ∷ 0 ∷ 0 ∷ 0 ∷ int) ≡ Malformed)
+    (read (array_kind ∷ 0 ∷ 0 ∷ 0 ∷ 0 ∷ 0 ∷ int) ≡ whole_read 7 0 false) × (read (array_kind ∷ 0 ∷ 0 ∷ 0 ∷ 0 ∷ 1 ∷ int) ≡ Err Malformed)
+    × (read (array_kind ∷ 1 ∷ 3 ∷ 0 ∷ 0 ∷ 1 ∷ int) ≡ whole_read 7 0 false) × (read (array_kind ∷ 2 ∷ 0 ∷ 0 ∷ 0 ∷ 0 ∷ int) ≡ Err Malformed)
 unfolding choose body_length child_count id_in item_of item_at no_end read_from read_type
 arrays = (refl, refl, refl, refl)
 
 -- the highest id, of a Named or a Module and not of a TypeVar
 ids :
-    (read (named_kind ∷ 41 ∷ 0 ∷ []) ≡ Whole 3 41 false) × (read (module_kind ∷ 44 ∷ 1 ∷ []) ≡ Whole 3 300 false)
-    × (read (type_var_kind ∷ 9 ∷ 9 ∷ 9 ∷ 9 ∷ []) ≡ Whole 5 0 false)
-    × (read (map_kind ∷ named_kind ∷ 41 ∷ 0 ∷ module_kind ∷ 40 ∷ 0 ∷ []) ≡ Whole 7 41 false)
-    × (read (map_kind ∷ named_kind ∷ 40 ∷ 0 ∷ module_kind ∷ 41 ∷ 0 ∷ []) ≡ Whole 7 41 false)
+    (read (named_kind ∷ 41 ∷ 0 ∷ []) ≡ whole_read 3 41 false) × (read (module_kind ∷ 44 ∷ 1 ∷ []) ≡ whole_read 3 300 false)
+    × (read (type_var_kind ∷ 9 ∷ 9 ∷ 9 ∷ 9 ∷ []) ≡ whole_read 5 0 false)
+    × (read (map_kind ∷ named_kind ∷ 41 ∷ 0 ∷ module_kind ∷ 40 ∷ 0 ∷ []) ≡ whole_read 7 41 false)
+    × (read (map_kind ∷ named_kind ∷ 40 ∷ 0 ∷ module_kind ∷ 41 ∷ 0 ∷ []) ≡ whole_read 7 41 false)
 unfolding choose body_length child_count id_in item_of item_at no_end read_from read_type
 ids = (refl, refl, refl, refl, refl)
 
 -- an Error is seen, and there is no kind behind it; what follows a type is not looked at
 errors :
-    (read (map_kind ∷ error_kind ∷ int) ≡ Whole 3 0 true) × (read (22 ∷ []) ≡ Malformed) × (read (int_kind ∷ error_kind ∷ 22 ∷ []) ≡ Whole 1 0 false)
+    (read (map_kind ∷ error_kind ∷ int) ≡ whole_read 3 0 true) × (read (22 ∷ []) ≡ Err Malformed) × (read (int_kind ∷ error_kind ∷ 22 ∷ []) ≡ whole_read 1 0 false)
 unfolding choose body_length child_count id_in item_of item_at no_end read_from read_type
 errors = (refl, refl, refl)
 

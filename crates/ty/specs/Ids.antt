@@ -1,17 +1,11 @@
 -- The ids of a type: those of each Named and each Module that is examined while it is read. Document 01, "Refused, and by whose doing": in a type without end
 -- only kinds and bodies wholly inside its first 192 bytes are examined.
-use Rattle.std.specs.Prelude.{ℕ, zero, suc, ◌+◌, ◌-◌, min, ◌||◌, List, [], ◌∷◌, ◌++◌, length, get_or, eqb}
+use Rattle.std.specs.Prelude.{ℕ, zero, suc, ◌+◌, ◌-◌, min, ◌||◌, List, [], ◌∷◌, ◌++◌, length, get_or, eqb, Result, Ok, Err}
 use Rattle.ty.specs.Choose.{choose}
 use Rattle.ty.specs.Kind.{named_kind, module_kind}
 use Rattle.ty.specs.Bytes.{id_at}
 use Rattle.ty.specs.declared.read.Item.{Item}
-use Rattle.ty.specs.declared.read.Item.TheVariants.{Part, Broken, Out}
-use Rattle.ty.specs.Read.{item_at}
-use Rattle.ty.specs.Kind.{named_kind, module_kind}
-use Rattle.ty.specs.Read.{item_at}
-use Rattle.ty.specs.Kind.{named_kind, module_kind}
-use Rattle.ty.specs.Read.{item_at}
-use Rattle.ty.specs.Kind.{named_kind, module_kind}
+use Rattle.ty.specs.declared.read.ItemFault.{ItemFault}
 use Rattle.ty.specs.Read.{item_at}
 
 -- the id of the kind at `at`: a Named or a Module has one, the other kinds have none
@@ -19,10 +13,9 @@ unfoldable pub own_ids : List ℕ → ℕ → List ℕ
 own_ids s at = choose (eqb (get_or s at 0) named_kind || eqb (get_or s at 0) module_kind) (id_at s (at + 1) ∷ []) []
 
 -- the ids of an item, before those of what stands behind it
-abbrev pub ids_behind : Item → (ℕ → ℕ → List ℕ) → List ℕ
-ids_behind (Part next c i e) k = k next c
-ids_behind Broken k = []
-ids_behind Out k = []
+abbrev pub ids_behind : Result Item ItemFault → (ℕ → ℕ → List ℕ) → List ℕ
+ids_behind (Ok r) k = k r.next r.children
+ids_behind (Err fault) k = []
 
 -- the ids of `pending` types from `at` on
 unfoldable pub ids_from : ℕ → List ℕ → ℕ → ℕ → ℕ → List ℕ

@@ -1,11 +1,11 @@
-use Rattle.ty.proofs.Choice.{chain}
+use Rattle.ty.proofs.Choice.{chain_calls}
 use Rattle.ty.specs.Bytes.{non_null}
 use Rattle.ty.proofs.non_null.Goals as goal
 
-pub returns-then-kind_of-eq-NULLABLE : goal.returns-then-kind_of-eq-NULLABLE
+pub returns-then-is_kind : goal.returns-then-is_kind
 unfolding non_null
-returns-then-kind_of-eq-NULLABLE c = rw (← c.kind_of.ensures) (search chain depth 14)
+returns-then-is_kind c = search chain_calls depth 14
 
 pub returns : goal.returns
 unfolding non_null
-returns c = rw (← c.kind_of.ensures) (search chain depth 14)
+returns c = search chain_calls depth 14

@@ -6,9 +6,9 @@ pub returns-then-end-at : goal.returns-then-end-at
 unfolding item_at
 returns-then-end-at c = search chain depth 14
 
-pub returns-then-k-gt-ERROR : goal.returns-then-k-gt-ERROR
+pub returns-then-k : goal.returns-then-k
 unfolding item_at
-returns-then-k-gt-ERROR c = rw (← c.byte_at-k.ensures) (search chain depth 14)
+returns-then-k c = rw (← c.byte_at-k.ensures) (search chain depth 14)
 
 pub returns-then-end-at-2 : goal.returns-then-end-at-2
 unfolding item_at
