@@ -10,6 +10,8 @@ use Rattle.area.specs.Inside.Storable.{Reads, Storable}
 use Rattle.area.specs.Source.{type_from}
 use Rattle.area.specs.declared.Source.TheVariants.{Kind, ListOf, Name, First, Second, Inner, Pointer, Part, Function}
 use Rattle.area.specs.declared.Source.{Source}
+use Rattle.ty.specs.KindNumber.{kind_number}
+use Rattle.ty.specs.declared.Kind.{Kind as TypeKind}
 use Rattle.ty.specs.Bytes.{Ty, plain_ty, inner_of, two_bytes}
 use Rattle.ty.specs.Kind.{pointer_kind, list_kind, named_kind, function_kind}
 
@@ -27,7 +29,7 @@ reads_both l node first second x y Pointer = x
 reads_both l node first second x y (Part start len) = tt
 reads_both l node first second x y (Function start len) = tt
 
-pub reads_kind : (l : List ℕ) (node first second k : ℕ) → Reads l node first second (Kind k)
+pub reads_kind : (l : List ℕ) (node first second : ℕ) (k : TypeKind) → Reads l node first second (Kind k)
 unfolding Reads
 reads_kind l node first second k = tt
 
@@ -86,11 +88,11 @@ pub held_source : (table a a' l l' : List ℕ) (node first second : ℕ) (s : So
 held_source table a a' l l' node first second s lent h w = held_stored a a' l l' node _ w lent h.room h.short
 
 module _ (table : List ℕ) (x y : Ty) (a a' l l' : List ℕ) (node : ℕ) (s : Source) where
-  pub from_kind : (k : ℕ) → s ≡ Kind k → Stored a a' l l' node (plain_ty k) → Stored a a' l l' node (type_from table x y s)
+  pub from_kind : (k : TypeKind) → s ≡ Kind k → Stored a a' l l' node (plain_ty (kind_number k)) → Stored a a' l l' node (type_from table x y s)
   unfolding type_from
   from_kind k e w = rw e w
 
-  pub from_list : (k : ℕ) → s ≡ ListOf k → Stored a a' l l' node (list_kind ∷ plain_ty k) → Stored a a' l l' node (type_from table x y s)
+  pub from_list : (k : TypeKind) → s ≡ ListOf k → Stored a a' l l' node (list_kind ∷ plain_ty (kind_number k)) → Stored a a' l l' node (type_from table x y s)
   unfolding type_from
   from_list k e w = rw e w
 

@@ -1,3 +1,4 @@
+pub mod DiagnosticKind
 pub mod Diagnostic
 pub mod Source
 pub mod Inside

@@ -5,6 +5,8 @@ ghost use Rattle.std.specs.Prelude.{◌≡◌, ◌∷◌, ◌+◌, ◌≤◌, �
 ghost use Rattle.std.proofs.lemmas.List.Edits.{sets};
 ghost use Rattle.ty.specs.Kind.{error_kind, pointer_kind, list_kind, named_kind, function_kind};
 ghost use Rattle.ty.specs.Bytes.{plain_ty, inner_of, same_bytes, two_bytes};
+ghost use Rattle.ty.specs.KindNumber.{kind_number};
+ghost use Rattle.area.specs.DiagnosticKind.{diagnostic_number};
 ghost use Rattle.area.specs.Diagnostic.{put_one, count_limit};
 ghost use Rattle.area.specs.Inside.Slot.{Lent, Slot, Stored, StoredOf, slot_of, last_of, slot_size};
 ghost use Rattle.area.specs.Source.{bytes_from};
@@ -13,12 +15,49 @@ ghost use Rattle.area.specs.Inside.Storable.{Storable, source_type};
 use ty::Kind;
 use written::{copy_in, put_two};
 
+// The kinds of diagnostics, in the order of their numbers.
+#[derive(Clone, Copy, PartialEq, Eq)]
+pub enum DiagnosticKind {
+    NullableOperands = 1,
+    Plus,
+    Numeric,
+    Unrelated,
+    NotComparable,
+    Logical,
+    Bitwise,
+    NullableUnary,
+    Minus,
+    Not,
+    Step,
+    Dereference,
+    NotNull,
+    Suspend,
+    ArgumentCount,
+    UnknownName,
+    Mismatch,
+    NoMatch,
+    Tie,
+    Access,
+    NullableMember,
+    Unresolved,
+    NoMembers,
+}
+
+impl DiagnosticKind {
+    // The byte that stands for a kind.
+    pub fn number(self) -> u8
+        ensures { result ≡ diagnostic_number self }
+    {
+        self as u8
+    }
+}
+
 // Where a node's type comes from: a kind without body, a List of one, a name, a child's type, what the first child's type holds, a Pointer to it, a
 // part of the table, or a Function without parameters whose result is such a part.
 #[derive(Clone, Copy)]
 pub enum Source {
-    Kind(u8),
-    ListOf(u8),
+    Kind(Kind),
+    ListOf(Kind),
     Name(u16),
     First,
     Second,
@@ -29,15 +68,15 @@ pub enum Source {
 }
 
 // Reports a diagnostic, count having been reported before, and answers the new count.
-pub fn report(buf: &mut [u8], count: usize, kind: u8, node: usize, number: usize) -> usize
+pub fn report(buf: &mut [u8], count: usize, kind: DiagnosticKind, node: usize, number: usize) -> usize
     requires { count < count_limit }
-    ensures { (result ≡ count + 1) × (buf.new ≡ put_one buf.old count (record { kind = kind; node = node; number = number })) }
+    ensures { (result ≡ count + 1) × (buf.new ≡ put_one buf.old count (record { kind = diagnostic_number kind; node = node; number = number })) }
 {
     let p = 5 * count;
     if buf.len() < p + 5 {
         return count + 1;
     }
-    buf[p] = kind;
+    buf[p] = kind.number();
     put_two(node, buf, p + 1);
     put_two(number, buf, p + 3);
     count + 1
@@ -71,7 +110,7 @@ pub fn slot<'a>(area: &'a [u8], lens: &[usize], m: usize) -> &'a [u8]
 pub fn is_error(s: &[u8]) -> bool
     ensures { result ≡ same_bytes s.now (plain_ty error_kind) }
 {
-    ty::same_bytes(s, &[Kind::ERROR])
+    ty::same_bytes(s, &[Kind::Error as u8])
 }
 
 // Bytes of the area go to an earlier place. A child's slot is behind its parent's, so no other direction is needed.
@@ -87,22 +126,22 @@ fn move_down(area: &mut [u8], from: usize, to: usize, n: usize)
 }
 
 // A type without body becomes the type of node.
-fn store_kind(area: &mut [u8], lens: &mut [usize], node: usize, kind: u8)
+fn store_kind(area: &mut [u8], lens: &mut [usize], node: usize, kind: Kind)
     requires { Lent area.old lens.old × (node < length lens.old) }
-    ensures { Stored area.old area.new lens.old lens.new node (plain_ty kind) }
+    ensures { Stored area.old area.new lens.old lens.new node (plain_ty (kind_number kind)) }
 {
-    area[256 * node] = kind;
+    area[256 * node] = kind.number();
     lens[node] = 1;
 }
 
 // A List of a type without body becomes the type of node.
-fn store_list(area: &mut [u8], lens: &mut [usize], node: usize, kind: u8)
+fn store_list(area: &mut [u8], lens: &mut [usize], node: usize, kind: Kind)
     requires { Lent area.old lens.old × (node < length lens.old) }
-    ensures { Stored area.old area.new lens.old lens.new node (list_kind ∷ plain_ty kind) }
+    ensures { Stored area.old area.new lens.old lens.new node (list_kind ∷ plain_ty (kind_number kind)) }
 {
     let p = 256 * node;
-    area[p] = Kind::LIST;
-    area[p + 1] = kind;
+    area[p] = Kind::List as u8;
+    area[p + 1] = kind.number();
     lens[node] = 2;
 }
 
@@ -112,7 +151,7 @@ fn store_name(area: &mut [u8], lens: &mut [usize], node: usize, id: u16)
     ensures { Stored area.old area.new lens.old lens.new node (named_kind ∷ two_bytes id) }
 {
     let p = 256 * node;
-    area[p] = Kind::NAMED;
+    area[p] = Kind::Named as u8;
     put_two(id as usize, area, p + 1);
     lens[node] = 3;
 }
@@ -149,7 +188,7 @@ fn store_function(
 {
     let t = part(table, start, len);
     let p = 256 * node;
-    area[p] = Kind::FUNCTION;
+    area[p] = Kind::Function as u8;
     area[p + 1] = 0;
     copy_in(area, p + 2, t);
     lens[node] = t.len() + 2;
@@ -197,7 +236,7 @@ fn store_pointer(area: &mut [u8], lens: &mut [usize], node: usize, m: usize)
 {
     let n = lens[m];
     let p = 256 * node;
-    area[p] = Kind::POINTER;
+    area[p] = Kind::Pointer as u8;
     move_down(area, 256 * m, p + 1, n);
     lens[node] = n + 1;
 }
