@@ -1,9 +1,10 @@
 -- Laws on lists of bytes: parts, stores of several bytes, zeros.
 use Prim.Native.Nat.{ℕ, zero, suc, ◌+◌, ◌-◌, ◌≤◌, ◌<◌}
-use borrow.Author.Fill.{fill_more}
 use lib.ListN.{length, get_or, take, drop, set, replicate, length-append, length-drop, length-take, length-replicate}
-use lib.Seq.{sets, sets-eq, length-take-le, take-suc, take_all, take-nil, get_or-drop, get_or-set_other, drop-set-add, take-set-le, drop-length, take-append_seam, drop-append-add, length-sets}
-use mathlib.Core.List.{List, [], ◌∷◌, ◌++◌, append-nil}
+use lib.Seq.{sets, sets-eq, length-take-le, take-suc, take_all, take-nil, get_or-drop, get_or-set_other, drop-set-add, take-set-le, take-append_seam, drop-append-add, length-sets}
+use borrow.Rule.Slice.PartMut.{put_mid}
+use Rattle.std.proofs.lemmas.Slice.{put_mid-paste}
+use mathlib.Core.List.{List, [], ◌∷◌, ◌++◌}
 use mathlib.Core.Path.{◌≡◌, refl, sym, ap, ◌∙◌}
 use native.Mathlib.Nat.{add-zero, zero-sub, suc-sub-suc, sub-zero}
 use native.Mathlib.Numerals.{add-one}
@@ -51,6 +52,13 @@ sets-append (v ∷ vs) ws a p =
 pub stored_length : {b' : List ℕ} (b : List ℕ) (at : ℕ) (vs : List ℕ) → b' ≡ sets b at vs → length b' ≡ length b
 stored_length b at vs e = ap length e ∙ length-sets b at vs
 
+-- a part of a slice that was written
+pub put_mid-sets : (xs ys zs : List ℕ) (at k : ℕ) → ys ≡ zs → k ≡ length zs → at + length zs ≤ length xs → put_mid at k xs ys ≡ sets xs at zs
+put_mid-sets xs ys zs at k e f h =
+    put_mid-paste at k xs ys zs (length zs) e (sym f) refl
+    ∙ ap (λ (w : List ℕ). take at xs ++ w ++ drop (at + length zs) xs) (take_all (length zs) zs (omega arith))
+    ∙ sym (sets-eq zs xs at h)
+
 -- `put_two`
 pub two-set : (b : List ℕ) (at x y : ℕ) → set (set b at x) (at + 1) y ≡ sets b at (x ∷ y ∷ [])
 two-set b at x y = rw (add-one at)
@@ -88,11 +96,3 @@ sets-zeros pre vs m h =
     sets-eq vs (pre ++ z) (length pre) (omega arith)
     ∙ ap (λ (l : List ℕ). l ++ vs ++ drop (length pre + length vs) (pre ++ z)) (take-append_seam pre z)
     ∙ ap (λ (l : List ℕ). pre ++ vs ++ l) (drop-append-add pre z (length vs) ∙ drop-replicate (length vs) m 0)
-
--- `clear`: one more byte, and the end
-pub clear_more : (d b : List ℕ) (i : ℕ) → b ≡ replicate i 0 ++ drop i d → i < length d → set b i 0 ≡ replicate (i + 1) 0 ++ drop (i + 1) d
-clear_more d b i e h = rw e (fill_more i 0 d h)
-
-pub clear_done : (d b : List ℕ) (i : ℕ) → b ≡ replicate i 0 ++ drop i d → i ≡ length d → b ≡ replicate (length d) 0
-clear_done d b i e h =
-    e ∙ ap (λ (k : ℕ). replicate k 0 ++ drop k d) h ∙ ap (λ (l : List ℕ). replicate (length d) 0 ++ l) (drop-length d) ∙ append-nil _

@@ -7,9 +7,10 @@ use mathlib.Core.Path.{◌≡◌, refl, sym, ap, ◌∙◌}
 use native.Mathlib.Nat.{sub-zero}
 use native.Mathlib.Omega.{arith}
 use Rattle.written.proofs.ListFacts.{sets-zeros}
-use Rattle.written.specs.Output.{Output, wrote, refused, written_of, lent_after, Writes}
+use Rattle.std.specs.Prelude.{Result, Ok, Err}
+use Rattle.written.specs.Output.{Output, wrote, refused, write_fault_number, written_of, written_number, written_len, lent_after, Writes}
 use Rattle.written.specs.Padding.{padded_to}
-use Rattle.written.specs.declared.Written.{Written}
+use Rattle.written.specs.declared.WriteFault.{WriteFault}
 
 -- a cleared buffer has the empty output
 pub wrote_nothing : (lent : ℕ) → replicate lent 0 ≡ lent_after lent (wrote [])
@@ -28,21 +29,51 @@ pub wrote_all : (lent : ℕ) (s : List ℕ) → length s ≤ lent → sets (repl
 wrote_all lent s h = ap (λ (b : List ℕ). sets b 0 s) (wrote_nothing lent) ∙ wrote_more lent [] s (omega arith)
 
 -- the returns: a refusal, and an output
-pub refused_writes : (number : ℕ) (before after : List ℕ) → after ≡ replicate (length before) 0
-    → Writes (refused number) (record { number = number; len = 0 }) before after
+pub refused_writes : (fault : WriteFault) (before after : List ℕ) → after ≡ replicate (length before) 0 → Writes (refused fault) (Err fault) before after
 unfolding written_of lent_after
-refused_writes number before after e = record { answer = refl; buffer = e }
+refused_writes fault before after e = record { answer = refl; buffer = e }
 
 pub wrote_writes : (s : List ℕ) (len : ℕ) (before after : List ℕ) → len ≡ length s → after ≡ lent_after (length before) (wrote s)
-    → Writes (wrote s) (record { number = 0; len = len }) before after
+    → Writes (wrote s) (Ok len) before after
 unfolding written_of
 wrote_writes s len before after l e = record { answer = rw l; buffer = e }
 
--- the output lies inside the lent bytes, so that a caller may slice them
-pub len_fits : (o : Output) (r : Written) (before after : List ℕ) → Writes o r before after → r.len ≤ length after
-unfolding written_of lent_after padded_to
-len_fits (refused number) r before after w = rw w.answer (omega arith)
-len_fits (wrote bytes) r before after w =
-    let zeros : List ℕ = replicate (length before - length bytes) 0 in
-    let n : length after ≡ length bytes + length zeros = ap length w.buffer ∙ length-append bytes zeros in
-    rw w.answer (omega arith)
+-- the answer as a number and a length
+unfoldable len_of : Result ℕ WriteFault → ℕ
+len_of (Ok len) = len
+len_of (Err fault) = 0
+
+unfoldable number_of : Result ℕ WriteFault → ℕ
+number_of (Ok len) = 0
+number_of (Err fault) = write_fault_number fault
+
+len_is : (o : Output) (r : Result ℕ WriteFault) → r ≡ written_of o → len_of r ≡ written_len o
+unfolding written_of len_of
+len_is (wrote bytes) r e = rw e
+len_is (refused fault) r e = rw e
+
+number_is : (o : Output) (r : Result ℕ WriteFault) → r ≡ written_of o → number_of r ≡ written_number o
+unfolding written_of number_of
+number_is (wrote bytes) r e = rw e
+number_is (refused fault) r e = rw e
+
+inside : {after : List ℕ} (lent : ℕ) (o : Output) → after ≡ lent_after lent o → written_len o ≤ length after
+unfolding lent_after padded_to
+inside lent (refused fault) e = omega arith
+inside {after} lent (wrote bytes) e =
+    let zeros : List ℕ = replicate (lent - length bytes) 0 in
+    let n : length after ≡ length bytes + length zeros = ap length e ∙ length-append bytes zeros in
+    omega arith
+
+module _ (o : Output) (before after : List ℕ) where
+  pub ok_written : (len : ℕ) → Writes o (Ok len) before after → (written_number o ≡ 0) × (written_len o ≡ len)
+  unfolding number_of len_of
+  ok_written len w = (sym (number_is o (Ok len) w.answer), sym (len_is o (Ok len) w.answer))
+
+  pub err_written : (fault : WriteFault) → Writes o (Err fault) before after → (written_number o ≡ write_fault_number fault) × (written_len o ≡ 0)
+  unfolding number_of len_of
+  err_written fault w = (sym (number_is o (Err fault) w.answer), sym (len_is o (Err fault) w.answer))
+
+  -- the output lies inside the lent bytes, so that a caller may slice them
+  pub len_fits : (len : ℕ) → Writes o (Ok len) before after → len ≤ length after
+  len_fits len w = omega (arith, (ok_written len w).1, inside (length before) o w.buffer)

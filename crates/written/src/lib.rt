@@ -1,29 +1,26 @@
 // What every writing part shares: its answer, what it does to the buffer that it is lent, and the stores of several bytes.
 #![tactic(auto)]
 
-ghost use Rattle.std.specs.Prelude.{◌≡◌, ◌+◌, ◌≤◌, length, replicate};
+ghost use Rattle.std.specs.Prelude.{◌≡◌, ◌+◌, ◌≤◌, length};
 ghost use Rattle.std.proofs.lemmas.List.Edits.{sets};
 ghost use Rattle.ty.specs.Bytes.{two_bytes};
-ghost use Rattle.written.specs.Output.{refused, Writes};
+ghost use Rattle.written.specs.Output.{refused, write_fault_number, Writes};
 
-// The answer of a writing part: 0 and how many bytes it wrote, or the number with which it refuses and 0.
-#[derive(Clone, Copy)]
-pub struct Written {
-    pub number: u8,
-    pub len: usize,
+// Why a writing part refuses; otherwise it answers how many bytes it wrote.
+#[derive(Clone, Copy, PartialEq, Eq)]
+pub enum WriteFault {
+    // The node count is not 1 to 64.
+    BadCount = 14,
+    // The buffer is too short for the output.
+    TooShort,
 }
 
-// The number of every writing part for a buffer that is too short for the output.
-pub const TOO_SHORT: u8 = 15;
-
-// Zeros everywhere.
-pub fn clear(out: &mut [u8])
-    ensures { out.new ≡ replicate (length out.old) 0 }
-{
-    let mut i = 0;
-    while i < out.len() {
-        out[i] = 0;
-        i += 1;
+impl WriteFault {
+    // The number with which a refusal is answered.
+    pub fn number(self) -> u8
+        ensures { result ≡ write_fault_number self }
+    {
+        self as u8
     }
 }
 
@@ -32,11 +29,7 @@ pub fn copy_in(out: &mut [u8], to: usize, s: &[u8])
     requires { to + length s.now ≤ length out.old }
     ensures { out.new ≡ sets out.old to s.now }
 {
-    let mut i = 0;
-    while i < s.len() {
-        out[to + i] = s[i];
-        i += 1;
-    }
+    out[to..to + s.len()].copy_from_slice(s);
 }
 
 // n goes into two bytes from `at` on, low byte first.
@@ -48,10 +41,10 @@ pub fn put_two(n: usize, out: &mut [u8], at: usize)
     out[at + 1] = (n / 256 % 256) as u8;
 }
 
-// Refuses with a number: nothing is written.
-pub fn refuse(out: &mut [u8], number: u8) -> Written
-    ensures { Writes (refused number) result out.old out.new }
+// Refuses: nothing is written.
+pub fn refuse(out: &mut [u8], fault: WriteFault) -> Result<usize, WriteFault>
+    ensures { Writes (refused fault) result out.old out.new }
 {
-    clear(out);
-    Written { number, len: 0 }
+    out.fill(0);
+    Err(fault)
 }

@@ -1,14 +1,6 @@
-use borrow.Author.Rules.{rules}
-use mathlib.Core.Path.{refl}
 use native.Mathlib.Omega.{arith}
-use Rattle.written.proofs.CopyLoops.{fill_zero, fill_byte, fill_all}
+use Rattle.written.proofs.ListFacts.{put_mid-sets}
 use Rattle.written.proofs.copy_in.Goals as goal
 
-pub loop-i-init : goal.loop-i-init
-loop-i-init c = (search rules, refl, fill_zero _ _ _ _)
-
-pub loop-i-preserved : goal.loop-i-preserved
-loop-i-preserved c = (search rules, search rules, fill_byte _ _ _ _ _ (omega arith) c.loop-i.invariant.2)
-
 pub returns : goal.returns
-returns c = fill_all _ _ c.args.s.now c.loop-i.i _ (omega arith) c.loop-i.invariant.2
+returns c = put_mid-sets c.args.out.now _ c.args.s.now c.args.to _ c.copy_from_slice.ensures.after (omega arith) (omega arith)
