@@ -12,12 +12,10 @@ fn required(params: Params) -> usize
     ensures { (t : List ℕ) → result ≡ required_of (params_in t params) }
 {
     let mut n: usize = 0;
-    let mut i: usize = 0;
-    while i < params.count {
+    for i in 0..params.count {
         if !(params.defaults[i] | params.varargs[i]) {
             n += 1;
         }
-        i += 1;
     }
     n
 }
@@ -27,11 +25,10 @@ pub fn last_vararg(params: Params) -> bool
     requires { params.count ≤ 16 }
     ensures { (t : List ℕ) → result ≡ last_vararg (params_in t params) }
 {
-    let count = params.count;
-    if count == 0 {
+    if params.count == 0 {
         return false;
     }
-    params.varargs[count - 1]
+    params.varargs[params.count - 1]
 }
 
 // Whether n arguments are enough and not too many.

@@ -1,27 +1,38 @@
--- Scores in numbers, and what the two passes of scoring hand on.
-use Rattle.std.specs.Prelude.{ℕ, Bool, true, false, List}
+-- Scores as the code has them, and what the two passes of scoring hand on.
+use Rattle.std.specs.Prelude.{ℕ, Bool, List, Option as Maybe, Some, None}
 use Rattle.std.proofs.Math.Option.{Option, none, some}
-use Rattle.ty.specs.Choose.{choose}
 use Rattle.ty.specs.Bytes.{Ty}
 use Rattle.symbol.specs.Lookup.{symbols_of}
 use Rattle.symbol.specs.Inside.LookupAnswer.{overload_in}
+use Rattle.symbol.specs.Symbols.{Param, Symbols}
 use Rattle.symbol.specs.declared.functions.Function.{Function}
 use Rattle.symbol.specs.declared.functions.Params.{Params}
 use Rattle.scoring.specs.Arg.{Arg}
-use Rattle.scoring.specs.Score.{mark_one, marks_of, plus, named_one, named_score, positional_score, score}
+use Rattle.scoring.specs.Score.{compared, mark_one, marks_of, plus, named_one, named_score, positional_score, score}
 use Rattle.scoring.specs.Inside.Args.{name_in}
 use Rattle.scoring.specs.Inside.Params.{params_in}
 use Rattle.scoring.specs.declared.score.Score.{Score}
 use Rattle.scoring.specs.declared.score.NamedPass.{NamedPass}
 
--- no score where there is no match
-unfoldable pub score_of : Score → Option ℕ
-score_of s = choose s.matched (some s.points) none
+-- a score as the code answers it
+abbrev pub score_of : Maybe Score → Option ℕ
+score_of None = none
+score_of (Some s) = some s.points
 
--- the same the other way round: a score without a match has no points
-unfoldable pub as_score : Option ℕ → Score
-as_score none = record { matched = false; points = 0 }
-as_score (some n) = record { matched = true; points = n }
+-- the same the other way round
+abbrev pub as_score : Option ℕ → Maybe Score
+as_score none = None
+as_score (some n) = Some (record { points = n })
+
+-- how many points, 0 where there is no match
+abbrev pub points_of : Maybe Score → ℕ
+points_of None = 0
+points_of (Some s) = s.points
+
+-- an argument's type against a parameter that may be missing, and then the score o
+abbrev pub compared_or : Symbols → Option ℕ → Option Param → Ty → Option ℕ
+compared_or S o none x = o
+compared_or S o (some p) x = compared S p x
 
 -- the named pass n with one argument more, of the name id and the type x
 abbrev pub named_more : List ℕ → Params → ℕ → Ty → NamedPass → NamedPass
