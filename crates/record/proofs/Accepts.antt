@@ -10,13 +10,13 @@ use native.Mathlib.Omega.{arith, not-le}
 use Rattle.ty.specs.Choose.{choose}
 use Rattle.record.proofs.NoFault.{Clean, clean_record}
 use Rattle.record.proofs.Faults.{fault_stop, fault_on, short_fault, long_fault}
-use Rattle.record.specs.Inside.Front.{head_of}
+use Rattle.record.specs.Inside.Front.{front_of}
 use Rattle.record.specs.Inside.Keyed.{is_of, records_with}
 use Rattle.record.specs.Inside.HeadFault.{last_kind, head_fault, found_from}
 use Rattle.record.specs.TableRefused.{table_fault}
 use Rattle.record.specs.Table.{Record, records_of}
 use Rattle.record.specs.Inside.Walk.{CursorAt, before}
-use Rattle.record.specs.declared.front.Head.{Head}
+use Rattle.record.specs.Inside.Front.{Front}
 use Rattle.record.specs.declared.walk.Cursor.{Cursor}
 
 abbrev pub CleanFrom : List Record → List Record → Type 0
@@ -54,10 +54,10 @@ clean_at t c a e =
     (clean_drop c.index (records_of t) a.count (accepted_clean t e))
 
 -- a record of another kind is not found
-pub other_kind : (k a b : ℕ) (h : Head) → (h.kind ≡ k → ⊥) → is_of k a b h ≡ false
+pub other_kind : (k a b : ℕ) (h : Front) → (h.kind ≡ k → ⊥) → is_of k a b h ≡ false
 other_kind k a b h n = rw (ne_eqb _ _ n)
 
-pub with_no : (k a b : ℕ) (r : Record) (rs : List Record) → is_of k a b (head_of r) ≡ false → records_with k a b (r ∷ rs) ≡ records_with k a b rs
+pub with_no : (k a b : ℕ) (r : Record) (rs : List Record) → is_of k a b (front_of r) ≡ false → records_with k a b (r ∷ rs) ≡ records_with k a b rs
 unfolding records_with choose
 with_no k a b r rs h = rw h
 
@@ -67,4 +67,4 @@ unfolding records_with
 with_past k a b earlier [] c l = refl
 with_past k a b earlier (r ∷ rs) c l =
     let h = c.0.rises in
-    with_no k a b r rs (other_kind k a b (head_of r) (λ e. omega arith)) ∙ with_past k a b (r ∷ earlier) rs c.1 (omega arith)
+    with_no k a b r rs (other_kind k a b (front_of r) (λ e. omega arith)) ∙ with_past k a b (r ∷ earlier) rs c.1 (omega arith)

@@ -6,19 +6,21 @@ use lib.ListN.{length, get_or, drop}
 use mathlib.Core.Bool.{Bool}
 use mathlib.Core.List.{List}
 use native.Mathlib.Omega.{arith}
+use Rattle.std.proofs.Common.{Result, Ok, Err}
 use Rattle.ty.proofs.Choice.{by_choice}
 use Rattle.ty.specs.Bytes.{id_at}
 use Rattle.ty.specs.Read.{read_type, longest_type}
-use Rattle.ty.specs.declared.read.TypeRead.TheVariants.{Whole, Cut, Malformed, Endless}
+use Rattle.ty.specs.declared.read.TypeFault.TheVariants.{Cut, Malformed, Endless}
+use Rattle.ty.specs.declared.read.TypeFault.{TypeFault}
 use Rattle.ty.specs.declared.read.TypeRead.{TypeRead}
 use Rattle.record.proofs.ParamSteps.{read-inside}
 use Rattle.record.proofs.Types.{ends_in}
-use Rattle.record.specs.Inside.Front.{broken_head, plain_head, name_head, class_head, operators_head, params_read, function_with, function_head, field_with, field_head, visibility_head, suspend_head, variant_head, head_by, head_of}
+use Rattle.record.specs.Inside.Front.{broken_head, plain_head, name_head, class_head, operators_head, params_read, function_with, function_head, field_with, field_head, visibility_head, suspend_head, variant_head, head_by, front_of}
 use Rattle.record.specs.Inside.Walk.{EndsIn}
-use Rattle.record.specs.declared.front.Head.{Head}
-use Rattle.record.specs.declared.params.Reading.{Reading}
+use Rattle.record.specs.Inside.Front.{Front}
+use Rattle.record.specs.Inside.Front.{Run}
 
-pub record Bounded (s : List ℕ) (h : Head) : Type 0 where
+pub record Bounded (s : List ℕ) (h : Front) : Type 0 where
   pub low : 1 ≤ h.len
   pub high : h.len ≤ length s
 
@@ -32,7 +34,7 @@ module _ (s : List ℕ) (some : 0 < length s) where
       by_choice (Bounded s) (ltb (length s) n) (λ _. broken) λ e.
       by_choice (Bounded s) bad (λ _. broken) (λ _. record { low = h; high = ltb-false (length s) n e })
 
-  function_with_lem : (c : Reading) → 8 ≤ c.len → c.len ≤ length s → Bounded s (function_with s c)
+  function_with_lem : (c : Run) → 8 ≤ c.len → c.len ≤ length s → Bounded s (function_with s c)
   unfolding function_with
   function_with_lem c l h =
       by_choice (Bounded s) (eqb c.state 0) (λ _. record { low = omega arith; high = h }) λ _.
@@ -48,11 +50,11 @@ module _ (s : List ℕ) (some : 0 < length s) where
       let r = read-inside s (ltb-false (length s) 8 e) in
       function_with_lem (params_read s) r.0 r.1
 
-  field_with_lem : (one two : ℕ) (r : TypeRead) → EndsIn 5 s r → Bounded s (field_with s one two r)
-  field_with_lem one two (Whole n top e) h = record { low = omega arith; high = h }
-  field_with_lem one two Cut h = broken
-  field_with_lem one two Malformed h = broken
-  field_with_lem one two (Endless top e) h = record { low = some; high = omega arith }
+  field_with_lem : (one two : ℕ) (r : Result TypeRead TypeFault) → EndsIn 5 s r → Bounded s (field_with s one two r)
+  field_with_lem one two (Ok found) h = record { low = omega arith; high = h }
+  field_with_lem one two (Err Cut) h = broken
+  field_with_lem one two (Err Malformed) h = broken
+  field_with_lem one two (Err (Endless top e)) h = record { low = some; high = omega arith }
 
   field : Bounded s (field_head s)
   unfolding field_head
@@ -84,8 +86,8 @@ module _ (s : List ℕ) (some : 0 < length s) where
   unfolding variant_head
   variant = plain 5 _ 8 _ _ _ (omega arith)
 
-  pub head_bounded : Bounded s (head_of s)
-  unfolding head_of head_by
+  pub head_bounded : Bounded s (front_of s)
+  unfolding front_of head_by
   head_bounded =
       by_choice (Bounded s) (eqb (get_or s 0 0) 1) (λ _. name) λ _.
       by_choice (Bounded s) (eqb (get_or s 0 0) 2) (λ _. class) λ _.

@@ -10,7 +10,7 @@ use Rattle.ty.specs.Choose.{choose}
 use Rattle.record.proofs.NoFault.{not_taken, not-false}
 use Rattle.record.proofs.Laid.{same_first}
 use Rattle.record.specs.Inside.HeadFault.{super_missing, own_fault, key_fault, is_builtin_name, has_key, has_class, last_kind, super_late, head_fault, found_from}
-use Rattle.record.specs.Inside.Front.{head_of}
+use Rattle.record.specs.Inside.Front.{front_of}
 use Rattle.record.specs.Inside.FrontRecord.{count_of}
 use Rattle.record.specs.TableRefused.{table_fault}
 use Rattle.record.specs.Table.{Record, records_of}
@@ -42,8 +42,8 @@ module _ (earlier : List Record) (r : Record) (rest : List Record) where
 
   split : head_fault earlier r rest ≡ choose (eqb (own_fault earlier r) 0) (key_fault earlier r rest) (own_fault earlier r)
   unfolding head_fault own_fault key_fault
-  split = parts (head_of r).malformed (ltb (head_of r).kind (last_kind earlier)) (not (id_defined (head_of r).top (count_of 1 earlier))) (head_of r).repeated
-      (super_late earlier r rest) (head_of r).error (is_builtin_name r) (has_key r earlier)
+  split = parts (front_of r).malformed (ltb (front_of r).kind (last_kind earlier)) (not (id_defined (front_of r).top (count_of 1 earlier))) (front_of r).repeated
+      (super_late earlier r rest) (front_of r).error (is_builtin_name r) (has_key r earlier)
 
   pub own-number : (own_fault earlier r ≡ 0 → ⊥) → head_fault earlier r rest ≡ own_fault earlier r
   own-number h = split ∙ choose_no _ _ _ (ne_eqb _ _ h)
@@ -52,22 +52,22 @@ module _ (earlier : List Record) (r : Record) (rest : List Record) where
   key_number h = split ∙ choose_yes _ _ _ (eq-eqb _ _ h)
 
   -- what holds of a record that draws no number by itself
-  pub own-clean : own_fault earlier r ≡ 0 → ((head_of r).malformed ≡ false) × (id_defined (head_of r).top (count_of 1 earlier) ≡ true)
+  pub own-clean : own_fault earlier r ≡ 0 → ((front_of r).malformed ≡ false) × (id_defined (front_of r).top (count_of 1 earlier) ≡ true)
   unfolding own_fault
   own-clean e =
-      let a = not_taken (head_of r).malformed 1 _ e in
-      let b = not_taken (ltb (head_of r).kind (last_kind earlier)) 2 _ a.1 in
-      let c = not_taken (not (id_defined (head_of r).top (count_of 1 earlier))) 3 _ b.1 in
-      (a.0, not-false (id_defined (head_of r).top (count_of 1 earlier)) c.0)
+      let a = not_taken (front_of r).malformed 1 _ e in
+      let b = not_taken (ltb (front_of r).kind (last_kind earlier)) 2 _ a.1 in
+      let c = not_taken (not (id_defined (front_of r).top (count_of 1 earlier))) 3 _ b.1 in
+      (a.0, not-false (id_defined (front_of r).top (count_of 1 earlier)) c.0)
 
   pub key_clean : key_fault earlier r rest ≡ 0 → has_key r earlier ≡ false
   unfolding key_fault
   key_clean e = (not_taken (has_key r earlier) 4 _ e).0
 
   -- number 6
-  pub late_split : super_late earlier r rest ≡ (super_missing earlier r && has_class (head_of r).two rest)
+  pub late_split : super_late earlier r rest ≡ (super_missing earlier r && has_class (front_of r).two rest)
   unfolding super_late super_missing
-  late_split = three (eqb (head_of r).kind 2) (not (eqb (head_of r).two no_id)) (not (has_class (head_of r).two earlier)) (has_class (head_of r).two rest)
+  late_split = three (eqb (front_of r).kind 2) (not (eqb (front_of r).two no_id)) (not (has_class (front_of r).two earlier)) (has_class (front_of r).two rest)
     where
       three : (a b c d : Bool) → a && (b && (c && d)) ≡ (a && (b && c)) && d
       three true true c d = refl
@@ -75,12 +75,12 @@ module _ (earlier : List Record) (r : Record) (rest : List Record) where
       three false b c d = refl
 
 -- what a superclass without an earlier record says
-pub missing_class : (earlier : List Record) (r : Record) → super_missing earlier r ≡ true → ((head_of r).kind ≡ 2) × ((head_of r).two ≡ no_id → ⊥)
+pub missing_class : (earlier : List Record) (r : Record) → super_missing earlier r ≡ true → ((front_of r).kind ≡ 2) × ((front_of r).two ≡ no_id → ⊥)
 unfolding super_missing
 missing_class earlier r e =
-    let k = and_left (eqb (head_of r).kind 2) (not (eqb (head_of r).two no_id) && not (has_class (head_of r).two earlier)) e in
-    let m = and_left (not (eqb (head_of r).two no_id)) (not (has_class (head_of r).two earlier))
-    (and_right (eqb (head_of r).kind 2) (not (eqb (head_of r).two no_id) && not (has_class (head_of r).two earlier)) e) in
+    let k = and_left (eqb (front_of r).kind 2) (not (eqb (front_of r).two no_id) && not (has_class (front_of r).two earlier)) e in
+    let m = and_left (not (eqb (front_of r).two no_id)) (not (has_class (front_of r).two earlier))
+    (and_right (eqb (front_of r).kind 2) (not (eqb (front_of r).two no_id) && not (has_class (front_of r).two earlier)) e) in
     (eqb-true _ _ k, λ z. true≢false (sym m ∙ ap not (eq-eqb _ _ z)))
 
 pub short_fault : (t : List ℕ) → length t ≤ 60000 → table_fault t ≡ found_from [] (records_of t)

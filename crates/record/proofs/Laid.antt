@@ -10,7 +10,7 @@ use native.Mathlib.Omega.{arith}
 use Rattle.record.proofs.Agree.{head_agrees, same_malformed, same_top, same_repeated, same_error}
 use Rattle.record.proofs.RecordParts.{or_true}
 use Rattle.record.proofs.RecordSizes.{head_kind, head_known, head_ids}
-use Rattle.record.specs.Inside.Front.{head_of}
+use Rattle.record.specs.Inside.Front.{front_of}
 use Rattle.record.specs.Inside.Keyed.{is_of}
 use Rattle.record.specs.Inside.HeadFault.{name_bytes, same_key, has_key, is_builtin_name, has_class, super_late, last_kind, head_fault, found_from}
 use Rattle.record.specs.Inside.FrontRecord.{count_of}
@@ -18,7 +18,7 @@ use Rattle.record.specs.Layout.{Field, any_field, fields_of, fields_from, is_mal
 use Rattle.record.specs.TableRefused.{key_repeated, is_late, kind_before, record_fault, first_fault}
 use Rattle.record.specs.Spelling.{builtin_names, spelled}
 use Rattle.record.specs.Table.{Record, of_kind, key_of, keyed, non_empty}
-use Rattle.record.specs.declared.front.Head.{Head}
+use Rattle.record.specs.Inside.Front.{Front}
 use Rattle.ty.proofs.Ids.{highest_of, all_highest}
 use Rattle.ty.proofs.Choice.{by_choice}
 use Rattle.ty.specs.Bytes.{id_at, same_bytes}
@@ -43,12 +43,12 @@ two-ids kind s l =
     (λ _. record { is = λ z. absurd (true≢false (sym (ap (λ (t : Bool). t || false) (or_true (ltb (length s) (1 + 0)))) ∙ z)) })
 
 module _ (s : List ℕ) where
-  pub same_kind : (head_of s).kind ≡ record_kind s
+  pub same_kind : (front_of s).kind ≡ record_kind s
   unfolding record_kind choose
   same_kind = go (is_malformed s) refl
     where
-      go : (b : Bool) → is_malformed s ≡ b → (head_of s).kind ≡ choose b 0 (get_or s 0 0)
-      go true e = ap (λ (h : Head). h.kind) ((head_agrees s).bad e)
+      go : (b : Bool) → is_malformed s ≡ b → (front_of s).kind ≡ choose b 0 (get_or s 0 0)
+      go true e = ap (λ (h : Front). h.kind) ((head_agrees s).bad e)
       go false e = head_kind s (same_malformed s ∙ e)
 
   -- a record that has a kind is not malformed, and its first byte is the kind
@@ -66,14 +66,14 @@ module _ (s : List ℕ) where
       let b = kind_byte (omega arith) in
       (two-ids (get_or s 0 0) s (omega (arith, b.1))).is b.0
 
-  pub same_one : 2 ≤ record_kind s → (head_of s).one ≡ value_in 0 s
+  pub same_one : 2 ≤ record_kind s → (front_of s).one ≡ value_in 0 s
   same_one h = let k = same_kind in (head_ids s (omega arith)).0 ∙ sym (values h).0
 
-  pub same_two : 2 ≤ record_kind s → (head_of s).two ≡ value_in 1 s
+  pub same_two : 2 ≤ record_kind s → (front_of s).two ≡ value_in 1 s
   same_two h = let k = same_kind in (head_ids s (omega arith)).1 ∙ sym (values h).1
 
 -- a function's key
-pub function_key : (r : List ℕ) → (head_of r).kind ≡ 4 → key_of r ≡ (head_of r).one ∷ (head_of r).two ∷ []
+pub function_key : (r : List ℕ) → (front_of r).kind ≡ 4 → key_of r ≡ (front_of r).one ∷ (front_of r).two ∷ []
 unfolding key_of choose
 function_key r k =
     let q : record_kind r ≡ 4 = sym (same_kind r) ∙ k in
@@ -109,7 +109,7 @@ and_or false b c = refl
 -- two records of one kind that has a key
 key_ids : (k : ℕ) (x r : Record) → record_kind x ≡ k → record_kind r ≡ k → 1 ≤ k
     → choose (eqb k 1) (same_bytes (name_bytes x) (name_bytes r))
-    (choose (ltb k 4) (eqb (head_of x).one (head_of r).one) (choose (eqb k 4) false (eqb (head_of x).one (head_of r).one && eqb (head_of x).two (head_of r).two)))
+    (choose (ltb k 4) (eqb (front_of x).one (front_of r).one) (choose (eqb k 4) false (eqb (front_of x).one (front_of r).one && eqb (front_of x).two (front_of r).two)))
     ≡ (not (eqb k 4) && same_bytes (choose (eqb k 1) (name_bytes x) (choose (ltb k 4) (value_in 0 x ∷ []) (value_in 0 x ∷ value_in 1 x ∷ [])))
     (choose (eqb k 1) (name_bytes r) (choose (ltb k 4) (value_in 0 r ∷ []) (value_in 0 r ∷ value_in 1 r ∷ []))))
 unfolding choose same_bytes
@@ -117,7 +117,7 @@ key_ids k x r p q l = go (eqb k 1) (ltb k 4) (eqb k 4) refl refl refl
   where
     go : (a b c : Bool) → eqb k 1 ≡ a → ltb k 4 ≡ b → eqb k 4 ≡ c
         → choose a (same_bytes (name_bytes x) (name_bytes r))
-        (choose b (eqb (head_of x).one (head_of r).one) (choose c false (eqb (head_of x).one (head_of r).one && eqb (head_of x).two (head_of r).two)))
+        (choose b (eqb (front_of x).one (front_of r).one) (choose c false (eqb (front_of x).one (front_of r).one && eqb (front_of x).two (front_of r).two)))
         ≡ (not c && same_bytes (choose a (name_bytes x) (choose b (value_in 0 x ∷ []) (value_in 0 x ∷ value_in 1 x ∷ [])))
         (choose a (name_bytes r) (choose b (value_in 0 r ∷ []) (value_in 0 r ∷ value_in 1 r ∷ []))))
     go true b true e f g = absurd (omega (arith, eqb-true k 1 e, eqb-true k 4 g))
@@ -138,14 +138,14 @@ same_key_lem : (x r : Record) → is_malformed r ≡ false
 unfolding same_key key_of choose
 same_key_lem x r m =
     (λ i. choose (eqb (same_kind x i) (same_kind r i))
-    (choose (eqb (same_kind x i) 1) (same_bytes (name_bytes x) (name_bytes r)) (choose (ltb (same_kind x i) 4) (eqb (head_of x).one (head_of r).one)
-    (choose (eqb (same_kind x i) 4) false (eqb (head_of x).one (head_of r).one && eqb (head_of x).two (head_of r).two)))) false)
+    (choose (eqb (same_kind x i) 1) (same_bytes (name_bytes x) (name_bytes r)) (choose (ltb (same_kind x i) 4) (eqb (front_of x).one (front_of r).one)
+    (choose (eqb (same_kind x i) 4) false (eqb (front_of x).one (front_of r).one && eqb (front_of x).two (front_of r).two)))) false)
     ∙ go (eqb (record_kind x) (record_kind r)) refl
   where
     go : (t : Bool) → eqb (record_kind x) (record_kind r) ≡ t
         → choose t
-        (choose (eqb (record_kind x) 1) (same_bytes (name_bytes x) (name_bytes r)) (choose (ltb (record_kind x) 4) (eqb (head_of x).one (head_of r).one)
-        (choose (eqb (record_kind x) 4) false (eqb (head_of x).one (head_of r).one && eqb (head_of x).two (head_of r).two)))) false
+        (choose (eqb (record_kind x) 1) (same_bytes (name_bytes x) (name_bytes r)) (choose (ltb (record_kind x) 4) (eqb (front_of x).one (front_of r).one)
+        (choose (eqb (record_kind x) 4) false (eqb (front_of x).one (front_of r).one && eqb (front_of x).two (front_of r).two)))) false
         ≡ (not (eqb (record_kind r) 4) && (t && same_bytes (key_of x) (key_of r)))
     go false e = sym (and_false (not (eqb (record_kind r) 4)))
     go true e =
@@ -177,19 +177,19 @@ same_builtin r = (λ i. eqb (same_kind r i) 1 && spelled (name_bytes r) builtin_
 
 -- ---- a record of kind k, from 2 on, with the key a, b
 pub key_test : (k a b : ℕ) → 2 ≤ k → (r : Record)
-    → is_of k a b (head_of r) ≡ (eqb (record_kind r) k && same_bytes (key_of r) (choose (ltb k 4) (a ∷ []) (a ∷ b ∷ [])))
+    → is_of k a b (front_of r) ≡ (eqb (record_kind r) k && same_bytes (key_of r) (choose (ltb k 4) (a ∷ []) (a ∷ b ∷ [])))
 unfolding key_of choose same_bytes
 key_test k a b l r =
-    (λ i. eqb (same_kind r i) k && (eqb (head_of r).one a && (ltb k 4 || eqb (head_of r).two b))) ∙ go (eqb (record_kind r) k) refl
+    (λ i. eqb (same_kind r i) k && (eqb (front_of r).one a && (ltb k 4 || eqb (front_of r).two b))) ∙ go (eqb (record_kind r) k) refl
   where
-    ids : (t u : Bool) → t ≡ false → 2 ≤ record_kind r → eqb (head_of r).one a && (u || eqb (head_of r).two b)
+    ids : (t u : Bool) → t ≡ false → 2 ≤ record_kind r → eqb (front_of r).one a && (u || eqb (front_of r).two b)
         ≡ same_bytes (choose t (take 24 (drop 2 r)) (choose u (value_in 0 r ∷ []) (value_in 0 r ∷ value_in 1 r ∷ []))) (choose u (a ∷ []) (a ∷ b ∷ []))
     ids true u e h = absurd (true≢false e)
     ids false true e h = λ i. eqb (same_one r h i) a && true
     ids false false e h =
         (λ i. eqb (same_one r h i) a && eqb (same_two r h i) b) ∙ ap (λ (t : Bool). eqb (value_in 0 r) a && t) (sym (and_true (eqb (value_in 1 r) b)))
 
-    go : (t : Bool) → eqb (record_kind r) k ≡ t → t && (eqb (head_of r).one a && (ltb k 4 || eqb (head_of r).two b))
+    go : (t : Bool) → eqb (record_kind r) k ≡ t → t && (eqb (front_of r).one a && (ltb k 4 || eqb (front_of r).two b))
         ≡ (t && same_bytes (choose (eqb (record_kind r) 1) (take 24 (drop 2 r)) (choose (ltb (record_kind r) 4) (value_in 0 r ∷ []) (value_in 0 r ∷ value_in 1 r ∷ [])))
         (choose (ltb k 4) (a ∷ []) (a ∷ b ∷ [])))
     go false e = refl
@@ -203,16 +203,16 @@ same_class : (class : ℕ) (rs : List Record) → has_class class rs ≡ non_emp
 unfolding has_class keyed choose
 same_class class [] = refl
 same_class class (r ∷ rs) =
-    (λ i. (ap (λ (t : Bool). eqb (head_of r).kind 2 && t) (sym (and_true (eqb (head_of r).one class))) ∙ key_test 2 class 0 (omega arith) r) i || same_class class rs i)
+    (λ i. (ap (λ (t : Bool). eqb (front_of r).kind 2 && t) (sym (and_true (eqb (front_of r).one class))) ∙ key_test 2 class 0 (omega arith) r) i || same_class class rs i)
     ∙ sym (some_more (eqb (record_kind r) 2 && same_bytes (key_of r) (class ∷ [])) r (keyed 2 (class ∷ []) rs))
 
 same_late : (earlier : List Record) (r : Record) (rest : List Record) → super_late earlier r rest ≡ (eqb (record_kind r) 2 && is_late (value_in 1 r) earlier rest)
 unfolding super_late is_late
 same_late earlier r rest =
-    (λ i. eqb (same_kind r i) 2 && (not (eqb (head_of r).two no_id) && (not (same_class (head_of r).two earlier i) && same_class (head_of r).two rest i)))
+    (λ i. eqb (same_kind r i) 2 && (not (eqb (front_of r).two no_id) && (not (same_class (front_of r).two earlier i) && same_class (front_of r).two rest i)))
     ∙ go (eqb (record_kind r) 2) refl
   where
-    go : (t : Bool) → eqb (record_kind r) 2 ≡ t → t && is_late (head_of r).two earlier rest ≡ (t && is_late (value_in 1 r) earlier rest)
+    go : (t : Bool) → eqb (record_kind r) 2 ≡ t → t && is_late (front_of r).two earlier rest ≡ (t && is_late (value_in 1 r) earlier rest)
     go true e = let k = eqb-true (record_kind r) 2 e in ap (λ (z : ℕ). is_late z earlier rest) (same_two r (omega arith))
     go false e = refl
 
@@ -228,7 +228,7 @@ same_number earlier r rest = go (is_malformed r) refl
     go : (b : Bool) → is_malformed r ≡ b → head_fault earlier r rest ≡ record_fault earlier r rest
     go true e = unfold choose in rw (same_malformed r, e)
     go false e =
-        let d : id_defined (head_of r).top (count_of 1 earlier) ≡ all_defined (ids_used r) (length (of_kind 1 earlier))
+        let d : id_defined (front_of r).top (count_of 1 earlier) ≡ all_defined (ids_used r) (length (of_kind 1 earlier))
         = (λ i. id_defined (same_top r e i) (same_count 1 earlier i)) ∙ highest_defined (length (of_kind 1 earlier)) (ids_used r) in
         λ i. choose (same_malformed r i) 2
         (choose (ltb (same_kind r i) (same_before earlier i)) 3

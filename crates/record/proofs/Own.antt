@@ -8,17 +8,19 @@ use mathlib.Core.Bool.{Bool, true, false, not, true≢false}
 use mathlib.Core.List.{List, [], ◌∷◌}
 use mathlib.Core.Path.{◌≡◌, refl, sym, ap, ◌∙◌}
 use native.Mathlib.Omega.{arith}
+use Rattle.std.proofs.Common.{Result, Ok, Err}
 use Rattle.ty.proofs.Choice.{by_choice, chosen, passed, chain}
 use Rattle.ty.proofs.Moved.{reads_taken}
 use Rattle.ty.specs.Bytes.{id_at}
-use Rattle.ty.specs.Read.{read_type, longest_type}
-use Rattle.ty.specs.declared.read.TypeRead.TheVariants.{Whole, Cut, Malformed, Endless}
+use Rattle.ty.specs.Read.{whole_read, read_type, longest_type}
+use Rattle.ty.specs.declared.read.TypeFault.TheVariants.{Cut, Malformed, Endless}
+use Rattle.ty.specs.declared.read.TypeFault.{TypeFault}
 use Rattle.ty.specs.declared.read.TypeRead.{TypeRead}
 use Rattle.record.proofs.Bounds.{head_bounded}
 use Rattle.record.proofs.ParamSteps.{param_onward, first-inside, run_inside, read-inside}
-use Rattle.record.specs.Inside.Front.{plain_head, or_none, good_bytes, name_head, class_head, operators_head, param_with, param_step, run_params, result_with, first_reading, params_read, function_with, function_head, field_with, field_head, visibility_head, suspend_head, variant_head, head_by, head_of}
-use Rattle.record.specs.declared.front.Head.{Head}
-use Rattle.record.specs.declared.params.Reading.{Reading}
+use Rattle.record.specs.Inside.Front.{plain_head, or_none, good_bytes, name_head, class_head, operators_head, param_with, param_step, run_params, result_with, first_reading, params_read, function_with, function_head, field_with, field_head, visibility_head, suspend_head, variant_head, head_by, front_of}
+use Rattle.record.specs.Inside.Front.{Front}
+use Rattle.record.specs.Inside.Front.{Run}
 
 pub drop-take : (k m : ℕ) (l : List ℕ) → drop k (take m l) ≡ take (m - k) (drop k l)
 drop-take zero m l = let e : m - 0 ≡ m = omega arith in rw e
@@ -31,22 +33,22 @@ drop-take (suc k) (suc m) [] = let e : (j : ℕ) → take j [] ≡ [] = nil in s
 drop-take (suc k) (suc m) (x ∷ l) = let e : suc m - suc k ≡ m - k = omega arith in rw e (drop-take k m l)
 
 -- reading that has ended stays as it is
-pub step_ended : (s : List ℕ) (c : Reading) → eqb c.state 0 ≡ false → param_step s c ≡ c
+pub step_ended : (s : List ℕ) (c : Run) → eqb c.state 0 ≡ false → param_step s c ≡ c
 unfolding param_step
 step_ended s c h = sym (chosen (not (eqb c.state 0)) c c _ (ap not h) refl)
 
-pub run_ended : (n : ℕ) (s : List ℕ) (c : Reading) → eqb c.state 0 ≡ false → run_params n s c ≡ c
+pub run_ended : (n : ℕ) (s : List ℕ) (c : Run) → eqb c.state 0 ≡ false → run_params n s c ≡ c
 unfolding run_params
 run_ended zero s c h = refl
 run_ended (suc n) s c h = ap (run_params n s) (step_ended s c h) ∙ run_ended n s c h
 
 -- where it is whole at the end, it was whole before
-pub whole_before : (n : ℕ) (s : List ℕ) (c : Reading) → (run_params n s c).state ≡ 0 → c.state ≡ 0
+pub whole_before : (n : ℕ) (s : List ℕ) (c : Run) → (run_params n s c).state ≡ 0 → c.state ≡ 0
 whole_before n s c e = go (eqb c.state 0) refl
   where
     go : (t : Bool) → eqb c.state 0 ≡ t → c.state ≡ 0
     go true q = eqb-true c.state 0 q
-    go false q = sym (ap (λ (r : Reading). r.state) (run_ended n s c q)) ∙ e
+    go false q = sym (ap (λ (r : Run). r.state) (run_ended n s c q)) ∙ e
 
 -- s up to byte m, which cuts something off
 module _ (s : List ℕ) (m : ℕ) (short : m < length s) where
@@ -62,7 +64,7 @@ module _ (s : List ℕ) (m : ℕ) (short : m < length s) where
   own_id : (i : ℕ) → i + 2 ≤ m → id_at own i ≡ id_at s i
   own_id i h = rw (own_byte i (omega arith), own_byte (i + 1) (omega arith))
 
-  own_type : (k n top : ℕ) (e : Bool) → k + n ≤ m → read_type (drop k s) longest_type ≡ Whole n top e → read_type (drop k own) longest_type ≡ Whole n top e
+  own_type : (k n top : ℕ) (e : Bool) → k + n ≤ m → read_type (drop k s) longest_type ≡ whole_read n top e → read_type (drop k own) longest_type ≡ whole_read n top e
   own_type k n top e h q = rw (drop-take k m s) (reads_taken (drop k s) longest_type (m - k) n top e (omega arith) q)
 
   -- a record with no type in it
@@ -113,15 +115,15 @@ module _ (s : List ℕ) (m : ℕ) (short : m < length s) where
       plain 5 _ _ 8 _ _ _ _ _ _
       (λ h. (refl, own_id 1 (omega arith), own_id 3 (omega arith), rw (own_id 1 (omega arith), own_id 3 (omega arith))))
 
-  field_with_lem : (r : TypeRead) → read_type (drop 5 s) longest_type ≡ r → (field_with s (id_at s 1) (id_at s 3) r).len ≤ m
+  field_with_lem : (r : Result TypeRead TypeFault) → read_type (drop 5 s) longest_type ≡ r → (field_with s (id_at s 1) (id_at s 3) r).len ≤ m
       → field_head own ≡ field_with s (id_at s 1) (id_at s 3) r
   unfolding field_head
-  field_with_lem (Whole n top e) q l =
+  field_with_lem (Ok found) q l =
       sym (passed (ltb (length own) 5) _ _ _ (le-ltb (length own) 5 (omega (arith, own-length)))
-      (rw (own_type 5 n top e l q, own_id 1 (omega arith), own_id 3 (omega arith))))
-  field_with_lem Cut q l = absurd (omega arith)
-  field_with_lem Malformed q l = absurd (omega arith)
-  field_with_lem (Endless top e) q l = absurd (omega arith)
+      (rw (own_type 5 found.len found.top found.error l q, own_id 1 (omega arith), own_id 3 (omega arith))))
+  field_with_lem (Err Cut) q l = absurd (omega arith)
+  field_with_lem (Err Malformed) q l = absurd (omega arith)
+  field_with_lem (Err (Endless top e)) q l = absurd (omega arith)
 
   field : (field_head s).len ≤ m → field_head own ≡ field_head s
   unfolding field_head
@@ -130,20 +132,20 @@ module _ (s : List ℕ) (m : ℕ) (short : m < length s) where
       field_with_lem (read_type (drop 5 s) longest_type) refl l
 
   -- one parameter
-  param_with_lem : (c : Reading) → c.state ≡ 0 → (r : TypeRead) → read_type (drop (c.len + 3) s) longest_type ≡ r
+  param_with_lem : (c : Run) → c.state ≡ 0 → (r : Result TypeRead TypeFault) → read_type (drop (c.len + 3) s) longest_type ≡ r
       → ltb 3 (get_or s (c.len + 2) 0) ≡ false → (param_with c (id_at s c.len) r).state ≡ 0 → (param_with c (id_at s c.len) r).len ≤ m
       → param_step own c ≡ param_with c (id_at s c.len) r
   unfolding param_step
-  param_with_lem c z (Whole n top e) q b v l =
+  param_with_lem c z (Ok found) q b v l =
       sym (passed (not (eqb c.state 0)) _ _ _ (ap not (eq-eqb c.state 0 z))
       (passed (ltb (length own - c.len) 3) _ _ _ (le-ltb (length own - c.len) 3 (omega (arith, own-length)))
       (passed (ltb 3 (get_or own (c.len + 2) 0)) _ _ _ (rw (own_byte (c.len + 2) (omega arith)) b)
-      (rw (own_type (c.len + 3) n top e l q, own_id c.len (omega arith))))))
-  param_with_lem c z Cut q b v l = absurd (omega arith)
-  param_with_lem c z Malformed q b v l = absurd (omega arith)
-  param_with_lem c z (Endless top e) q b v l = absurd (omega arith)
+      (rw (own_type (c.len + 3) found.len found.top found.error l q, own_id c.len (omega arith))))))
+  param_with_lem c z (Err Cut) q b v l = absurd (omega arith)
+  param_with_lem c z (Err Malformed) q b v l = absurd (omega arith)
+  param_with_lem c z (Err (Endless top e)) q b v l = absurd (omega arith)
 
-  param : (c : Reading) → c.state ≡ 0 → (param_step s c).state ≡ 0 → (param_step s c).len ≤ m → param_step own c ≡ param_step s c
+  param : (c : Run) → c.state ≡ 0 → (param_step s c).state ≡ 0 → (param_step s c).len ≤ m → param_step own c ≡ param_step s c
   unfolding param_step
   param c z =
       by_choice (λ r. r.state ≡ 0 → r.len ≤ m → param_step own c ≡ r) (not (eqb c.state 0))
@@ -152,7 +154,7 @@ module _ (s : List ℕ) (m : ℕ) (short : m < length s) where
       by_choice (λ r. r.state ≡ 0 → r.len ≤ m → param_step own c ≡ r) (ltb 3 (get_or s (c.len + 2) 0)) (λ _ v l. absurd (omega arith)) λ b v l.
       param_with_lem c z (read_type (drop (c.len + 3) s) longest_type) refl b v l
 
-  params : (n : ℕ) (c : Reading) → c.len ≤ length s → (run_params n s c).state ≡ 0 → (run_params n s c).len ≤ m → run_params n own c ≡ run_params n s c
+  params : (n : ℕ) (c : Run) → c.len ≤ length s → (run_params n s c).state ≡ 0 → (run_params n s c).len ≤ m → run_params n own c ≡ run_params n s c
   unfolding run_params
   params zero c h v l = refl
   params (suc n) c h v l =
@@ -162,12 +164,12 @@ module _ (s : List ℕ) (m : ℕ) (short : m < length s) where
       let z = whole_before 1 s c w in
       rw (param c z w (omega arith)) (params n (param_step s c) o.high v l)
 
-  first_with_lem : (r : TypeRead) → read_type (drop 8 s) longest_type ≡ r → (high : ℕ) → (result_with high r).state ≡ 0 → (result_with high r).len ≤ m
+  first_with_lem : (r : Result TypeRead TypeFault) → read_type (drop 8 s) longest_type ≡ r → (high : ℕ) → (result_with high r).state ≡ 0 → (result_with high r).len ≤ m
       → result_with high (read_type (drop 8 own) longest_type) ≡ result_with high r
-  first_with_lem (Whole n top e) q high v l = rw (own_type 8 n top e l q)
-  first_with_lem Cut q high v l = absurd (omega arith)
-  first_with_lem Malformed q high v l = absurd (omega arith)
-  first_with_lem (Endless top e) q high v l = absurd (omega arith)
+  first_with_lem (Ok found) q high v l = rw (own_type 8 found.len found.top found.error l q)
+  first_with_lem (Err Cut) q high v l = absurd (omega arith)
+  first_with_lem (Err Malformed) q high v l = absurd (omega arith)
+  first_with_lem (Err (Endless top e)) q high v l = absurd (omega arith)
 
   first : 8 ≤ m → (first_reading s).state ≡ 0 → (first_reading s).len ≤ m → first_reading own ≡ first_reading s
   first h v l =
@@ -194,8 +196,8 @@ module _ (s : List ℕ) (m : ℕ) (short : m < length s) where
   unfolding function_with
   function-long h =
       let r = read-inside s h in
-      by_choice (λ (h : Head). h.len ≤ m → 8 ≤ m) (eqb (params_read s).state 0) (λ _ l. let k : (params_read s).len ≤ m = l in omega arith) λ _.
-      by_choice (λ (h : Head). h.len ≤ m → 8 ≤ m) (eqb (params_read s).state 2) (λ _ l. let k : length s ≤ m = l in absurd (omega arith))
+      by_choice (λ (h : Front). h.len ≤ m → 8 ≤ m) (eqb (params_read s).state 0) (λ _ l. let k : (params_read s).len ≤ m = l in omega arith) λ _.
+      by_choice (λ (h : Front). h.len ≤ m → 8 ≤ m) (eqb (params_read s).state 2) (λ _ l. let k : length s ≤ m = l in absurd (omega arith))
       (λ _ l. let k : length s ≤ m = l in absurd (omega arith))
 
   function : (function_head s).len ≤ m → function_head own ≡ function_head s
@@ -214,24 +216,24 @@ module _ (s : List ℕ) (m : ℕ) (short : m < length s) where
   kind_kept : (kind : ℕ) → (head_by kind s).len ≤ m → head_by kind own ≡ head_by kind s
   unfolding head_by
   kind_kept kind =
-      by_choice (λ (h : Head). h.len ≤ m → head_by kind own ≡ h) (eqb kind 1) (λ e l. let k : name_head s ≡ name_head own = sym (name l) in sym (search chain depth 14)) λ e₁.
-      by_choice (λ (h : Head). h.len ≤ m → head_by kind own ≡ h) (eqb kind 2) (λ e l. let k : class_head s ≡ class_head own = sym (class l) in sym (search chain depth 14)) λ e₂.
-      by_choice (λ (h : Head). h.len ≤ m → head_by kind own ≡ h) (eqb kind 3) (λ e l. let k : operators_head s ≡ operators_head own = sym (operators l) in sym (search chain depth 14)) λ e₃.
-      by_choice (λ (h : Head). h.len ≤ m → head_by kind own ≡ h) (eqb kind 4) (λ e l. let k : function_head s ≡ function_head own = sym (function l) in sym (search chain depth 14)) λ e₄.
-      by_choice (λ (h : Head). h.len ≤ m → head_by kind own ≡ h) (eqb kind 5) (λ e l. let k : field_head s ≡ field_head own = sym (field l) in sym (search chain depth 14)) λ e₅.
-      by_choice (λ (h : Head). h.len ≤ m → head_by kind own ≡ h) (eqb kind 6) (λ e l. let k : visibility_head s ≡ visibility_head own = sym (visibility l) in sym (search chain depth 14)) λ e₆.
-      by_choice (λ (h : Head). h.len ≤ m → head_by kind own ≡ h) (eqb kind 7) (λ e l. let k : suspend_head s ≡ suspend_head own = sym (suspend l) in sym (search chain depth 14)) λ e₇.
-      by_choice (λ (h : Head). h.len ≤ m → head_by kind own ≡ h) (eqb kind 8) (λ e l. let k : variant_head s ≡ variant_head own = sym (variant l) in sym (search chain depth 14)) λ e₈ l.
+      by_choice (λ (h : Front). h.len ≤ m → head_by kind own ≡ h) (eqb kind 1) (λ e l. let k : name_head s ≡ name_head own = sym (name l) in sym (search chain depth 14)) λ e₁.
+      by_choice (λ (h : Front). h.len ≤ m → head_by kind own ≡ h) (eqb kind 2) (λ e l. let k : class_head s ≡ class_head own = sym (class l) in sym (search chain depth 14)) λ e₂.
+      by_choice (λ (h : Front). h.len ≤ m → head_by kind own ≡ h) (eqb kind 3) (λ e l. let k : operators_head s ≡ operators_head own = sym (operators l) in sym (search chain depth 14)) λ e₃.
+      by_choice (λ (h : Front). h.len ≤ m → head_by kind own ≡ h) (eqb kind 4) (λ e l. let k : function_head s ≡ function_head own = sym (function l) in sym (search chain depth 14)) λ e₄.
+      by_choice (λ (h : Front). h.len ≤ m → head_by kind own ≡ h) (eqb kind 5) (λ e l. let k : field_head s ≡ field_head own = sym (field l) in sym (search chain depth 14)) λ e₅.
+      by_choice (λ (h : Front). h.len ≤ m → head_by kind own ≡ h) (eqb kind 6) (λ e l. let k : visibility_head s ≡ visibility_head own = sym (visibility l) in sym (search chain depth 14)) λ e₆.
+      by_choice (λ (h : Front). h.len ≤ m → head_by kind own ≡ h) (eqb kind 7) (λ e l. let k : suspend_head s ≡ suspend_head own = sym (suspend l) in sym (search chain depth 14)) λ e₇.
+      by_choice (λ (h : Front). h.len ≤ m → head_by kind own ≡ h) (eqb kind 8) (λ e l. let k : variant_head s ≡ variant_head own = sym (variant l) in sym (search chain depth 14)) λ e₈ l.
       absurd (omega arith)
 
-  head_kept : 1 ≤ m → (head_of s).len ≤ m → head_of own ≡ head_of s
-  unfolding head_of
+  head_kept : 1 ≤ m → (front_of s).len ≤ m → front_of own ≡ front_of s
+  unfolding front_of
   head_kept some l = rw (own_byte 0 some) (kind_kept (get_or s 0 0) l)
 
 -- A RECORD IS ITS OWN BYTES: what is read from a record's own bytes is what is read from all that begins with them
-pub head_own : (s : List ℕ) → 0 < length s → head_of (take (head_of s).len s) ≡ head_of s
-head_own s h = go (ltb (head_of s).len (length s)) refl
+pub head_own : (s : List ℕ) → 0 < length s → front_of (take (front_of s).len s) ≡ front_of s
+head_own s h = go (ltb (front_of s).len (length s)) refl
   where
-    go : (t : Bool) → ltb (head_of s).len (length s) ≡ t → head_of (take (head_of s).len s) ≡ head_of s
-    go true q = let b = head_bounded s h in head_kept s (head_of s).len (ltb-true (head_of s).len (length s) q) b.low (omega arith)
-    go false q = ap head_of (take_all (head_of s).len s (ltb-false (head_of s).len (length s) q))
+    go : (t : Bool) → ltb (front_of s).len (length s) ≡ t → front_of (take (front_of s).len s) ≡ front_of s
+    go true q = let b = head_bounded s h in head_kept s (front_of s).len (ltb-true (front_of s).len (length s) q) b.low (omega arith)
+    go false q = ap front_of (take_all (front_of s).len s (ltb-false (front_of s).len (length s) q))

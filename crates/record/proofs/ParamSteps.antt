@@ -1,29 +1,86 @@
 -- The reading of a function's parameters: where it stands after each, and one turn of it.
 use Prim.Native.Nat.{ℕ, zero, suc, ◌+◌, ◌-◌, ◌≤◌, ◌<◌, max}
-use borrow.Author.Tests.{ltb-false}
+use borrow.Author.Tests.{eqb-true, ltb-false}
 use lib.Dec.{eqb, ltb}
 use lib.ListN.{length, get_or, drop}
-use mathlib.Core.Bool.{not}
+use mathlib.Core.Bool.{Bool, true, false, not}
 use mathlib.Core.List.{List}
-use mathlib.Core.Path.{◌≡◌, refl, ap}
+use mathlib.Core.Path.{◌≡◌, refl, sym, ap, ◌∙◌}
 use native.Mathlib.Omega.{arith}
 use Rattle.ty.proofs.Choice.{by_choice}
 use Rattle.ty.specs.Bytes.{id_at}
 use Rattle.ty.specs.Read.{read_type, longest_type}
-use Rattle.ty.specs.declared.read.TypeRead.TheVariants.{Whole, Cut, Malformed, Endless}
+use Rattle.ty.specs.declared.read.TypeFault.TheVariants.{Cut, Malformed, Endless}
+use Rattle.ty.specs.declared.read.TypeFault.{TypeFault}
 use Rattle.ty.specs.declared.read.TypeRead.{TypeRead}
 use Rattle.record.proofs.Types.{ends_in}
 use Rattle.record.specs.Inside.Front.{param_step, param_with, run_params, result_with, first_reading, or_none, stopped, params_read}
 use Rattle.record.specs.Inside.Walk.{EndsIn}
+use Rattle.record.specs.Inside.Front.{Front, Run, run_of, fault_of, reading_answer, broken_head, function_read, function_answer, function_with}
 use Rattle.record.specs.declared.params.Reading.{Reading}
+use Rattle.record.specs.declared.params.ReadFault.{ReadFault}
+use Rattle.record.specs.declared.params.ReadFault.TheVariants.{Broken}
+use Rattle.std.proofs.Common.{Result, Ok, Err}
+use Rattle.ty.specs.Choose.{choose}
+
+-- ---- what the code answers for what was read
+pub answer_whole : (c : Reading) → reading_answer (run_of c) ≡ Ok c
+unfolding reading_answer choose
+answer_whole c = refl
+
+pub answer_stopped : (c : Run) → reading_answer (stopped c) ≡ Err Broken
+unfolding reading_answer choose
+answer_stopped c = refl
+
+-- an answer tells what was read
+pub answer_ok : (c : Run) (r : Reading) → reading_answer c ≡ Ok r → run_of r ≡ c
+unfolding reading_answer choose
+answer_ok c r = go (eqb c.state 0) (eqb c.state 2) refl
+  where
+    reading : Reading
+    reading = record { len = c.len; top = c.top; repeated = c.repeated; error = c.error; count = c.count; names = c.names }
+
+    go : (t u : Bool) → eqb c.state 0 ≡ t → choose t (Ok reading) (choose u (Err (fault_of c)) (Err Broken)) ≡ Ok r → run_of r ≡ c
+    go true u q e =
+        let h : reading ≡ r = cc in
+        let z = eqb-true c.state 0 q in
+        ap run_of (sym h) ∙ (λ i. record { len = c.len; top = c.top; repeated = c.repeated; error = c.error; state = sym z i; count = c.count; names = c.names })
+    go false true q e = cc
+    go false false q e = cc
+
+pub answer_err : (c : Run) (f : ReadFault) → reading_answer c ≡ Err f → eqb c.state 0 ≡ false
+unfolding reading_answer choose
+answer_err c f = go (eqb c.state 0)
+  where
+    reading : Reading
+    reading = record { len = c.len; top = c.top; repeated = c.repeated; error = c.error; count = c.count; names = c.names }
+
+    go : (t : Bool) → choose t (Ok reading) (choose (eqb c.state 2) (Err (fault_of c)) (Err Broken)) ≡ Err f → t ≡ false
+    go true e = cc
+    go false e = refl
+
+pub answer_function : (s : List ℕ) (c : Run) → function_answer s (reading_answer c) ≡ function_with s c
+unfolding function_with reading_answer choose
+answer_function s c = go (eqb c.state 0) (eqb c.state 2)
+  where
+    reading : Reading
+    reading = record { len = c.len; top = c.top; repeated = c.repeated; error = c.error; count = c.count; names = c.names }
+
+    read : ℕ → Front
+    read len = function_read (id_at s 1) (id_at s 3) len c.top c.repeated c.error
+
+    go : (t u : Bool) → function_answer s (choose t (Ok reading) (choose u (Err (fault_of c)) (Err Broken))) ≡ choose t (read c.len) (choose u (read (length s)) (broken_head s))
+    go true u = refl
+    go false true = refl
+    go false false = refl
 
 -- after one step from c the reading stands at or behind c, in s, with at most one parameter more
-pub record Onward (s : List ℕ) (c r : Reading) : Type 0 where
+pub record Onward (s : List ℕ) (c r : Run) : Type 0 where
   pub low : c.len ≤ r.len
   pub high : r.len ≤ length s
   pub count : r.count ≤ c.count + 1
 
-pub param_onward : (s : List ℕ) (c : Reading) → c.len ≤ length s → Onward s c (param_step s c)
+pub param_onward : (s : List ℕ) (c : Run) → c.len ≤ length s → Onward s c (param_step s c)
 unfolding param_step
 param_onward s c h =
     by_choice (Onward s c) (not (eqb c.state 0)) (λ _. record { low = omega arith; high = h; count = omega arith }) λ _.
@@ -35,13 +92,13 @@ param_onward s c h =
     stays : Onward s c (stopped c)
     stays = record { low = omega arith; high = h; count = omega arith }
 
-    go : (r : TypeRead) → EndsIn (c.len + 3) s r → Onward s c (param_with c (id_at s c.len) r)
-    go (Whole n top e) w = record { low = omega arith; high = w; count = omega arith }
-    go Cut w = stays
-    go Malformed w = stays
-    go (Endless top e) w = record { low = omega arith; high = h; count = omega arith }
+    go : (r : Result TypeRead TypeFault) → EndsIn (c.len + 3) s r → Onward s c (param_with c (id_at s c.len) r)
+    go (Ok found) w = record { low = omega arith; high = w; count = omega arith }
+    go (Err Cut) w = stays
+    go (Err Malformed) w = stays
+    go (Err (Endless top e)) w = record { low = omega arith; high = h; count = omega arith }
 
-pub record First (s : List ℕ) (r : Reading) : Type 0 where
+pub record First (s : List ℕ) (r : Run) : Type 0 where
   pub low : 8 ≤ r.len
   pub high : r.len ≤ length s
   pub count : r.count ≡ 0
@@ -49,26 +106,26 @@ pub record First (s : List ℕ) (r : Reading) : Type 0 where
 pub first-inside : (s : List ℕ) → 8 ≤ length s → First s (first_reading s)
 first-inside s h = go (read_type (drop 8 s) longest_type) (ends_in 8 s h) (max (or_none (id_at s 1)) (id_at s 3))
   where
-    go : (r : TypeRead) → EndsIn 8 s r → (high : ℕ) → First s (result_with high r)
-    go (Whole n top e) w high = record { low = omega arith; high = w; count = refl }
-    go Cut w high = record { low = omega arith; high = h; count = refl }
-    go Malformed w high = record { low = omega arith; high = h; count = refl }
-    go (Endless top e) w high = record { low = omega arith; high = h; count = refl }
+    go : (r : Result TypeRead TypeFault) → EndsIn 8 s r → (high : ℕ) → First s (result_with high r)
+    go (Ok found) w high = record { low = omega arith; high = w; count = refl }
+    go (Err Cut) w high = record { low = omega arith; high = h; count = refl }
+    go (Err Malformed) w high = record { low = omega arith; high = h; count = refl }
+    go (Err (Endless top e)) w high = record { low = omega arith; high = h; count = refl }
 
-pub run_step : (m n : ℕ) (s : List ℕ) (c : Reading) → n < m → run_params (m - n) s c ≡ run_params (m - (n + 1)) s (param_step s c)
+pub run_step : (m n : ℕ) (s : List ℕ) (c : Run) → n < m → run_params (m - n) s c ≡ run_params (m - (n + 1)) s (param_step s c)
 unfolding run_params
 run_step m n s c h =
     let e : m - n ≡ suc (m - (n + 1)) = omega arith in
     ap (λ (k : ℕ). run_params k s c) e
 
-pub run_last : (m n : ℕ) (s : List ℕ) (c : Reading) → m ≤ n → run_params (m - n) s c ≡ c
+pub run_last : (m n : ℕ) (s : List ℕ) (c : Run) → m ≤ n → run_params (m - n) s c ≡ c
 unfolding run_params
 run_last m n s c h =
     let e : m - n ≡ 0 = omega arith in
     ap (λ (k : ℕ). run_params k s c) e
 
 -- after n parameters
-pub run_inside : (n : ℕ) (s : List ℕ) (c : Reading) → c.len ≤ length s → (c.len ≤ (run_params n s c).len) × ((run_params n s c).len ≤ length s)
+pub run_inside : (n : ℕ) (s : List ℕ) (c : Run) → c.len ≤ length s → (c.len ≤ (run_params n s c).len) × ((run_params n s c).len ≤ length s)
 unfolding run_params
 run_inside zero s c h = (omega arith, h)
 run_inside (suc n) s c h =

@@ -8,10 +8,11 @@ use mathlib.Core.Bool.{Bool, true, false, not, true≢false, ◌&&◌, ◌||◌}
 use mathlib.Core.List.{List, [], ◌∷◌, ◌++◌}
 use mathlib.Core.Path.{◌≡◌, refl, sym, ap, ◌∙◌}
 use native.Mathlib.Omega.{arith}
+use Rattle.std.proofs.Common.{Result, Ok, Err}
 use Rattle.record.specs.Inside.Front.{broken_head, plain_head, or_none, good_byte, good_bytes, name_head, class_head, operators_head, field_with, field_head, visibility_head, suspend_head, variant_head}
 use Rattle.record.specs.Layout.{name, id, id_or_none, byte, mask, type, unknown, FieldAt, field_at, type_read, fields_from, any_field, each_field, lengths, good_name}
 use Rattle.record.specs.TableRefused.{repeats}
-use Rattle.record.specs.declared.front.Head.{Head}
+use Rattle.record.specs.Inside.Front.{Front}
 use Rattle.ty.proofs.Choice.{by_choice}
 use Rattle.ty.proofs.Ids.{highest_of, highest_append, TopIs, highest_read}
 use Rattle.ty.specs.Bytes.{id_at}
@@ -19,25 +20,26 @@ use Rattle.ty.specs.Choose.{choose}
 use Rattle.ty.specs.Ids.{ids_in}
 use Rattle.ty.specs.Read.{read_type, longest_type}
 use Rattle.ty.specs.Name.{no_id}
-use Rattle.ty.specs.declared.read.TypeRead.TheVariants.{Whole, Cut, Malformed, Endless}
+use Rattle.ty.specs.declared.read.TypeFault.TheVariants.{Cut, Malformed, Endless}
+use Rattle.ty.specs.declared.read.TypeFault.{TypeFault}
 use Rattle.ty.specs.declared.read.TypeRead.{TypeRead}
 
 -- what a head says of a record that is not malformed
-pub record Holds (s : List ℕ) (ps : List FieldAt) (h : Head) : Type 0 where
+pub record Holds (s : List ℕ) (ps : List FieldAt) (h : Front) : Type 0 where
   pub whole : h.malformed ≡ false
   pub len : h.len ≡ choose (any_field (λ p. p.endless) ps) (length s) (1 + lengths ps)
   pub top : h.top ≡ highest_of (each_field (λ p. p.ids) ps)
   pub repeated : h.repeated ≡ repeats [] (each_field (λ p. p.names) ps)
   pub error : h.error ≡ any_field (λ p. p.error) ps
 
-pub record Agrees (s : List ℕ) (ps : List FieldAt) (h : Head) : Type 0 where
+pub record Agrees (s : List ℕ) (ps : List FieldAt) (h : Front) : Type 0 where
   pub bad : any_field (λ p. p.malformed) ps ≡ true → h ≡ broken_head s
   pub good : any_field (λ p. p.malformed) ps ≡ false → Holds s ps h
 
 pub refused : (s : List ℕ) (ps : List FieldAt) → any_field (λ p. p.malformed) ps ≡ true → Agrees s ps (broken_head s)
 refused s ps e = record { bad = λ _. refl; good = λ q. absurd (true≢false (sym e ∙ q)) }
 
-pub taken : (s : List ℕ) (ps : List FieldAt) (h : Head) → any_field (λ p. p.malformed) ps ≡ false → Holds s ps h → Agrees s ps h
+pub taken : (s : List ℕ) (ps : List FieldAt) (h : Front) → any_field (λ p. p.malformed) ps ≡ false → Holds s ps h → Agrees s ps h
 taken s ps h e x = record { bad = λ q. absurd (true≢false (sym q ∙ e)); good = λ _. x }
 
 -- ---- tests
@@ -141,27 +143,27 @@ module _ (s : List ℕ) where
 
 -- ---- a field
 module _ (s is : List ℕ) where
-  abbrev field_parts : TypeRead → List FieldAt
+  abbrev field_parts : Result TypeRead TypeFault → List FieldAt
   field_parts r = field_at id s 1 ∷ field_at id s 3 ∷ type_read 5 is r ∷ choose (type_read 5 is r).endless [] []
 
-  field_malformed : (r : TypeRead) → any_field (λ p. p.malformed) (field_parts r) ≡ (ltb (length s) 5 || (type_read 5 is r).malformed)
+  field_malformed : (r : Result TypeRead TypeFault) → any_field (λ p. p.malformed) (field_parts r) ≡ (ltb (length s) 5 || (type_read 5 is r).malformed)
   unfolding any_field choose
-  field_malformed (Whole n top e) = absorb s 3 5 false _ (omega arith) ∙ ap (λ (t : Bool). t || false) (or_nil (ltb (length s) 5))
-  field_malformed Cut = absorb s 3 5 false _ (omega arith) ∙ ap (λ (t : Bool). t || true) (or_nil (ltb (length s) 5))
-  field_malformed Malformed = absorb s 3 5 false _ (omega arith) ∙ ap (λ (t : Bool). t || true) (or_nil (ltb (length s) 5))
-  field_malformed (Endless top e) = absorb s 3 5 false _ (omega arith) ∙ ap (λ (t : Bool). t || false) (or_nil (ltb (length s) 5))
+  field_malformed (Ok found) = absorb s 3 5 false _ (omega arith) ∙ ap (λ (t : Bool). t || false) (or_nil (ltb (length s) 5))
+  field_malformed (Err Cut) = absorb s 3 5 false _ (omega arith) ∙ ap (λ (t : Bool). t || true) (or_nil (ltb (length s) 5))
+  field_malformed (Err Malformed) = absorb s 3 5 false _ (omega arith) ∙ ap (λ (t : Bool). t || true) (or_nil (ltb (length s) 5))
+  field_malformed (Err (Endless top e)) = absorb s 3 5 false _ (omega arith) ∙ ap (λ (t : Bool). t || false) (or_nil (ltb (length s) 5))
 
-  field_read_lem : (r : TypeRead) → TopIs (highest_of is) r → ltb (length s) 5 ≡ false → Agrees s (field_parts r) (field_with s (id_at s 1) (id_at s 3) r)
+  field_read_lem : (r : Result TypeRead TypeFault) → TopIs (highest_of is) r → ltb (length s) 5 ≡ false → Agrees s (field_parts r) (field_with s (id_at s 1) (id_at s 3) r)
   unfolding any_field each_field lengths choose repeats highest_of
-  field_read_lem (Whole n top e) t a =
+  field_read_lem (Ok found) t a =
       let b = highest_append is [] in
-      taken s (field_parts (Whole n top e)) _ (field_malformed (Whole n top e) ∙ ap (λ (t : Bool). t || false) a)
-      (record { whole = refl; len = omega arith; top = omega arith; repeated = refl; error = sym (or_nil e) })
-  field_read_lem Cut t a = refused s (field_parts Cut) (field_malformed Cut ∙ or_true (ltb (length s) 5))
-  field_read_lem Malformed t a = refused s (field_parts Malformed) (field_malformed Malformed ∙ or_true (ltb (length s) 5))
-  field_read_lem (Endless top e) t a =
+      taken s (field_parts (Ok found)) _ (field_malformed (Ok found) ∙ ap (λ (t : Bool). t || false) a)
+      (record { whole = refl; len = omega arith; top = omega arith; repeated = refl; error = sym (or_nil found.error) })
+  field_read_lem (Err Cut) t a = refused s (field_parts (Err Cut)) (field_malformed (Err Cut) ∙ or_true (ltb (length s) 5))
+  field_read_lem (Err Malformed) t a = refused s (field_parts (Err Malformed)) (field_malformed (Err Malformed) ∙ or_true (ltb (length s) 5))
+  field_read_lem (Err (Endless top e)) t a =
       let b = highest_append is [] in
-      taken s (field_parts (Endless top e)) _ (field_malformed (Endless top e) ∙ ap (λ (t : Bool). t || false) a)
+      taken s (field_parts (Err (Endless top e))) _ (field_malformed (Err (Endless top e)) ∙ ap (λ (t : Bool). t || false) a)
       (record { whole = refl; len = refl; top = omega arith; repeated = refl; error = refl })
 
 -- the ids of its type

@@ -1,25 +1,33 @@
 -- How long a record is, by its kind.
 use Prim.Native.Nat.{ℕ, ◌+◌, ◌-◌, ◌*◌, ◌/◌, ◌≤◌, ◌<◌}
-use borrow.Author.Tests.{eqb-true, ltb-false}
+use borrow.Author.Tests.{eqb-true, ne_eqb, ltb-false}
 use lib.Dec.{eqb, ltb}
 use lib.ListN.{length, get_or, take, drop, length-drop}
 use lib.Seq.{take-take}
 use mathlib.Core.Bool.{Bool, true, false, true≢false}
 use mathlib.Core.List.{List}
-use mathlib.Core.Path.{◌≡◌, refl, sym, ap, ◌∙◌}
+use mathlib.Core.Path.{◌≡◌, refl, sym, ap, ◌∙◌, subst}
 use native.Mathlib.Omega.{arith}
+use Rattle.std.proofs.Common.{Result, Ok, Err}
 use Rattle.ty.proofs.Choice.{by_choice}
 use Rattle.ty.specs.Bytes.{id_at}
+use Rattle.ty.specs.Choose.{choose}
 use Rattle.ty.specs.Read.{read_type, longest_type}
-use Rattle.ty.specs.declared.read.TypeRead.TheVariants.{Whole, Cut, Malformed, Endless}
+use Rattle.ty.specs.declared.read.TypeFault.TheVariants.{Cut, Malformed, Endless}
+use Rattle.ty.specs.declared.read.TypeFault.{TypeFault}
 use Rattle.ty.specs.declared.read.TypeRead.{TypeRead}
 use Rattle.record.proofs.Bounds.{head_bounded}
 use Rattle.record.proofs.Records.{record_own, record_part}
 use Rattle.record.proofs.ParamSteps.{read-inside}
-use Rattle.record.specs.Inside.Front.{broken_head, plain_head, name_head, class_head, operators_head, params_read, function_with, function_head, field_with, field_head, visibility_head, suspend_head, variant_head, head_by, head_of}
+use Rattle.record.specs.Inside.Front.{broken_head, plain_head, name_head, class_head, operators_head, params_read, function_with, function_head, field_with, field_head, visibility_head, suspend_head, variant_head, head_by, front_of}
+use Rattle.record.specs.Inside.Front.{front_of_head}
 use Rattle.record.specs.Inside.HeadFault.{name_bytes}
-use Rattle.record.specs.Inside.Walk.{ways_of, Stands, record_at}
+use Rattle.record.specs.RecordKind.{record_kind_number}
 use Rattle.record.specs.declared.front.Head.{Head}
+use Rattle.record.specs.declared.front.RecordKind.{RecordKind}
+use Rattle.record.specs.declared.front.RecordKind.TheVariants.{Name, Class, Operators, Function, Field, Visibility, Suspend, Variant}
+use Rattle.record.specs.Inside.Walk.{ways_of, Stands, record_at}
+use Rattle.record.specs.Inside.Front.{Front}
 use Rattle.record.specs.declared.walk.Cursor.{Cursor}
 
 -- the length n goes with the kind k
@@ -32,7 +40,7 @@ pub record Fits (k n : ℕ) : Type 0 where
   pub visibility : k ≡ 6 → n ≡ 6
 
 -- what a record's first byte says of what is read: a malformed record has no kind, any other that one, a length that goes with it, and, from kind 2 on, two ids
-record Shape (kind : ℕ) (s : List ℕ) (h : Head) : Type 0 where
+record Shape (kind : ℕ) (s : List ℕ) (h : Front) : Type 0 where
   fits : Fits h.kind h.len
   same : 1 ≤ h.kind → kind ≡ h.kind
   known : h.malformed ≡ false → 1 ≤ h.kind
@@ -74,7 +82,7 @@ module _ (kind : ℕ) (s : List ℕ) where
   broken = record { fits = fits-any 0 (length s) (λ l. absurd (omega arith)); same = λ l. absurd (omega arith); known = λ e. absurd (true≢false e); ids = λ l. absurd (omega arith); five = λ l. absurd (omega arith) }
 
   -- a head that has that kind
-  whole : (h : Head) → Fits h.kind h.len → eqb kind h.kind ≡ true → 1 ≤ h.kind → (2 ≤ h.kind → (h.one ≡ id_at s 1) × (h.two ≡ id_at s 3)) → 5 ≤ h.len
+  whole : (h : Front) → Fits h.kind h.len → eqb kind h.kind ≡ true → 1 ≤ h.kind → (2 ≤ h.kind → (h.one ≡ id_at s 1) × (h.two ≡ id_at s 3)) → 5 ≤ h.len
       → Shape kind s h
   whole h f e l i w = record { fits = f; same = λ _. eqb-true kind h.kind e; known = λ _. l; ids = i; five = λ _. w }
 
@@ -96,11 +104,11 @@ module _ (kind : ℕ) (s : List ℕ) where
       by_choice (Shape kind s) (eqb (params_read s).state 0) (λ _. whole _ (fits_4 (params_read s).len (read-inside s l).0) k (omega arith) (λ _. (refl, refl)) (omega (arith, (read-inside s l).0))) λ _.
       by_choice (Shape kind s) (eqb (params_read s).state 2) (λ _. whole _ (fits_4 (length s) l) k (omega arith) (λ _. (refl, refl)) (omega arith)) (λ _. broken)
 
-  field_with_lem : eqb kind 5 ≡ true → 5 ≤ length s → (r : TypeRead) → Shape kind s (field_with s (id_at s 1) (id_at s 3) r)
-  field_with_lem k l (Whole n top e) = whole _ (fits_5 (5 + n) (omega arith)) k (omega arith) (λ _. (refl, refl)) (omega arith)
-  field_with_lem k l Cut = broken
-  field_with_lem k l Malformed = broken
-  field_with_lem k l (Endless top e) = whole _ (fits_5 (length s) l) k (omega arith) (λ _. (refl, refl)) l
+  field_with_lem : eqb kind 5 ≡ true → 5 ≤ length s → (r : Result TypeRead TypeFault) → Shape kind s (field_with s (id_at s 1) (id_at s 3) r)
+  field_with_lem k l (Ok found) = whole _ (fits_5 (5 + found.len) (omega arith)) k (omega arith) (λ _. (refl, refl)) (omega arith)
+  field_with_lem k l (Err Cut) = broken
+  field_with_lem k l (Err Malformed) = broken
+  field_with_lem k l (Err (Endless top e)) = whole _ (fits_5 (length s) l) k (omega arith) (λ _. (refl, refl)) l
 
   field : eqb kind 5 ≡ true → Shape kind s (field_head s)
   unfolding field_head
@@ -144,62 +152,70 @@ module _ (kind : ℕ) (s : List ℕ) where
       by_choice (Shape kind s) (eqb kind 7) suspend λ _.
       by_choice (Shape kind s) (eqb kind 8) variant (λ _. broken)
 
+-- a byte that is no kind's begins a malformed record
+pub no_kind : (byte : ℕ) (s : List ℕ) → ((kind : RecordKind) → record_kind_number kind ≡ byte → ⊥) → head_by byte s ≡ broken_head s
+unfolding head_by choose
+no_kind byte s h = rw (ne Name, ne Class, ne Operators, ne Function, ne Field, ne Visibility, ne Suspend, ne Variant)
+  where
+    ne : (kind : RecordKind) → eqb byte (record_kind_number kind) ≡ false
+    ne kind = ne_eqb _ _ (λ e. h kind (sym e))
+
 module _ (s : List ℕ) where
-  head_shape : Shape (get_or s 0 0) s (head_of s)
-  unfolding head_of
+  head_shape : Shape (get_or s 0 0) s (front_of s)
+  unfolding front_of
   head_shape = shape (get_or s 0 0) s
 
-  pub head_fits : Fits (head_of s).kind (head_of s).len
+  pub head_fits : Fits (front_of s).kind (front_of s).len
   head_fits = head_shape.fits
 
   -- a record that is not malformed has a kind
-  pub head_known : (head_of s).malformed ≡ false → 1 ≤ (head_of s).kind
+  pub head_known : (front_of s).malformed ≡ false → 1 ≤ (front_of s).kind
   head_known e = head_shape.known e
 
   -- and at least 5 bytes
-  pub head_long : (head_of s).malformed ≡ false → 5 ≤ (head_of s).len
+  pub head_long : (front_of s).malformed ≡ false → 5 ≤ (front_of s).len
   head_long e = head_shape.five (head_known e)
 
   -- and so many entries of its own as there are ways behind it
-  pub head_ways : (head_of s).malformed ≡ false → ways_of (head_of s).kind ≤ 2 * ((head_of s).len / 5)
+  pub head_ways : (front_of s).malformed ≡ false → ways_of (front_of s).kind ≤ 2 * ((front_of s).len / 5)
   unfolding ways_of
   head_ways e =
-      by_choice (λ (w : ℕ). w ≤ 2 * ((head_of s).len / 5)) (eqb (head_of s).kind 1) (λ k. omega (arith, head_fits.name (eqb-true _ _ k)))
+      by_choice (λ (w : ℕ). w ≤ 2 * ((front_of s).len / 5)) (eqb (front_of s).kind 1) (λ k. omega (arith, head_fits.name (eqb-true _ _ k)))
       (λ _. omega (arith, head_long e))
 
   -- its kind is its first byte
-  pub head_kind : (head_of s).malformed ≡ false → (head_of s).kind ≡ get_or s 0 0
+  pub head_kind : (front_of s).malformed ≡ false → (front_of s).kind ≡ get_or s 0 0
   head_kind e = sym (head_shape.same (head_known e))
 
   -- and from kind 2 on its ids are its next bytes
-  pub head_ids : 2 ≤ (head_of s).kind → ((head_of s).one ≡ id_at s 1) × ((head_of s).two ≡ id_at s 3)
+  pub head_ids : 2 ≤ (front_of s).kind → ((front_of s).one ≡ id_at s 1) × ((front_of s).two ≡ id_at s 3)
   head_ids = head_shape.ids
 
   -- and it was read as a record of its kind
-  pub head_by_lem : (k : ℕ) → 1 ≤ k → (head_of s).kind ≡ k → head_of s ≡ head_by k s
-  unfolding head_of
+  pub head_by_lem : (k : ℕ) → 1 ≤ k → (front_of s).kind ≡ k → front_of s ≡ head_by k s
+  unfolding front_of
   head_by_lem k l e =
       let q : get_or s 0 0 ≡ k = (shape (get_or s 0 0) s).same (omega arith) ∙ e in
       ap (λ (x : ℕ). head_by x s) q
 
 -- of a record that stands at a cursor
 module _ (t : List ℕ) (c : Cursor) (h : Head) (st : Stands t c h) where
-  pub stands_own : h ≡ head_of (record_at t c)
+  pub stands_own : front_of_head h ≡ front_of (record_at t c)
   stands_own = st.head ∙ sym (record_own t c st.some)
 
-  pub stands_fits : Fits h.kind h.len
-  stands_fits = rw st.head (head_fits (drop c.at t))
+  pub stands_fits : Fits (record_kind_number h.kind) h.len
+  stands_fits = subst (λ (x : Front). Fits x.kind x.len) (sym st.head) (head_fits (drop c.at t))
 
   pub stands_inside : c.at + h.len ≤ length t
   stands_inside =
       let b = head_bounded (drop c.at t) (omega (arith, length-drop c.at t, st.some)) in
-      let e : h.len ≡ (head_of (drop c.at t)).len = ap (λ (x : Head). x.len) st.head in
+      let e : h.len ≡ (front_of (drop c.at t)).len = ap (λ (x : Front). x.len) st.head in
       omega (arith, length-drop c.at t, st.some, b.high)
 
-  pub name_room : h.kind ≡ 1 → c.at + 26 ≤ length t
+  pub name_room : record_kind_number h.kind ≡ 1 → c.at + 26 ≤ length t
   name_room e = let n = stands_fits.name e in omega (arith, stands_inside)
 
-  pub name_bytes_lem : h.kind ≡ 1 → take 24 (drop (c.at + 2) t) ≡ name_bytes (record_at t c)
+  pub name_bytes_lem : record_kind_number h.kind ≡ 1 → take 24 (drop (c.at + 2) t) ≡ name_bytes (record_at t c)
   name_bytes_lem e =
-      let n : (head_of (drop c.at t)).len - 2 ≡ 24 = omega (arith, stands_fits.name e, ap (λ (x : Head). x.len) st.head) in
+      let n : (front_of (drop c.at t)).len - 2 ≡ 24 = omega (arith, stands_fits.name e, ap (λ (x : Front). x.len) st.head) in
       sym (ap (λ (z : List ℕ). take 24 z) (record_part t c 2 ∙ ap (λ (k : ℕ). take k (drop (c.at + 2) t)) n) ∙ take-take 24 24 (drop (c.at + 2) t) (omega arith))

@@ -10,7 +10,7 @@ use native.Mathlib.Omega.{arith, not-le}
 use Rattle.record.proofs.Agree.{same_size}
 use Rattle.record.proofs.Bounds.{head_bounded}
 use Rattle.record.proofs.Own.{head_own, drop-take}
-use Rattle.record.specs.Inside.Front.{head_of}
+use Rattle.record.specs.Inside.Front.{front_of}
 use Rattle.record.specs.Inside.FrontRecord.{front_record}
 use Rattle.record.specs.Table.{Record, records_from, records_of, joined}
 use Rattle.record.specs.Inside.Walk.{start, CursorAt, record_at, StepIs, before}
@@ -31,14 +31,14 @@ drop_suc b bs n h =
     ap (λ (k : ℕ). drop k (b ∷ bs)) e
 
 -- the record at the front, and the records behind it
-pub records-here : (s : List ℕ) → 0 < length s → records_of s ≡ front_record s ∷ records_of (drop (head_of s).len s)
+pub records-here : (s : List ℕ) → 0 < length s → records_of s ≡ front_record s ∷ records_of (drop (front_of s).len s)
 unfolding records_from
 records-here [] h = absurd (not-suc-le-zero h)
 records-here (b ∷ bs) h =
     (λ i. take (sym (same_size (b ∷ bs)) i) (b ∷ bs) ∷ records_from bs (sym (same_size (b ∷ bs)) i - 1))
     ∙ ap (λ (rs : List Record). front_record (b ∷ bs) ∷ rs)
-    (records_skip bs ((head_of (b ∷ bs)).len - 1)
-    ∙ ap (λ (z : List ℕ). records_from z 0) (drop_suc b bs (head_of (b ∷ bs)).len (head_bounded (b ∷ bs) h).low))
+    (records_skip bs ((front_of (b ∷ bs)).len - 1)
+    ∙ ap (λ (z : List ℕ). records_from z 0) (drop_suc b bs (front_of (b ∷ bs)).len (head_bounded (b ∷ bs) h).low))
 
 -- past the end there is no record
 pub records-end : (t : List ℕ) (a : ℕ) → length t ≤ a → records_of (drop a t) ≡ []
@@ -62,10 +62,10 @@ records-joined t = go (length t) t (omega arith)
         let l = (head_bounded s some).low in
         ap joined (records-here s some)
         ∙ cons s
-        ∙ ap (λ (z : List ℕ). front_record s ++ z) (go n (drop (head_of s).len s) (omega (arith, length-drop (head_of s).len s)))
-        ∙ take-append-drop (head_of s).len s
+        ∙ ap (λ (z : List ℕ). front_record s ++ z) (go n (drop (front_of s).len s) (omega (arith, length-drop (front_of s).len s)))
+        ∙ take-append-drop (front_of s).len s
       where
-        cons : (s : List ℕ) → joined (front_record s ∷ records_of (drop (head_of s).len s)) ≡ front_record s ++ joined (records_of (drop (head_of s).len s))
+        cons : (s : List ℕ) → joined (front_record s ∷ records_of (drop (front_of s).len s)) ≡ front_record s ++ joined (records_of (drop (front_of s).len s))
         cons s = unfold joined in refl
 
 -- what a cons behind k elements says
@@ -89,27 +89,27 @@ at_new t c e = subst (λ (z : Cursor). CursorAt t z) (sym e) (at_start t)
 
 -- what stands in the record at a cursor stands there in the table
 module _ (t : List ℕ) (c : Cursor) where
-  pub record_byte : (i d : ℕ) → i < (head_of (drop c.at t)).len → get_or (record_at t c) i d ≡ get_or t (c.at + i) d
-  record_byte i d h = get_or-take (head_of (drop c.at t)).len (drop c.at t) i d h ∙ get_or-drop c.at t i d
+  pub record_byte : (i d : ℕ) → i < (front_of (drop c.at t)).len → get_or (record_at t c) i d ≡ get_or t (c.at + i) d
+  record_byte i d h = get_or-take (front_of (drop c.at t)).len (drop c.at t) i d h ∙ get_or-drop c.at t i d
 
-  pub record_part : (k : ℕ) → drop k (record_at t c) ≡ take ((head_of (drop c.at t)).len - k) (drop (c.at + k) t)
+  pub record_part : (k : ℕ) → drop k (record_at t c) ≡ take ((front_of (drop c.at t)).len - k) (drop (c.at + k) t)
   record_part k =
-      drop-take k (head_of (drop c.at t)).len (drop c.at t)
-      ∙ ap (λ (z : List ℕ). take ((head_of (drop c.at t)).len - k) z) (drop-drop k c.at t)
+      drop-take k (front_of (drop c.at t)).len (drop c.at t)
+      ∙ ap (λ (z : List ℕ). take ((front_of (drop c.at t)).len - k) z) (drop-drop k c.at t)
 
-  pub record_own : c.at < length t → head_of (record_at t c) ≡ head_of (drop c.at t)
+  pub record_own : c.at < length t → front_of (record_at t c) ≡ front_of (drop c.at t)
   record_own h = head_own (drop c.at t) (omega (arith, length-drop c.at t))
 
 -- a cursor that a step moved
 module _ (t : List ℕ) (c : Cursor) (a : CursorAt t c) (s : Step) (r : StepIs t c s) where
-  next_at_lem : s.next.at ≡ c.at + (head_of (drop c.at t)).len
-  next_at_lem = r.next ∙ ap (λ h. c.at + h.len) r.head
+  next_at_lem : s.next.at ≡ c.at + (front_of (drop c.at t)).len
+  next_at_lem = r.next
 
   -- the records from here on
   pub here_cons : records_of (drop c.at t) ≡ record_at t c ∷ records_of (drop s.next.at t)
   here_cons =
       records-here (drop c.at t) (omega (arith, length-drop c.at t, r.low, r.high))
-      ∙ ap (λ (z : List ℕ). record_at t c ∷ records_of z) (drop-drop (head_of (drop c.at t)).len c.at t ∙ ap (λ (k : ℕ). drop k t) (sym next_at_lem))
+      ∙ ap (λ (z : List ℕ). record_at t c ∷ records_of z) (drop-drop (front_of (drop c.at t)).len c.at t ∙ ap (λ (k : ℕ). drop k t) (sym next_at_lem))
 
   table_cons : drop c.index (records_of t) ≡ record_at t c ∷ records_of (drop s.next.at t)
   table_cons = sym a.sits ∙ here_cons

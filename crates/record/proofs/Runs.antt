@@ -9,19 +9,21 @@ use mathlib.Core.List.{List, [], ◌∷◌, ◌++◌}
 use mathlib.Core.Path.{◌≡◌, refl, sym, ap, ◌∙◌, subst}
 use native.Mathlib.Numerals.{add-one}
 use native.Mathlib.Omega.{arith}
+use Rattle.std.proofs.Common.{Result, Ok, Err}
 use Rattle.record.proofs.Own.{run_ended}
 use Rattle.record.proofs.RecordParts.{Holds, Agrees, refused, taken, or_true, or_nil, or_none_lem}
 use Rattle.record.specs.Inside.Front.{or_none, among, stopped, param_read, param_with, param_step, run_params, result_with, params_read, function_with, function_head}
 use Rattle.record.specs.Layout.{id, id_or_none, param, byte, type, FieldAt, field_at, type_read, param_fields, fields_from, any_field, each_field, lengths}
 use Rattle.record.specs.TableRefused.{occurs, repeats}
-use Rattle.record.specs.declared.params.Reading.{Reading}
+use Rattle.record.specs.Inside.Front.{Run}
 use Rattle.ty.proofs.Ids.{highest_of, highest_append, TopIs, highest_read}
 use Rattle.ty.proofs.Choice.{by_choice}
 use Rattle.ty.specs.Bytes.{id_at}
 use Rattle.ty.specs.Choose.{choose}
 use Rattle.ty.specs.Ids.{ids_in}
-use Rattle.ty.specs.Read.{read_type, longest_type}
-use Rattle.ty.specs.declared.read.TypeRead.TheVariants.{Whole, Cut, Malformed, Endless}
+use Rattle.ty.specs.Read.{whole_read, read_type, longest_type}
+use Rattle.ty.specs.declared.read.TypeFault.TheVariants.{Cut, Malformed, Endless}
+use Rattle.ty.specs.declared.read.TypeFault.{TypeFault}
 use Rattle.ty.specs.declared.read.TypeRead.{TypeRead}
 
 or_assoc : (a b c : Bool) → (a || b) || c ≡ a || (b || c)
@@ -49,12 +51,12 @@ unfolding among
 among_more n names x i h = rw (add-one n, get_or-set_same names n x 0 h, among-set n n names x i (omega arith))
 
 -- a reading that is whole so far, of parameters with the names `before`
-record Tracks (c : Reading) (before : List ℕ) : Type 0 where
+record Tracks (c : Run) (before : List ℕ) : Type 0 where
   state : c.state ≡ 0
   long : length c.names ≡ 16
   known : (i : ℕ) → among c.count c.names i ≡ occurs i before
 
-tracks_more : (c : Reading) (before : List ℕ) → Tracks c before → c.count < 16 → (x len top : ℕ) (e : Bool) → Tracks (param_read c x len top e 0) (x ∷ before)
+tracks_more : (c : Run) (before : List ℕ) → Tracks c before → c.count < 16 → (x len top : ℕ) (e : Bool) → Tracks (param_read c x len top e 0) (x ∷ before)
 unfolding occurs
 tracks_more c before t h x len top e =
     let l = t.long in
@@ -65,19 +67,19 @@ tracks_more c before t h x len top e =
     }
 
 -- from c over the parts qs to r
-record Went (s : List ℕ) (c : Reading) (before : List ℕ) (qs : List FieldAt) (r : Reading) : Type 0 where
+record Went (s : List ℕ) (c : Run) (before : List ℕ) (qs : List FieldAt) (r : Run) : Type 0 where
   state : r.state ≡ choose (any_field (λ p. p.endless) qs) 2 0
   len : any_field (λ p. p.endless) qs ≡ false → r.len ≡ c.len + lengths qs
   top : r.top ≡ max c.top (highest_of (each_field (λ p. p.ids) qs))
   repeated : r.repeated ≡ (c.repeated || repeats before (each_field (λ p. p.names) qs))
   error : r.error ≡ (c.error || any_field (λ p. p.error) qs)
 
-record Ran (s : List ℕ) (c : Reading) (before : List ℕ) (qs : List FieldAt) (r : Reading) : Type 0 where
+record Ran (s : List ℕ) (c : Run) (before : List ℕ) (qs : List FieldAt) (r : Run) : Type 0 where
   bad : any_field (λ p. p.malformed) qs ≡ true → r.state ≡ 1
   good : any_field (λ p. p.malformed) qs ≡ false → Went s c before qs r
 
 -- one parameter at `at`, whose type was read so, and what follows it
-abbrev pub one_param : List ℕ → ℕ → ℕ → List ℕ → TypeRead → List FieldAt
+abbrev pub one_param : List ℕ → ℕ → ℕ → List ℕ → Result TypeRead TypeFault → List FieldAt
 one_param s n at is r =
     field_at param s at ∷ field_at (byte 3) s (at + 2) ∷ type_read (at + 3) is r
     ∷ choose (type_read (at + 3) is r).endless [] (fields_from (param_fields n) s (at + 3 + (type_read (at + 3) is r).len))
@@ -108,34 +110,34 @@ front s at z = go (ltb (length s - at) 3) refl
         rw (q, p)
 
 module _ (s : List ℕ) where
-  param_malformed : (n at : ℕ) (is : List ℕ) (r : TypeRead) → any_field (λ p. p.malformed) (one_param s n at is r)
+  param_malformed : (n at : ℕ) (is : List ℕ) (r : Result TypeRead TypeFault) → any_field (λ p. p.malformed) (one_param s n at is r)
       ≡ (ltb (length s - at) 3 || (ltb 3 (get_or s (at + 2) 0) || ((type_read (at + 3) is r).malformed
       || any_field (λ p. p.malformed) (choose (type_read (at + 3) is r).endless [] (fields_from (param_fields n) s (at + 3 + (type_read (at + 3) is r).len))))))
   unfolding any_field
   param_malformed n at is r = front s at _
 
-  stays : (n : ℕ) (c r : Reading) (before : List ℕ) (qs : List FieldAt) → r.state ≡ 1 → any_field (λ p. p.malformed) qs ≡ true → Ran s c before qs (run_params n s r)
+  stays : (n : ℕ) (c r : Run) (before : List ℕ) (qs : List FieldAt) → r.state ≡ 1 → any_field (λ p. p.malformed) qs ≡ true → Ran s c before qs (run_params n s r)
   stays n c r before qs z e =
       record {
-        bad = λ _. ap (λ (x : Reading). x.state) (run_ended n s r (ap (λ (k : ℕ). eqb k 0) z)) ∙ z;
+        bad = λ _. ap (λ (x : Run). x.state) (run_ended n s r (ap (λ (k : ℕ). eqb k 0) z)) ∙ z;
         good = λ q. absurd (true≢false (sym e ∙ q));
       }
 
   -- what the run over the next n parameters gives
   abbrev Runs : ℕ → Type 0
-  Runs n = (c : Reading) (before : List ℕ) → Tracks c before → c.count + n ≤ 16 → Ran s c before (fields_from (param_fields n) s c.len) (run_params n s c)
+  Runs n = (c : Run) (before : List ℕ) → Tracks c before → c.count + n ≤ 16 → Ran s c before (fields_from (param_fields n) s c.len) (run_params n s c)
 
-  module _ (n : ℕ) (c : Reading) (before : List ℕ) (t : Tracks c before) (h : c.count + suc n ≤ 16) (ih : Runs n) where
-    param_read_lem : (is : List ℕ) (r : TypeRead) → TopIs (highest_of is) r → ltb (length s - c.len) 3 ≡ false → ltb 3 (get_or s (c.len + 2) 0) ≡ false
+  module _ (n : ℕ) (c : Run) (before : List ℕ) (t : Tracks c before) (h : c.count + suc n ≤ 16) (ih : Runs n) where
+    param_read_lem : (is : List ℕ) (r : Result TypeRead TypeFault) → TopIs (highest_of is) r → ltb (length s - c.len) 3 ≡ false → ltb 3 (get_or s (c.len + 2) 0) ≡ false
         → Ran s c before (one_param s n c.len is r) (run_params n s (param_with c (id_at s c.len) r))
     unfolding any_field each_field lengths highest_of repeats choose
-    param_read_lem is (Whole k top e) tp a b =
+    param_read_lem is (Ok found) tp a b =
         let x = id_at s c.len in
-        let c₁ = param_read c x (c.len + 3 + k) top e 0 in
-        let qs = fields_from (param_fields n) s (c.len + 3 + k) in
-        let m : any_field (λ p. p.malformed) (one_param s n c.len is (Whole k top e)) ≡ any_field (λ p. p.malformed) qs
-        = param_malformed n c.len is (Whole k top e) ∙ fine _ _ _ a b in
-        let y = ih c₁ (x ∷ before) (tracks_more c before t (omega arith) x (c.len + 3 + k) top e) (omega arith) in
+        let c₁ = param_read c x (c.len + 3 + found.len) found.top found.error 0 in
+        let qs = fields_from (param_fields n) s (c.len + 3 + found.len) in
+        let m : any_field (λ p. p.malformed) (one_param s n c.len is (Ok found)) ≡ any_field (λ p. p.malformed) qs
+        = param_malformed n c.len is (Ok found) ∙ fine _ _ _ a b in
+        let y = ih c₁ (x ∷ before) (tracks_more c before t (omega arith) x (c.len + 3 + found.len) found.top found.error) (omega arith) in
         record {
           bad = λ q. y.bad (sym m ∙ q);
           good = λ q.
@@ -145,17 +147,17 @@ module _ (s : List ℕ) where
                 len = λ z. let l = w.len z in omega arith;
                 top = let u = w.top in let v = highest_append is (each_field (λ p. p.ids) qs) in omega arith;
                 repeated = w.repeated ∙ or_assoc c.repeated (among c.count c.names x) _ ∙ ap (λ (g : Bool). c.repeated || (g || repeats (x ∷ before) (each_field (λ p. p.names) qs))) (t.known x);
-                error = w.error ∙ or_assoc c.error e _;
+                error = w.error ∙ or_assoc c.error found.error _;
               };
         }
-    param_read_lem is Cut tp a b = stays n c (stopped c) before (one_param s n c.len is Cut) refl (param_malformed n c.len is Cut ∙ fine _ _ _ a b)
-    param_read_lem is Malformed tp a b = stays n c (stopped c) before (one_param s n c.len is Malformed) refl (param_malformed n c.len is Malformed ∙ fine _ _ _ a b)
-    param_read_lem is (Endless top e) tp a b =
+    param_read_lem is (Err Cut) tp a b = stays n c (stopped c) before (one_param s n c.len is (Err Cut)) refl (param_malformed n c.len is (Err Cut) ∙ fine _ _ _ a b)
+    param_read_lem is (Err Malformed) tp a b = stays n c (stopped c) before (one_param s n c.len is (Err Malformed)) refl (param_malformed n c.len is (Err Malformed) ∙ fine _ _ _ a b)
+    param_read_lem is (Err (Endless top e)) tp a b =
         let x = id_at s c.len in
         let c₁ = param_read c x c.len top true 2 in
-        let m : any_field (λ p. p.malformed) (one_param s n c.len is (Endless top e)) ≡ false
-        = param_malformed n c.len is (Endless top e) ∙ fine _ _ _ a b in
-        subst (Ran s c before (one_param s n c.len is (Endless top e))) (sym (run_ended n s c₁ refl))
+        let m : any_field (λ p. p.malformed) (one_param s n c.len is (Err (Endless top e))) ≡ false
+        = param_malformed n c.len is (Err (Endless top e)) ∙ fine _ _ _ a b in
+        subst (Ran s c before (one_param s n c.len is (Err (Endless top e)))) (sym (run_ended n s c₁ refl))
         (record {
           bad = λ q. absurd (true≢false (sym q ∙ m));
           good = λ _.
@@ -175,11 +177,11 @@ module _ (s : List ℕ) where
         let is = ids_in (drop (c.len + 3) s) longest_type in
         let qs = one_param s n c.len is r in
         let m = param_malformed n c.len is r in
-        by_choice (λ (x : Reading). Ran s c before qs (run_params n s x)) (not (eqb c.state 0))
+        by_choice (λ (x : Run). Ran s c before qs (run_params n s x)) (not (eqb c.state 0))
         (λ e. absurd (true≢false (sym e ∙ ap not (eq-eqb c.state 0 t.state)))) λ _.
-        by_choice (λ (x : Reading). Ran s c before qs (run_params n s x)) (ltb (length s - c.len) 3)
+        by_choice (λ (x : Run). Ran s c before qs (run_params n s x)) (ltb (length s - c.len) 3)
         (λ a. stays n c (stopped c) before qs refl (m ∙ first_bad (ltb (length s - c.len) 3) _ a)) λ a.
-        by_choice (λ (x : Reading). Ran s c before qs (run_params n s x)) (ltb 3 (get_or s (c.len + 2) 0))
+        by_choice (λ (x : Run). Ran s c before qs (run_params n s x)) (ltb 3 (get_or s (c.len + 2) 0))
         (λ b. stays n c (stopped c) before qs refl (m ∙ next_bad (ltb (length s - c.len) 3) (ltb 3 (get_or s (c.len + 2) 0)) _ b)) λ b.
         param_read_lem is r (highest_read (drop (c.len + 3) s) longest_type) a b
 
@@ -199,7 +201,7 @@ module _ (s : List ℕ) where
   abbrev pub fixed_parts : List FieldAt
   fixed_parts = field_at id_or_none s 1 ∷ field_at id s 3 ∷ field_at (byte 3) s 5 ∷ field_at (byte 1) s 6 ∷ field_at (byte 16) s 7 ∷ []
 
-  abbrev pub function_parts : List ℕ → TypeRead → List FieldAt
+  abbrev pub function_parts : List ℕ → Result TypeRead TypeFault → List FieldAt
   function_parts is r = fixed_parts ++ type_read 8 is r ∷ choose (type_read 8 is r).endless [] (fields_from (param_fields (get_or s 7 0)) s (8 + (type_read 8 is r).len))
 
   -- the tests of the first eight bytes
@@ -221,40 +223,40 @@ module _ (s : List ℕ) where
           rw (x, y, u, w)
 
   -- of the result and the parameters
-  abbrev behind : List ℕ → TypeRead → List FieldAt
+  abbrev behind : List ℕ → Result TypeRead TypeFault → List FieldAt
   behind is r = type_read 8 is r ∷ choose (type_read 8 is r).endless [] (fields_from (param_fields (get_or s 7 0)) s (8 + (type_read 8 is r).len))
 
-  function_malformed : (is : List ℕ) (r : TypeRead) → any_field (λ p. p.malformed) (function_parts is r)
+  function_malformed : (is : List ℕ) (r : Result TypeRead TypeFault) → any_field (λ p. p.malformed) (function_parts is r)
       ≡ (ltb (length s) 8 || (ltb 3 (get_or s 5 0) || (ltb 1 (get_or s 6 0) || (ltb 16 (get_or s 7 0) || any_field (λ p. p.malformed) (behind is r)))))
   unfolding any_field
   function_malformed is r = first_eight (ltb 3 (get_or s 5 0)) (ltb 1 (get_or s 6 0)) (ltb 16 (get_or s 7 0)) _
 
   -- before the result
-  abbrev start : Reading
-  start = result_with (max (or_none (id_at s 1)) (id_at s 3)) (Whole 0 0 false)
+  abbrev start : Run
+  start = result_with (max (or_none (id_at s 1)) (id_at s 3)) (whole_read 0 0 false)
 
-  result_read_lem : get_or s 7 0 ≤ 16 → (is : List ℕ) (r : TypeRead) → TopIs (highest_of is) r → Ran s start [] (behind is r) (run_params (get_or s 7 0) s (result_with (max (or_none (id_at s 1)) (id_at s 3)) r))
+  result_read_lem : get_or s 7 0 ≤ 16 → (is : List ℕ) (r : Result TypeRead TypeFault) → TopIs (highest_of is) r → Ran s start [] (behind is r) (run_params (get_or s 7 0) s (result_with (max (or_none (id_at s 1)) (id_at s 3)) r))
   unfolding any_field each_field lengths highest_of repeats occurs among choose
-  result_read_lem h is (Whole k top e) tp =
-      let c = result_with (max (or_none (id_at s 1)) (id_at s 3)) (Whole k top e) in
+  result_read_lem h is (Ok found) tp =
+      let c = result_with (max (or_none (id_at s 1)) (id_at s 3)) (Ok found) in
       let y = run s (get_or s 7 0) c [] (record { state = refl; long = refl; known = λ i. refl }) (omega arith) in
       record {
         bad = λ q. y.bad q;
         good = λ q.
             let w = y.good q in
-            let v = highest_append is (each_field (λ p. p.ids) (fields_from (param_fields (get_or s 7 0)) s (8 + k))) in
+            let v = highest_append is (each_field (λ p. p.ids) (fields_from (param_fields (get_or s 7 0)) s (8 + found.len))) in
             record { state = w.state; len = λ z. let l = w.len z in omega arith; top = let u = w.top in omega arith; repeated = w.repeated; error = w.error };
       }
-  result_read_lem h is Cut tp = stays s (get_or s 7 0) start (result_with (max (or_none (id_at s 1)) (id_at s 3)) Cut) [] (behind is Cut) refl refl
-  result_read_lem h is Malformed tp = stays s (get_or s 7 0) start (result_with (max (or_none (id_at s 1)) (id_at s 3)) Malformed) [] (behind is Malformed) refl refl
-  result_read_lem h is (Endless top e) tp =
-      subst (Ran s start [] (behind is (Endless top e))) (sym (run_ended (get_or s 7 0) s (result_with (max (or_none (id_at s 1)) (id_at s 3)) (Endless top e)) refl))
+  result_read_lem h is (Err Cut) tp = stays s (get_or s 7 0) start (result_with (max (or_none (id_at s 1)) (id_at s 3)) (Err Cut)) [] (behind is (Err Cut)) refl refl
+  result_read_lem h is (Err Malformed) tp = stays s (get_or s 7 0) start (result_with (max (or_none (id_at s 1)) (id_at s 3)) (Err Malformed)) [] (behind is (Err Malformed)) refl refl
+  result_read_lem h is (Err (Endless top e)) tp =
+      subst (Ran s start [] (behind is (Err (Endless top e)))) (sym (run_ended (get_or s 7 0) s (result_with (max (or_none (id_at s 1)) (id_at s 3)) (Err (Endless top e))) refl))
       (record {
         bad = λ q. absurd (true≢false (sym q));
         good = λ _. let v = highest_append is [] in record { state = refl; len = λ z. absurd (true≢false z); top = omega arith; repeated = refl; error = refl };
       })
 
-  function_with_lem : (is : List ℕ) (r : TypeRead) (c : Reading) → any_field (λ p. p.malformed) (function_parts is r) ≡ any_field (λ p. p.malformed) (behind is r) → Ran s start [] (behind is r) c
+  function_with_lem : (is : List ℕ) (r : Result TypeRead TypeFault) (c : Run) → any_field (λ p. p.malformed) (function_parts is r) ≡ any_field (λ p. p.malformed) (behind is r) → Ran s start [] (behind is r) c
       → Agrees s (function_parts is r) (function_with s c)
   unfolding function_with any_field each_field lengths highest_of choose
   function_with_lem is r c m y = go (any_field (λ p. p.malformed) (behind is r)) refl

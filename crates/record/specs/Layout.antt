@@ -1,12 +1,13 @@
 -- What a record is. Document 01, "Table and question": a byte of kind, then fields one behind the other. Ids have 2 bytes, low byte first; flags, visibilities,
 -- counts and name lengths 1.
-use Rattle.std.specs.Prelude.{ℕ, zero, suc, ◌+◌, ltb, leb, eqb, length, get_or, take, drop, Bool, true, false, not, ◌&&◌, ◌||◌, List, [], ◌∷◌, ◌++◌}
+use Rattle.std.specs.Prelude.{ℕ, zero, suc, ◌+◌, ltb, leb, eqb, length, get_or, take, drop, Bool, true, false, not, ◌&&◌, ◌||◌, List, [], ◌∷◌, ◌++◌, Result, Ok, Err}
 use Rattle.ty.specs.Bytes.{id_at}
 use Rattle.ty.specs.Choose.{choose}
 use Rattle.ty.specs.Ids.{ids_in}
 use Rattle.ty.specs.Read.{read_type, longest_type}
 use Rattle.ty.specs.Name.{no_id}
-use Rattle.ty.specs.declared.read.TypeRead.TheVariants.{Whole, Cut, Malformed, Endless}
+use Rattle.ty.specs.declared.read.TypeFault.TheVariants.{Cut, Malformed, Endless}
+use Rattle.ty.specs.declared.read.TypeFault.{TypeFault}
 use Rattle.ty.specs.declared.read.TypeRead.{TypeRead}
 
 pub data Field : Type 0 where
@@ -64,11 +65,11 @@ abbrev pub typed : ℕ → ℕ → List ℕ → Bool → Bool → Bool → Field
 typed at n ids malformed endless error =
     record { at = at; len = n; value = 0; ids = ids; names = []; malformed = malformed; endless = endless; error = error }
 
-abbrev pub type_read : ℕ → List ℕ → TypeRead → FieldAt
-type_read at ids (Whole n top error) = typed at n ids false false error
-type_read at ids Cut = typed at 0 [] true false false
-type_read at ids Malformed = typed at 0 [] true false false
-type_read at ids (Endless top error) = typed at 0 ids false true true
+abbrev pub type_read : ℕ → List ℕ → Result TypeRead TypeFault → FieldAt
+type_read at ids (Ok found) = typed at found.len ids false false found.error
+type_read at ids (Err Cut) = typed at 0 [] true false false
+type_read at ids (Err Malformed) = typed at 0 [] true false false
+type_read at ids (Err (Endless top error)) = typed at 0 ids false true true
 
 -- the field at byte `at` of s
 abbrev pub field_at : Field → List ℕ → ℕ → FieldAt

@@ -1,3 +1,4 @@
+pub mod RecordKind
 pub mod Inside
 pub mod Layout
 pub mod Table

@@ -1,28 +1,79 @@
 // Reading one record from the front of a slice.
 ghost use Rattle.std.specs.Prelude.{◌≡◌, ◌<◌, length};
-ghost use Rattle.record.specs.Inside.Front.{broken_head, plain_head, or_none, good_byte, good_bytes, head_by, name_head, class_head, operators_head};
+ghost use Rattle.record.specs.RecordKind.{record_kind_number, RecordKindIs};
+ghost use Rattle.record.specs.Inside.Front.{front_at, plain_head, or_none, good_byte, good_bytes, head_by, name_head, class_head, operators_head};
 ghost use Rattle.record.specs.Inside.Front.{field_with};
 ghost use Rattle.record.specs.Inside.Front.{field_head, visibility_head, suspend_head, variant_head};
 ghost use Rattle.record.specs.Inside.Walk.{HeadIs, EndsIn};
 
 use crate::params;
 use ty::read::read_type;
-use ty::{NameId, TypeRead, byte_at, highest, id_at, tail};
+use ty::{NameId, TypeFault, TypeRead, byte_at, id_at, tail};
 
 // The longest type in a table.
 pub const LONGEST: u16 = 192;
 
-// What a record says at its front: its kind, its first two numbers (of a class its name and superclass, of an operator set class and mask, of the later kinds
-// owner and name; a name has none), its length, the highest id that it uses and that must be defined, and whether it is malformed or cut, repeats a parameter's
-// name, or has Error in a type or a type without end. A malformed record has kind 0. Where a record is not whole, its length is that of all that is left.
+// The kinds of a record.
+#[derive(Clone, Copy, PartialEq, Eq)]
+pub enum RecordKind {
+    Name,
+    Class,
+    Operators,
+    Function,
+    Field,
+    Visibility,
+    Suspend,
+    Variant,
+}
+
+impl RecordKind {
+    // The byte that stands for the kind.
+    pub fn number(self) -> u8
+        ensures { result ≡ record_kind_number self }
+    {
+        match self {
+            RecordKind::Name => 1,
+            RecordKind::Class => 2,
+            RecordKind::Operators => 3,
+            RecordKind::Function => 4,
+            RecordKind::Field => 5,
+            RecordKind::Visibility => 6,
+            RecordKind::Suspend => 7,
+            RecordKind::Variant => 8,
+        }
+    }
+}
+
+impl TryFrom<u8> for RecordKind {
+    type Error = ();
+
+    ghost try_from_gives = { RecordKindIs };
+
+    fn try_from(byte: u8) -> Result<Self, ()> {
+        match byte {
+            1 => Ok(RecordKind::Name),
+            2 => Ok(RecordKind::Class),
+            3 => Ok(RecordKind::Operators),
+            4 => Ok(RecordKind::Function),
+            5 => Ok(RecordKind::Field),
+            6 => Ok(RecordKind::Visibility),
+            7 => Ok(RecordKind::Suspend),
+            8 => Ok(RecordKind::Variant),
+            _ => Err(()),
+        }
+    }
+}
+
+// What a record that is not malformed says at its front: its kind, its first two numbers (of a class its name and superclass, of an operator set class and
+// mask, of the later kinds owner and name; a name has none), its length, the highest id that it uses and that must be defined, and whether it repeats a
+// parameter's name, or has Error in a type or a type without end. Where a type has no end, the record's length is that of all that is left.
 #[derive(Clone, Copy)]
 pub struct Head {
-    pub kind: u8,
+    pub kind: RecordKind,
     pub one: u16,
     pub two: u16,
     pub len: usize,
     pub top: u16,
-    pub malformed: bool,
     pub repeated: bool,
     pub error: bool,
 }
@@ -36,41 +87,33 @@ pub fn or_none(id: u16) -> u16
     id
 }
 
-pub fn broken(s: &[u8]) -> Head
-    ensures { result ≡ broken_head s.now }
-{
-    Head {
-        kind: 0,
-        one: 0,
-        two: 0,
-        len: s.len(),
-        top: 0,
-        malformed: true,
-        repeated: false,
-        error: false,
-    }
-}
-
 // A record of n bytes with no type in it.
-fn plain(s: &[u8], n: usize, bad: bool, kind: u8, one: u16, two: u16, top: u16) -> Head
-    ensures { result ≡ plain_head s.now n bad kind one two top }
+fn plain(
+    s: &[u8],
+    n: usize,
+    bad: bool,
+    kind: RecordKind,
+    one: u16,
+    two: u16,
+    top: u16,
+) -> Option<Head>
+    ensures { front_at s.now result ≡ plain_head s.now n bad (record_kind_number kind) one two top }
 {
     if s.len() < n {
-        return broken(s);
+        return None;
     }
     if bad {
-        return broken(s);
+        return None;
     }
-    Head {
+    Some(Head {
         kind,
         one,
         two,
         len: n,
         top,
-        malformed: false,
         repeated: false,
         error: false,
-    }
+    })
 }
 
 // Without a branch, so that good_bytes can take many bytes at a time: a byte inside the name is not zero, one behind it is.
@@ -84,44 +127,50 @@ fn good_bytes(s: &[u8], n: usize) -> bool
     ensures { result ≡ good_bytes 24 s.now n }
 {
     let mut good = true;
-    let mut i: usize = 0;
-    while i < 24 {
+    for i in 0..24 {
         good = good_byte(n, i, byte_at(s, i + 2)) & good;
-        i += 1;
     }
     good
 }
 
-fn read_name(s: &[u8]) -> Head
-    ensures { result ≡ name_head s.now }
+fn read_name(s: &[u8]) -> Option<Head>
+    ensures { front_at s.now result ≡ name_head s.now }
 {
     if s.len() < 26 {
-        return broken(s);
+        return None;
     }
     let n = byte_at(s, 1);
     let good = good_bytes(s, n as usize);
-    plain(s, 26, (n < 1) | ((24 < n) | (!good)), 1, 0, 0, 0)
+    plain(
+        s,
+        26,
+        (n < 1) | ((24 < n) | (!good)),
+        RecordKind::Name,
+        0,
+        0,
+        0,
+    )
 }
 
-fn read_class(s: &[u8]) -> Head
-    ensures { result ≡ class_head s.now }
+fn read_class(s: &[u8]) -> Option<Head>
+    ensures { front_at s.now result ≡ class_head s.now }
 {
     let name = id_at(s, 1);
     let over = id_at(s, 3);
-    let top = highest(name, highest(or_none(over), or_none(id_at(s, 5))));
-    plain(s, 8, 1 < byte_at(s, 7), 2, name, over, top)
+    let top = name.max(or_none(over).max(or_none(id_at(s, 5))));
+    plain(s, 8, 1 < byte_at(s, 7), RecordKind::Class, name, over, top)
 }
 
-fn read_operators(s: &[u8]) -> Head
-    ensures { result ≡ operators_head s.now }
+fn read_operators(s: &[u8]) -> Option<Head>
+    ensures { front_at s.now result ≡ operators_head s.now }
 {
     let class = id_at(s, 1);
     let mask = id_at(s, 3);
-    plain(s, 5, 2047 < mask, 3, class, mask, class)
+    plain(s, 5, 2047 < mask, RecordKind::Operators, class, mask, class)
 }
 
-fn read_visibility(s: &[u8]) -> Head
-    ensures { result ≡ visibility_head s.now }
+fn read_visibility(s: &[u8]) -> Option<Head>
+    ensures { front_at s.now result ≡ visibility_head s.now }
 {
     let owner = id_at(s, 1);
     let name = id_at(s, 3);
@@ -129,104 +178,106 @@ fn read_visibility(s: &[u8]) -> Head
         s,
         6,
         3 < byte_at(s, 5),
-        6,
+        RecordKind::Visibility,
         owner,
         name,
-        highest(owner, name),
+        owner.max(name),
     )
 }
 
-fn read_suspend(s: &[u8]) -> Head
-    ensures { result ≡ suspend_head s.now }
+fn read_suspend(s: &[u8]) -> Option<Head>
+    ensures { front_at s.now result ≡ suspend_head s.now }
 {
     let owner = id_at(s, 1);
     let name = id_at(s, 3);
-    plain(s, 5, false, 7, owner, name, highest(or_none(owner), name))
+    plain(
+        s,
+        5,
+        false,
+        RecordKind::Suspend,
+        owner,
+        name,
+        or_none(owner).max(name),
+    )
 }
 
-fn read_variant(s: &[u8]) -> Head
-    ensures { result ≡ variant_head s.now }
+fn read_variant(s: &[u8]) -> Option<Head>
+    ensures { front_at s.now result ≡ variant_head s.now }
 {
     let owner = id_at(s, 1);
     let name = id_at(s, 3);
-    plain(s, 5, false, 8, owner, name, highest(owner, name))
+    plain(
+        s,
+        5,
+        false,
+        RecordKind::Variant,
+        owner,
+        name,
+        owner.max(name),
+    )
 }
 
 // A field whose type was read so.
-fn field_with(s: &[u8], one: u16, two: u16, read: TypeRead) -> Head
+fn field_with(s: &[u8], one: u16, two: u16, read: Result<TypeRead, TypeFault>) -> Option<Head>
     requires { EndsIn 5 s.now read }
-    ensures { result ≡ field_with s.now one two read }
+    ensures { front_at s.now result ≡ field_with s.now one two read }
 {
-    let high = highest(one, two);
+    let high = one.max(two);
     match read {
-        TypeRead::Whole { len, top, error } => Head {
-            kind: 5,
+        Ok(found) => Some(Head {
+            kind: RecordKind::Field,
             one,
             two,
-            len: 5 + len,
-            top: highest(high, top),
-            malformed: false,
+            len: 5 + found.len,
+            top: high.max(found.top),
             repeated: false,
-            error,
-        },
-        TypeRead::Cut => broken(s),
-        TypeRead::Malformed => broken(s),
-        TypeRead::Endless { top, error: _ } => Head {
-            kind: 5,
+            error: found.error,
+        }),
+        Err(TypeFault::Endless { top, error: _ }) => Some(Head {
+            kind: RecordKind::Field,
             one,
             two,
             len: s.len(),
-            top: highest(high, top),
-            malformed: false,
+            top: high.max(top),
             repeated: false,
             error: true,
-        },
+        }),
+        Err(TypeFault::Cut) => None,
+        Err(TypeFault::Malformed) => None,
     }
 }
 
-fn read_field(s: &[u8]) -> Head
-    ensures { result ≡ field_head s.now }
+fn read_field(s: &[u8]) -> Option<Head>
+    ensures { front_at s.now result ≡ field_head s.now }
 {
     if s.len() < 5 {
-        return broken(s);
+        return None;
     }
     field_with(s, id_at(s, 1), id_at(s, 3), read_type(tail(s, 5), LONGEST))
 }
 
-// The record at the front of s.
-pub fn read_record(s: &[u8]) -> Head
+// The record at the front of s, and none where it is malformed or cut.
+pub fn read_record(s: &[u8]) -> Option<Head>
     requires { 0 < length s.now }
     ensures { HeadIs s.now result }
 {
-    read_kind(s, s[0])
+    match RecordKind::try_from(s[0]) {
+        Ok(kind) => read_kind(s, kind),
+        Err(_) => None,
+    }
 }
 
-fn read_kind(s: &[u8], kind: u8) -> Head
-    ensures { result ≡ head_by kind s.now }
+fn read_kind(s: &[u8], kind: RecordKind) -> Option<Head>
+    ensures { front_at s.now result ≡ head_by (record_kind_number kind) s.now }
 {
-    if kind == 1 {
-        return read_name(s);
+    match kind {
+        RecordKind::Name => read_name(s),
+        RecordKind::Class => read_class(s),
+        RecordKind::Operators => read_operators(s),
+        RecordKind::Function => params::read_function_head(s),
+        RecordKind::Field => read_field(s),
+        RecordKind::Visibility => read_visibility(s),
+        RecordKind::Suspend => read_suspend(s),
+        RecordKind::Variant => read_variant(s),
     }
-    if kind == 2 {
-        return read_class(s);
-    }
-    if kind == 3 {
-        return read_operators(s);
-    }
-    if kind == 4 {
-        return params::read_function_head(s);
-    }
-    if kind == 5 {
-        return read_field(s);
-    }
-    if kind == 6 {
-        return read_visibility(s);
-    }
-    if kind == 7 {
-        return read_suspend(s);
-    }
-    if kind == 8 {
-        return read_variant(s);
-    }
-    broken(s)
 }

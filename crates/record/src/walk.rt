@@ -1,5 +1,6 @@
 // The table's cursor.
 ghost use Rattle.std.specs.Prelude.{◌≡◌, ◌≤◌, ◌<◌, length};
+ghost use Rattle.record.specs.Inside.Front.{front_at};
 ghost use Rattle.record.specs.Inside.Walk.{start, StepIs};
 
 use crate::front::{Head, read_record};
@@ -11,11 +12,21 @@ pub struct Cursor {
     pub index: usize,
 }
 
-// A record's front, and the cursor behind it.
+// A record's front, none where it is malformed or cut, and the cursor behind it.
 #[derive(Clone, Copy)]
 pub struct Step {
-    pub head: Head,
+    pub head: Option<Head>,
     pub next: Cursor,
+}
+
+// How many bytes are behind then: all that is left, where the record is malformed or cut.
+fn taken(s: &[u8], head: Option<Head>) -> usize
+    ensures { result ≡ (front_at s.now head).len }
+{
+    match head {
+        Some(head) => head.len,
+        None => s.len(),
+    }
 }
 
 impl Cursor {
@@ -32,9 +43,10 @@ impl Cursor {
         ensures { StepIs t.now self result }
     {
         let at = self.at;
-        let head = read_record(&t[at..]);
+        let rest = &t[at..];
+        let head = read_record(rest);
         let next = Cursor {
-            at: at + head.len,
+            at: at + taken(rest, head),
             index: self.index + 1,
         };
         Step { head, next }

@@ -4,8 +4,8 @@ use Rattle.std.specs.Prelude.{ℕ, Bool, false, not, ◌&&◌, ◌||◌, List, [
 use Rattle.ty.specs.Choose.{choose}
 use Rattle.ty.specs.Name.{no_id, id_defined}
 use Rattle.ty.specs.Bytes.{same_bytes}
-use Rattle.record.specs.declared.front.Head.{Head}
-use Rattle.record.specs.Inside.Front.{head_of}
+use Rattle.record.specs.Inside.Front.{Front}
+use Rattle.record.specs.Inside.Front.{front_of}
 use Rattle.record.specs.Inside.FrontRecord.{count_of}
 use Rattle.record.specs.Table.{Record}
 use Rattle.record.specs.Spelling.{builtin_names, spelled}
@@ -17,10 +17,10 @@ name_bytes r = take 24 (drop 2 r)
 -- Two records have one key: of a name its bytes, of a class and an operator set the class, of kinds 5 to 8 owner and name; functions may repeat.
 unfoldable pub same_key : Record → Record → Bool
 same_key x y =
-    choose (eqb (head_of x).kind (head_of y).kind)
-    (choose (eqb (head_of x).kind 1) (same_bytes (name_bytes x) (name_bytes y))
-    (choose (ltb (head_of x).kind 4) (eqb (head_of x).one (head_of y).one)
-    (choose (eqb (head_of x).kind 4) false (eqb (head_of x).one (head_of y).one && eqb (head_of x).two (head_of y).two))))
+    choose (eqb (front_of x).kind (front_of y).kind)
+    (choose (eqb (front_of x).kind 1) (same_bytes (name_bytes x) (name_bytes y))
+    (choose (ltb (front_of x).kind 4) (eqb (front_of x).one (front_of y).one)
+    (choose (eqb (front_of x).kind 4) false (eqb (front_of x).one (front_of y).one && eqb (front_of x).two (front_of y).two))))
     false
 
 unfoldable pub has_key : Record → List Record → Bool
@@ -29,35 +29,35 @@ has_key x (r ∷ rs) = same_key r x || has_key x rs
 
 -- a name record with a built-in spelling
 abbrev pub is_builtin_name : Record → Bool
-is_builtin_name r = eqb (head_of r).kind 1 && spelled (name_bytes r) builtin_names
+is_builtin_name r = eqb (front_of r).kind 1 && spelled (name_bytes r) builtin_names
 
 -- the class id has a record among some
-abbrev pub is_class : ℕ → Head → Bool
+abbrev pub is_class : ℕ → Front → Bool
 is_class id h = eqb h.kind 2 && eqb h.one id
 
 unfoldable pub has_class : ℕ → List Record → Bool
 has_class id [] = false
-has_class id (r ∷ rs) = is_class id (head_of r) || has_class id rs
+has_class id (r ∷ rs) = is_class id (front_of r) || has_class id rs
 
 -- r is a class whose superclass has a record, but not an earlier one; `rest` is r and the records behind it
 unfoldable pub super_late : List Record → Record → List Record → Bool
 super_late earlier r rest =
-    eqb (head_of r).kind 2
-    && (not (eqb (head_of r).two no_id) && (not (has_class (head_of r).two earlier) && has_class (head_of r).two rest))
+    eqb (front_of r).kind 2
+    && (not (eqb (front_of r).two no_id) && (not (has_class (front_of r).two earlier) && has_class (front_of r).two rest))
 
 -- the kind of the latest of the earlier records
 abbrev pub last_kind : List Record → ℕ
 last_kind [] = 0
-last_kind (r ∷ rs) = (head_of r).kind
+last_kind (r ∷ rs) = (front_of r).kind
 
 -- the number of a record by its head; `earlier` are the records before it, the latest first; `rest` is it and the records behind it
 unfoldable pub head_fault : List Record → Record → List Record → ℕ
 head_fault earlier r rest =
-    choose (head_of r).malformed 2
-    (choose (ltb (head_of r).kind (last_kind earlier)) 3
-    (choose (not (id_defined (head_of r).top (count_of 1 earlier))) 4
-    (choose ((head_of r).repeated || (is_builtin_name r || has_key r earlier)) 5
-    (choose (super_late earlier r rest) 6 (choose (head_of r).error 7 0)))))
+    choose (front_of r).malformed 2
+    (choose (ltb (front_of r).kind (last_kind earlier)) 3
+    (choose (not (id_defined (front_of r).top (count_of 1 earlier))) 4
+    (choose ((front_of r).repeated || (is_builtin_name r || has_key r earlier)) 5
+    (choose (super_late earlier r rest) 6 (choose (front_of r).error 7 0)))))
 
 -- the number of the first faulty record
 unfoldable pub found_from : List Record → List Record → ℕ
@@ -67,15 +67,15 @@ found_from earlier (r ∷ rs) =
 
 -- r is a class whose superclass has no earlier record
 unfoldable pub super_missing : List Record → Record → Bool
-super_missing earlier r = eqb (head_of r).kind 2 && (not (eqb (head_of r).two no_id) && not (has_class (head_of r).two earlier))
+super_missing earlier r = eqb (front_of r).kind 2 && (not (eqb (front_of r).two no_id) && not (has_class (front_of r).two earlier))
 
 -- the number of a record by itself: 2, 3, 4, and 5 for a parameter's name and a built-in spelling
 unfoldable pub own_fault : List Record → Record → ℕ
 own_fault earlier r =
-    choose (head_of r).malformed 2
-    (choose (ltb (head_of r).kind (last_kind earlier)) 3
-    (choose (not (id_defined (head_of r).top (count_of 1 earlier))) 4 (choose ((head_of r).repeated || is_builtin_name r) 5 0)))
+    choose (front_of r).malformed 2
+    (choose (ltb (front_of r).kind (last_kind earlier)) 3
+    (choose (not (id_defined (front_of r).top (count_of 1 earlier))) 4 (choose ((front_of r).repeated || is_builtin_name r) 5 0)))
 
 -- the number of a record beside the others: 5, 6, and 7
 unfoldable pub key_fault : List Record → Record → List Record → ℕ
-key_fault earlier r rest = choose (has_key r earlier) 5 (choose (super_late earlier r rest) 6 (choose (head_of r).error 7 0))
+key_fault earlier r rest = choose (has_key r earlier) 5 (choose (super_late earlier r rest) 6 (choose (front_of r).error 7 0))

@@ -1,13 +1,12 @@
 use mathlib.Core.Path.{refl}
 use native.Mathlib.Numerals.{add-one}
-use native.Mathlib.Omega.{arith}
 use Rattle.record.specs.Inside.Front.{good_bytes}
 use Rattle.record.proofs.front.good_bytes.Goals as goal
 
 pub loop-i-init : goal.loop-i-init
 unfolding good_bytes
-loop-i-init c = (omega arith, refl)
+loop-i-init c = refl
 
 pub loop-i-preserved : goal.loop-i-preserved
 unfolding good_bytes
-loop-i-preserved c = (omega arith, rw (add-one, c.good_byte-good.ensures, c.byte_at.ensures, c.loop-i.invariant.1))
+loop-i-preserved c = rw (add-one, c.good_byte-good.ensures, c.byte_at.ensures, c.loop-i.invariant)

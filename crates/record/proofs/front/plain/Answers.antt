@@ -4,11 +4,11 @@ use Rattle.record.proofs.front.plain.Goals as goal
 
 pub returns-then-s-n : goal.returns-then-s-n
 unfolding plain_head
-returns-then-s-n c = rw c.broken.ensures (search chain depth 14)
+returns-then-s-n c = search chain depth 14
 
 pub returns-then-bad : goal.returns-then-bad
 unfolding plain_head
-returns-then-bad c = rw c.broken-then-bad.ensures (search chain depth 14)
+returns-then-bad c = search chain depth 14
 
 pub returns : goal.returns
 unfolding plain_head

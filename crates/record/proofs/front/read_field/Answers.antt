@@ -7,7 +7,7 @@ use Rattle.record.proofs.front.read_field.Goals as goal
 
 pub returns-then-s-lt5 : goal.returns-then-s-lt5
 unfolding field_head
-returns-then-s-lt5 c = rw c.broken.ensures (search chain depth 14)
+returns-then-s-lt5 c = search chain depth 14
 
 pub field_with-requires : goal.field_with-requires
 field_with-requires c = rw (c.read_type.ensures, c.tail.ensures) (ends_in 5 c.args.s.now c.if-s-lt5.false)

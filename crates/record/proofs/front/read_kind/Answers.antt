@@ -1,39 +1,35 @@
 use Rattle.record.specs.Inside.Front.{head_by}
-use Rattle.ty.proofs.Choice.{chain}
+use Rattle.ty.specs.Choose.{choose}
 use Rattle.record.proofs.front.read_kind.Goals as goal
 
-pub returns-then-kind-eq1 : goal.returns-then-kind-eq1
-unfolding head_by
-returns-then-kind-eq1 c = rw c.read_name.ensures (search chain depth 14)
+pub returns-in-Name : goal.returns-in-Name
+unfolding head_by choose
+returns-in-Name c = rw c.in-Name.is c.read_name.ensures
 
-pub returns-then-kind-eq2 : goal.returns-then-kind-eq2
-unfolding head_by
-returns-then-kind-eq2 c = rw c.read_class.ensures (search chain depth 14)
+pub returns-in-Class : goal.returns-in-Class
+unfolding head_by choose
+returns-in-Class c = rw c.in-Class.is c.read_class.ensures
 
-pub returns-then-kind-eq3 : goal.returns-then-kind-eq3
-unfolding head_by
-returns-then-kind-eq3 c = rw c.read_operators.ensures (search chain depth 14)
+pub returns-in-Operators : goal.returns-in-Operators
+unfolding head_by choose
+returns-in-Operators c = rw c.in-Operators.is c.read_operators.ensures
 
-pub returns-then-kind-eq4 : goal.returns-then-kind-eq4
-unfolding head_by
-returns-then-kind-eq4 c = rw c.read_function_head.ensures (search chain depth 14)
+pub returns-in-Function : goal.returns-in-Function
+unfolding head_by choose
+returns-in-Function c = rw c.in-Function.is c.read_function_head.ensures
 
-pub returns-then-kind-eq5 : goal.returns-then-kind-eq5
-unfolding head_by
-returns-then-kind-eq5 c = rw c.read_field.ensures (search chain depth 14)
+pub returns-in-Field : goal.returns-in-Field
+unfolding head_by choose
+returns-in-Field c = rw c.in-Field.is c.read_field.ensures
 
-pub returns-then-kind-eq6 : goal.returns-then-kind-eq6
-unfolding head_by
-returns-then-kind-eq6 c = rw c.read_visibility.ensures (search chain depth 14)
+pub returns-in-Visibility : goal.returns-in-Visibility
+unfolding head_by choose
+returns-in-Visibility c = rw c.in-Visibility.is c.read_visibility.ensures
 
-pub returns-then-kind-eq7 : goal.returns-then-kind-eq7
-unfolding head_by
-returns-then-kind-eq7 c = rw c.read_suspend.ensures (search chain depth 14)
+pub returns-in-Suspend : goal.returns-in-Suspend
+unfolding head_by choose
+returns-in-Suspend c = rw c.in-Suspend.is c.read_suspend.ensures
 
-pub returns-then-kind-eq8 : goal.returns-then-kind-eq8
-unfolding head_by
-returns-then-kind-eq8 c = rw c.read_variant.ensures (search chain depth 14)
-
-pub returns : goal.returns
-unfolding head_by
-returns c = rw c.broken.ensures (search chain depth 14)
+pub returns-in-Variant : goal.returns-in-Variant
+unfolding head_by choose
+returns-in-Variant c = rw c.in-Variant.is c.read_variant.ensures
