@@ -18,8 +18,8 @@ use Rattle.question.specs.Parse.{first, rest, take_row, drop_row, onto, row_at}
 use Rattle.question.specs.QuestionRefused.{defined, node_fault, more_fault, end_fault, nodes_fault}
 use Rattle.question.specs.Tree.{Row, leaf, binary, unary, named, member, call, method, nil, cons, size, sizes, count, bytes, bytess}
 use Rattle.question.specs.declared.Names.{Names}
-use Rattle.question.specs.declared.node.NodeRead.TheVariants.{Bad, Leaf, Endless, Binary, Unary, Named, Member, Call, Method}
-use Rattle.question.specs.declared.node.NodeRead.{NodeRead}
+use Rattle.question.specs.NodeRead.{Bad, Leaf, Endless, Binary, Unary, Named, Member, Call, Method}
+use Rattle.question.specs.NodeRead.{NodeRead}
 use Rattle.ty.proofs.Choice.{by_choice}
 use Rattle.ty.specs.Choose.{choose}
 

@@ -1,3 +1,5 @@
+pub mod Faults
+pub mod Operators
 pub mod Walking
 pub mod Trees
 pub mod Standing

@@ -8,14 +8,16 @@ use Rattle.question.specs.Inside.Top.{id_fault, endless_fault, read_fault}
 use Rattle.question.specs.NodeRead.{leaf_of, node_of, node_in, node_at}
 use Rattle.question.specs.QuestionRefused.{defined, node_ids, shape_fault, node_fault}
 use Rattle.question.specs.declared.Names.{Names}
-use Rattle.question.specs.declared.node.NodeRead.TheVariants.{Bad, Binary, Unary, Named, Member, Call, Method}
-use Rattle.question.specs.declared.node.NodeRead.{NodeRead}
+use Rattle.question.specs.NodeRead.{Bad, Binary, Unary, Named, Member, Call, Method}
+use Rattle.question.specs.NodeRead.{NodeRead}
 use Rattle.ty.proofs.Choice.{by_choice}
 use Rattle.ty.proofs.Ids.{whole-defined, endless-defined}
+use Rattle.std.specs.Prelude.{Result, Ok, Err}
 use Rattle.ty.specs.Choose.{choose}
 use Rattle.ty.specs.Name.{all_defined}
 use Rattle.ty.specs.Read.{read_type, longest_type}
-use Rattle.ty.specs.declared.read.TypeRead.TheVariants.{Whole, Cut, Malformed, Endless as Unended}
+use Rattle.ty.specs.declared.read.TypeFault.TheVariants.{Cut, Malformed, Endless as Unended}
+use Rattle.ty.specs.declared.read.TypeFault.{TypeFault}
 use Rattle.ty.specs.declared.read.TypeRead.{TypeRead}
 
 and_true : (t : Bool) → t && true ≡ t
@@ -55,12 +57,12 @@ module _ (N : Names) (s : List ℕ) where
   unfolding Same read_fault id_fault node_ids shape_fault all_defined
   at_method id n = rw (and_true (defined N id))
 
-  at_leaf : (r : TypeRead) → read_type (drop 1 s) longest_type ≡ r → Same (leaf_of r)
+  at_leaf : (r : Result TypeRead TypeFault) → read_type (drop 1 s) longest_type ≡ r → Same (leaf_of r)
   unfolding Same leaf_of read_fault id_fault endless_fault node_ids shape_fault
-  at_leaf (Whole len top error) e = rw (whole-defined (drop 1 s) longest_type len top error N.count e)
-  at_leaf Cut e = at_bad
-  at_leaf Malformed e = at_bad
-  at_leaf (Unended top error) e = rw (endless-defined (drop 1 s) longest_type top error N.count e)
+  at_leaf (Ok r) e = rw (whole-defined (drop 1 s) longest_type r.len r.top r.error N.count e)
+  at_leaf (Err Cut) e = at_bad
+  at_leaf (Err Malformed) e = at_bad
+  at_leaf (Err (Unended top error)) e = rw (endless-defined (drop 1 s) longest_type top error N.count e)
 
   same_in : Same (node_in s)
   unfolding node_in node_of

@@ -9,21 +9,23 @@ use mathlib.Core.List.{List}
 use mathlib.Core.Path.{◌≡◌, refl}
 use native.Mathlib.Omega.{arith}
 use Rattle.question.specs.NodeRead.{last_binary, last_unary, most_arguments, leaf_of, node_of, node_in, node_at, own_bytes, children}
-use Rattle.question.specs.declared.node.NodeRead.TheVariants.{Bad, Leaf, Endless, Binary, Unary, Named, Member, Call, Method}
-use Rattle.question.specs.declared.node.NodeRead.{NodeRead}
+use Rattle.question.specs.NodeRead.{Bad, Leaf, Endless, Binary, Unary, Named, Member, Call, Method}
+use Rattle.question.specs.NodeRead.{NodeRead}
+use Rattle.std.specs.Prelude.{Result, Ok, Err}
 use Rattle.ty.proofs.Choice.{by_choice, and_left, and_right}
 use Rattle.ty.proofs.Moved.{reads_taken}
 use Rattle.ty.proofs.TypeSizes.{whole}
 use Rattle.ty.specs.Bytes.{id_at}
 use Rattle.ty.specs.Kind.{no_kind}
-use Rattle.ty.specs.Read.{read_type, longest_type}
-use Rattle.ty.specs.declared.read.TypeRead.TheVariants.{Whole, Cut, Malformed, Endless as Unended}
+use Rattle.ty.specs.Read.{read_type, longest_type, whole_read}
+use Rattle.ty.specs.declared.read.TypeFault.TheVariants.{Cut, Malformed, Endless as Unended}
+use Rattle.ty.specs.declared.read.TypeFault.{TypeFault}
 use Rattle.ty.specs.declared.read.TypeRead.{TypeRead}
 
 -- the node's own bytes are there, its operator or count is in range, and its parts stand where they should; behind a leaf's kind stands a whole type
 unfoldable pub Front : List ℕ → NodeRead → Type 0
 Front s Bad = Unit {0}
-Front s (Leaf len top) = (error : Bool) × (read_type (drop 1 s) longest_type ≡ Whole len top error) × (get_or s 0 no_kind ≡ 0)
+Front s (Leaf len top) = (error : Bool) × (read_type (drop 1 s) longest_type ≡ whole_read len top error) × (get_or s 0 no_kind ≡ 0)
 Front s (Endless top) = Unit {0}
 Front s (Binary op) = (2 ≤ length s) × (op ≤ last_binary) × (get_or s 0 no_kind ≡ 1) × (get_or s 1 0 ≡ op)
 Front s (Unary op) = (2 ≤ length s) × (op ≤ last_unary) × (get_or s 0 no_kind ≡ 2) × (get_or s 1 0 ≡ op)
@@ -70,12 +72,12 @@ module _ (s : List ℕ) where
   unfolding Front
   at_method e = let w = tests (get_or s 0 no_kind) 6 (length s) 4 (get_or s 3 0) most_arguments e in (w.0, w.1, w.2, refl, refl)
 
-  at_leaf : get_or s 0 no_kind ≡ 0 → (r : TypeRead) → read_type (drop 1 s) longest_type ≡ r → Front s (leaf_of r)
+  at_leaf : get_or s 0 no_kind ≡ 0 → (r : Result TypeRead TypeFault) → read_type (drop 1 s) longest_type ≡ r → Front s (leaf_of r)
   unfolding Front leaf_of
-  at_leaf k (Whole len top error) e = (error, e, k)
-  at_leaf k Cut e = tt
-  at_leaf k Malformed e = tt
-  at_leaf k (Unended top error) e = tt
+  at_leaf k (Ok r) e = (r.error, e, k)
+  at_leaf k (Err Cut) e = tt
+  at_leaf k (Err Malformed) e = tt
+  at_leaf k (Err (Unended top error)) e = tt
 
   front : Front s (node_in s)
   unfolding node_in node_of
@@ -107,7 +109,7 @@ module _ (q : List ℕ) (at : ℕ) where
   front_at h e = rw e at (front (drop at q))
 
   -- the type of a leaf, as it was read
-  pub leaf-read : (len top : ℕ) → node_at q at ≡ Leaf len top → (error : Bool) × (read_type (drop (at + 1) q) longest_type ≡ Whole len top error)
+  pub leaf-read : (len top : ℕ) → node_at q at ≡ Leaf len top → (error : Bool) × (read_type (drop (at + 1) q) longest_type ≡ whole_read len top error)
   unfolding Front
   leaf-read len top e = let (error, r, k) = front_at (Leaf len top) e in (error, rw drop-drop at r)
 
@@ -130,7 +132,7 @@ module _ (q : List ℕ) (at : ℕ) where
   pub leaf-length : (len top : ℕ) → node_at q at ≡ Leaf len top → length (take len (drop (at + 1) q)) ≡ len
   leaf-length len top e = length-take-le len (drop (at + 1) q) (omega (arith, length-drop (at + 1) q, (room_of (Leaf len top) e).0))
 
-  pub leaf-whole : (len top : ℕ) → node_at q at ≡ Leaf len top → (error : Bool) × (read_type (take len (drop (at + 1) q)) longest_type ≡ Whole len top error)
+  pub leaf-whole : (len top : ℕ) → node_at q at ≡ Leaf len top → (error : Bool) × (read_type (take len (drop (at + 1) q)) longest_type ≡ whole_read len top error)
   leaf-whole len top e =
       let (error, r) = leaf-read len top e in
       (error, reads_taken (drop (at + 1) q) longest_type len len top error (omega arith) r)

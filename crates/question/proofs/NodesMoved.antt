@@ -10,8 +10,8 @@ use Rattle.question.proofs.NodeReading.{Front, front_at}
 use Rattle.question.specs.Inside.Stands.{TreeStands, RowStands}
 use Rattle.question.specs.NodeRead.{last_binary, last_unary, most_arguments, leaf_of, node_of, node_in, node_at, own_bytes}
 use Rattle.question.specs.Tree.{Node, Row, leaf, binary, unary, named, member, call, method, nil, cons, bytes, bytess, count}
-use Rattle.question.specs.declared.node.NodeRead.TheVariants.{Bad, Leaf, Endless, Binary, Unary, Named, Member, Call, Method}
-use Rattle.question.specs.declared.node.NodeRead.{NodeRead}
+use Rattle.question.specs.NodeRead.{Bad, Leaf, Endless, Binary, Unary, Named, Member, Call, Method}
+use Rattle.question.specs.NodeRead.{NodeRead}
 use Rattle.ty.proofs.Moved.{reads_alike}
 use Rattle.ty.proofs.TypeSizes.{whole}
 use Rattle.ty.specs.Bytes.{id_at}

@@ -15,11 +15,11 @@ use Rattle.question.specs.NodeRead.{node_at, own_bytes, children}
 use Rattle.question.specs.QuestionRefused.{defined}
 use Rattle.question.specs.Tree.{Node, Row, leaf, binary, unary, named, member, call, method, nil, cons, size, sizes, count, bytes, bytess}
 use Rattle.question.specs.declared.Names.{Names}
-use Rattle.question.specs.declared.node.NodeRead.TheVariants.{Leaf, Binary, Unary, Named, Member, Call, Method}
-use Rattle.question.specs.declared.node.NodeRead.{NodeRead}
+use Rattle.question.specs.NodeRead.{Leaf, Binary, Unary, Named, Member, Call, Method}
+use Rattle.question.specs.NodeRead.{NodeRead}
+use Rattle.ty.proofs.Reading.{whole_parts}
 use Rattle.ty.specs.Choose.{choose}
-use Rattle.ty.specs.Read.{read_type, longest_type}
-use Rattle.ty.specs.declared.read.TypeRead.TheVariants.{Whole}
+use Rattle.ty.specs.Read.{read_type, longest_type, whole_read}
 
 -- the children of a node
 unfoldable pub children_of : Node → Row
@@ -60,11 +60,11 @@ unfolding id_fault choose
 known N id e = rw e
 
 -- the highest id of a leaf, as its position and its own bytes give it
-same_top : (q t : List ℕ) (at top : ℕ) (error : Bool) → (s : LeafStands q t at) → read_type t longest_type ≡ Whole (length t) top error → top ≡ s.top
+same_top : (q t : List ℕ) (at top : ℕ) (error : Bool) → (s : LeafStands q t at) → read_type t longest_type ≡ whole_read (length t) top error → top ≡ s.top
 same_top q t at top error s e =
     let (error₁, r) = leaf-whole q at (length t) s.top s.read in
-    let f : read_type t longest_type ≡ Whole (length t) s.top error₁ = rw s.part at r in
-    cc
+    let f : read_type t longest_type ≡ whole_read (length t) s.top error₁ = rw s.part at r in
+    (whole_parts (length t) (length t) top s.top error error₁ (sym e ∙ f)).1
 
 method_path : (id : ℕ) (x : Node) (c c₁ r r₁ : Row) → c ≡ c₁ → r ≡ r₁ → cons (method id x c) r ≡ cons (method id x c₁) r₁
 method_path id x c c₁ r r₁ e f = cc

@@ -14,7 +14,7 @@ use Rattle.question.specs.QuestionRefused.{question_fault}
 use Rattle.question.specs.Tree.{Node, Row, leaf, binary, unary, named, member, call, method, nil, cons, bytes, bytess, count}
 use Rattle.question.specs.Write.{write_tree, write_row}
 use Rattle.question.specs.declared.Names.{Names}
-use Rattle.question.specs.declared.node.NodeRead.TheVariants.{Leaf, Binary, Unary, Named, Member, Call, Method}
+use Rattle.question.specs.NodeRead.{Leaf, Binary, Unary, Named, Member, Call, Method}
 use Rattle.ty.specs.Bytes.{id_at}
 use Rattle.ty.specs.Kind.{no_kind}
 

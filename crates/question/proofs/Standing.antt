@@ -8,7 +8,7 @@ use Rattle.question.proofs.NodeReading.{room_of}
 use Rattle.question.specs.Inside.Stands.{TreeStands, RowStands}
 use Rattle.question.specs.NodeRead.{node_at}
 use Rattle.question.specs.Tree.{Node, Row, leaf, binary, unary, named, member, call, method, nil, cons, bytes, bytess, count, LeavesFit, RowFits}
-use Rattle.question.specs.declared.node.NodeRead.TheVariants.{Bad, Leaf, Endless, Binary, Unary, Named, Member, Call, Method}
+use Rattle.question.specs.NodeRead.{Bad, Leaf, Endless, Binary, Unary, Named, Member, Call, Method}
 
 clash : {A : Type 0} → ◌≡◌ {A = ℕ} 0 1 → A
 clash z = absurd (omega arith)

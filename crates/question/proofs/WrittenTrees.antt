@@ -20,15 +20,17 @@ use Rattle.question.specs.Tree.{Node, Row, leaf, binary, unary, named, member, c
 use Rattle.question.specs.Write.{write_tree, write_row, write_suspend, write_header, write_question}
 use Rattle.question.specs.declared.Header.{Header}
 use Rattle.question.specs.declared.Names.{Names}
-use Rattle.question.specs.declared.node.NodeRead.TheVariants.{Leaf, Binary, Unary, Named, Member, Call, Method}
+use Rattle.question.specs.NodeRead.{Leaf, Binary, Unary, Named, Member, Call, Method}
 use Rattle.ty.proofs.Moved.{reads_more}
 use Rattle.ty.proofs.TypeSizes.{whole}
 use Rattle.ty.specs.Bytes.{Ty, plain_ty}
+use Rattle.std.specs.Prelude.{Result, Ok, Err}
 use Rattle.ty.specs.Choose.{choose}
 use Rattle.ty.specs.Kind.{nullable_kind}
 use Rattle.ty.specs.Name.{first_table_id}
-use Rattle.ty.specs.Read.{read_type, longest_type}
-use Rattle.ty.specs.declared.read.TypeRead.TheVariants.{Whole, Cut, Malformed, Endless as Unended}
+use Rattle.ty.specs.Read.{read_type, longest_type, whole_read}
+use Rattle.ty.specs.declared.read.TypeFault.TheVariants.{Cut, Malformed, Endless as Unended}
+use Rattle.ty.specs.declared.read.TypeFault.{TypeFault}
 use Rattle.ty.specs.declared.read.TypeRead.{TypeRead}
 
 -- ---- how many bytes a tree writes
@@ -220,15 +222,18 @@ module _ (N : Names) (h : Header) (x : Node) (v : Legal N x) (few : size x ≤ m
       }
 
 -- ---- a leaf whose type is a kind alone is legal under any names: 0 is a built-in name's id
-plain-whole : (r : TypeRead) → leaf_of r ≡ Leaf 1 0 → (error : Bool) × (r ≡ Whole 1 0 error)
+whole_path : (n n' t t' : ℕ) (e : Bool) → n ≡ n' → t ≡ t' → whole_read n t e ≡ whole_read n' t' e
+whole_path n n' t t' e p q = rw (p, q)
+
+plain-whole : (r : Result TypeRead TypeFault) → leaf_of r ≡ Leaf 1 0 → (error : Bool) × (r ≡ whole_read 1 0 error)
 unfolding leaf_of
-plain-whole (Whole len top error) e =
-    let l : len ≡ 1 = cc in
-    let t : top ≡ 0 = cc in
-    (error, rw (l, t))
-plain-whole Cut e = let z : ◌≡◌ {A = ℕ} 0 1 = cc in absurd (omega arith)
-plain-whole Malformed e = let z : ◌≡◌ {A = ℕ} 0 1 = cc in absurd (omega arith)
-plain-whole (Unended top error) e = let z : ◌≡◌ {A = ℕ} 0 1 = cc in absurd (omega arith)
+plain-whole (Ok r) e =
+    let l : r.len ≡ 1 = cc in
+    let t : r.top ≡ 0 = cc in
+    (r.error, whole_path r.len 1 r.top 0 r.error l t)
+plain-whole (Err Cut) e = let z : ◌≡◌ {A = ℕ} 0 1 = cc in absurd (omega arith)
+plain-whole (Err Malformed) e = let z : ◌≡◌ {A = ℕ} 0 1 = cc in absurd (omega arith)
+plain-whole (Err (Unended top error)) e = let z : ◌≡◌ {A = ℕ} 0 1 = cc in absurd (omega arith)
 
 pub plain_legal : (k : ℕ) → k < nullable_kind → (N : Names) → Legal N (leaf (plain_ty k))
 unfolding Legal

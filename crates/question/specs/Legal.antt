@@ -6,14 +6,13 @@ use Rattle.question.specs.QuestionRefused.{defined}
 use Rattle.question.specs.Tree.{Node, Row, leaf, binary, unary, named, member, call, method, nil, cons, count}
 use Rattle.question.specs.declared.Names.{Names}
 use Rattle.ty.specs.Bytes.{Ty}
-use Rattle.ty.specs.Read.{read_type, longest_type}
-use Rattle.ty.specs.declared.read.TypeRead.TheVariants.{Whole}
+use Rattle.ty.specs.Read.{read_type, longest_type, whole_read}
 
 -- the bytes are one type of at most 192 bytes; top is the highest id in it
 pub record LeafLegal (N : Names) (t : Ty) : Type 0 where
   pub top : ℕ
   pub error : Bool
-  pub whole : read_type t longest_type ≡ Whole (length t) top error
+  pub whole : read_type t longest_type ≡ whole_read (length t) top error
   pub known : defined N top ≡ true
 
 unfoldable mutual

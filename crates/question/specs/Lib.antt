@@ -3,6 +3,9 @@ pub mod Header
 pub mod Parse
 pub mod Inside
 pub mod NodeRead
+pub mod OperatorNumber
+pub mod Node
+pub mod FaultNumber
 pub mod QuestionRefused
 pub mod Legal
 pub mod Write

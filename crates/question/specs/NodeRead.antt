@@ -1,14 +1,29 @@
 -- Reading one node's own bytes, without its children. Document 01, "Table and question": 0 leaf, a type; 1 binary, operator byte in `BinOp` order 0 to 22;
 -- 2 unary, `UnOp` order 0 to 6; 3 named argument, id; 4 member, id; 5 call, id and count to 16; 6 method call, id and count, object first.
-use Rattle.std.specs.Prelude.{ℕ, suc, ◌+◌, leb, eqb, length, get_or, drop, ◌&&◌, List}
-use Rattle.question.specs.declared.node.NodeRead.TheVariants.{Bad, Leaf, Endless, Binary, Unary, Named, Member, Call, Method}
-use Rattle.question.specs.declared.node.NodeRead.{NodeRead}
+use Rattle.std.specs.Prelude.{Result, Ok, Err, ℕ, suc, ◌+◌, leb, eqb, length, get_or, drop, ◌&&◌, List}
 use Rattle.ty.specs.Bytes.{id_at}
 use Rattle.ty.specs.Choose.{choose}
 use Rattle.ty.specs.Kind.{no_kind}
 use Rattle.ty.specs.Read.{read_type, longest_type}
-use Rattle.ty.specs.declared.read.TypeRead.TheVariants.{Whole, Cut, Malformed, Endless as Unended}
+use Rattle.ty.specs.declared.read.TypeFault.TheVariants.{Cut, Malformed, Endless as Unended}
+use Rattle.ty.specs.declared.read.TypeFault.{TypeFault}
 use Rattle.ty.specs.declared.read.TypeRead.{TypeRead}
+
+-- what stands at a position: a node's own bytes, without its children
+pub data NodeRead : Type 0 where
+  -- no node: malformed, or cut
+  Bad : NodeRead
+  -- a type of so many bytes stands behind the kind; the second is the highest id in it, 0 for none
+  Leaf : ℕ → ℕ → NodeRead
+  -- a leaf's type without end, and the highest id that was examined
+  Endless : ℕ → NodeRead
+  Binary : ℕ → NodeRead
+  Unary : ℕ → NodeRead
+  Named : ℕ → NodeRead
+  Member : ℕ → NodeRead
+  Call : ℕ → ℕ → NodeRead
+  -- the object stands before the arguments, and the count leaves it out
+  Method : ℕ → ℕ → NodeRead
 
 -- the last operators of `BinOp` and of `UnOp`, and the most arguments of a call
 abbrev pub last_binary : ℕ
@@ -21,11 +36,11 @@ abbrev pub most_arguments : ℕ
 most_arguments = 16
 
 -- a leaf, by what reading its type finds; top, the highest id examined, is for the code (the ids themselves: `node_ids`)
-unfoldable pub leaf_of : TypeRead → NodeRead
-leaf_of (Whole len top error) = Leaf len top
-leaf_of Cut = Bad
-leaf_of Malformed = Bad
-leaf_of (Unended top error) = Endless top
+unfoldable pub leaf_of : Result TypeRead TypeFault → NodeRead
+leaf_of (Ok r) = Leaf r.len r.top
+leaf_of (Err Cut) = Bad
+leaf_of (Err Malformed) = Bad
+leaf_of (Err (Unended top error)) = Endless top
 
 -- a node of kind k, not a leaf, of which so many bytes are there: op is its second byte, id its second and third, n its fourth
 unfoldable pub node_of : ℕ → ℕ → ℕ → ℕ → ℕ → NodeRead

@@ -5,8 +5,8 @@ use Rattle.question.specs.Header.{header_bytes, suspend_byte, header_of}
 use Rattle.question.specs.Parse.{most_nodes}
 use Rattle.question.specs.NodeRead.{node_at, own_bytes, children}
 use Rattle.question.specs.declared.Names.{Names}
-use Rattle.question.specs.declared.node.NodeRead.TheVariants.{Bad, Leaf, Endless, Binary, Unary, Named, Member, Call, Method}
-use Rattle.question.specs.declared.node.NodeRead.{NodeRead}
+use Rattle.question.specs.NodeRead.{Bad, Leaf, Endless, Binary, Unary, Named, Member, Call, Method}
+use Rattle.question.specs.NodeRead.{NodeRead}
 use Rattle.ty.specs.Choose.{choose}
 use Rattle.ty.specs.Name.{no_id, id_defined, all_defined}
 use Rattle.ty.specs.Ids.{ids_in}

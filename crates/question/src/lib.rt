@@ -2,14 +2,17 @@
 #![tactic(auto)]
 
 pub mod node;
+pub mod operator;
 
-ghost use Rattle.std.specs.Prelude.{◌≡◌};
+ghost use Rattle.std.specs.Prelude.{◌≡◌, IfOk};
 ghost use Rattle.question.specs.Header.{header_of};
 ghost use Rattle.question.specs.QuestionRefused.{none_or_defined, header_fault, more_fault, end_fault, tree_fault, question_fault};
-ghost use Rattle.question.specs.Inside.Top.{id_fault, endless_fault, read_fault};
+ghost use Rattle.question.specs.Inside.Top.{id_fault, read_fault};
+ghost use Rattle.question.specs.FaultNumber.{question_fault_number, number_of};
+ghost use Rattle.question.specs.Node.{node_read, fault_read, read_of};
 
 use node::{MOST_NODES, children, node_at, own_bytes};
-pub use node::{NodeRead, Skipped};
+pub use node::{Node, NodeFault, Skipped};
 use ty::name::id_defined;
 use ty::{NameId, byte_at, id_at};
 
@@ -25,6 +28,31 @@ pub struct Header {
 #[derive(Clone, Copy)]
 pub struct Names {
     pub count: u16,
+}
+
+// Why a question is refused, by the lowest number of its first fault.
+#[derive(Clone, Copy, PartialEq, Eq)]
+pub enum QuestionFault {
+    // Over 16,384 bytes, malformed, cut, or with bytes behind the tree.
+    Malformed,
+    // A 65th node.
+    ManyNodes,
+    UndefinedId,
+    // A leaf's type without end in 192 bytes.
+    EndlessType,
+}
+
+impl QuestionFault {
+    pub fn number(self) -> u8
+        ensures { result ≡ question_fault_number self }
+    {
+        match self {
+            QuestionFault::Malformed => 8,
+            QuestionFault::ManyNodes => 9,
+            QuestionFault::UndefinedId => 10,
+            QuestionFault::EndlessType => 11,
+        }
+    }
 }
 
 const LONGEST_QUESTION: usize = 16384;
@@ -48,107 +76,118 @@ fn none_or_defined(id: u16, names: Names) -> bool
     (id == NameId::NONE) | id_defined(id, names.count)
 }
 
-// The header's number, 0 for none.
-fn header_fault(question: &[u8], names: Names) -> u8
-    ensures { result ≡ header_fault names question.now }
+// The header is there, and its ids are none or defined.
+fn check_header(question: &[u8], names: Names) -> Result<(), QuestionFault>
+    ensures { number_of result ≡ header_fault names question.now }
 {
     if (question.len() < HEADER_BYTES) | (1 < byte_at(question, 4)) {
-        return 8;
+        return Err(QuestionFault::Malformed);
     }
     let h = read_header(question);
     if none_or_defined(h.current, names) & none_or_defined(h.pkg, names) {
-        return 0;
+        return Ok(());
     }
-    10
+    Err(QuestionFault::UndefinedId)
 }
 
-fn id_fault(id: u16, names: Names) -> u8
-    ensures { result ≡ id_fault names id }
+fn check_id(id: u16, names: Names) -> Result<(), QuestionFault>
+    ensures { number_of result ≡ id_fault names id }
 {
-    if id_defined(id, names.count) { 0 } else { 10 }
+    if id_defined(id, names.count) {
+        Ok(())
+    } else {
+        Err(QuestionFault::UndefinedId)
+    }
 }
 
-// The number of a leaf whose type has no end.
-fn endless_fault(top: u16, names: Names) -> u8
-    ensures { result ≡ endless_fault names top }
-{
-    if id_defined(top, names.count) { 11 } else { 10 }
-}
-
-// The number of one of the first 64 nodes, 0 for none, by its highest id.
-fn node_fault(node: NodeRead, names: Names) -> u8
-    ensures { result ≡ read_fault names node }
+// One of the first 64 nodes, by its highest id.
+#[tactic(auto, unfolding(crate::specs::Inside::Top::read_fault))]
+fn check_node(node: Node, names: Names) -> Result<(), QuestionFault>
+    ensures { number_of result ≡ read_fault names (node_read node) }
 {
     match node {
-        NodeRead::Bad => 8,
-        NodeRead::Leaf { len: _, top } => id_fault(top, names),
-        NodeRead::Endless { top } => endless_fault(top, names),
-        NodeRead::Binary { op: _ } => 0,
-        NodeRead::Unary { op: _ } => 0,
-        NodeRead::Named { id } => id_fault(id, names),
-        NodeRead::Member { id } => id_fault(id, names),
-        NodeRead::Call { id, count: _ } => id_fault(id, names),
-        NodeRead::Method { id, count: _ } => id_fault(id, names),
+        Node::Leaf { len: _, top } => check_id(top, names),
+        Node::Binary { op: _ } | Node::Unary { op: _ } => Ok(()),
+        Node::Named { id } | Node::Member { id } => check_id(id, names),
+        Node::Call { id, count: _ } | Node::Method { id, count: _ } => check_id(id, names),
     }
 }
 
-// The number of a 65th node.
-fn more_fault(node: NodeRead) -> u8
-    ensures { result ≡ more_fault node }
+// What it draws that no such node was read; a leaf whose type has no end, by its highest id too.
+#[tactic(auto, unfolding(crate::specs::Inside::Top::read_fault, crate::specs::Inside::Top::endless_fault, ty::specs::Choose::choose))]
+fn unread(fault: NodeFault, names: Names) -> QuestionFault
+    ensures { question_fault_number result ≡ read_fault names (fault_read fault) }
 {
-    match node {
-        NodeRead::Bad => 8, // the lower number
-        NodeRead::Leaf { len: _, top: _ } => 9,
-        NodeRead::Endless { top: _ } => 9,
-        NodeRead::Binary { op: _ } => 9,
-        NodeRead::Unary { op: _ } => 9,
-        NodeRead::Named { id: _ } => 9,
-        NodeRead::Member { id: _ } => 9,
-        NodeRead::Call { id: _, count: _ } => 9,
-        NodeRead::Method { id: _, count: _ } => 9,
+    match fault {
+        NodeFault::Bad => QuestionFault::Malformed,
+        NodeFault::Endless { top } if id_defined(top, names.count) => QuestionFault::EndlessType,
+        NodeFault::Endless { top: _ } => QuestionFault::UndefinedId,
     }
 }
 
-// The number of what stands where the tree ends.
-fn end_fault(question: &[u8], at: usize) -> u8
-    ensures { result ≡ end_fault question.now at }
+// One of the first 64 nodes, as it was read.
+fn checked(read: Result<Node, NodeFault>, names: Names) -> Result<Node, QuestionFault>
+    ensures number { number_of result ≡ read_fault names (read_of read) }
+    ensures node { IfOk result (λ node. read ≡ Ok node) }
 {
-    if at == question.len() { 0 } else { 8 }
+    match read {
+        Ok(node) => {
+            check_node(node, names)?;
+            Ok(node)
+        }
+        Err(fault) => Err(unread(fault, names)),
+    }
+}
+
+// A 65th node.
+#[tactic(auto, unfolding(crate::specs::QuestionRefused::more_fault))]
+fn more(read: Result<Node, NodeFault>) -> QuestionFault
+    ensures { question_fault_number result ≡ more_fault (read_of read) }
+{
+    match read {
+        Err(NodeFault::Bad) => QuestionFault::Malformed, // the lower number
+        _ => QuestionFault::ManyNodes,
+    }
+}
+
+// What stands where the tree ends.
+fn check_end(question: &[u8], at: usize) -> Result<(), QuestionFault>
+    ensures { number_of result ≡ end_fault question.now at }
+{
+    if at == question.len() {
+        Ok(())
+    } else {
+        Err(QuestionFault::Malformed)
+    }
 }
 
 // The nodes in byte order, and what stands behind them.
-fn tree_fault(question: &[u8], names: Names) -> u8
-    ensures { result ≡ tree_fault names question.now }
+fn check_tree(question: &[u8], names: Names) -> Result<(), QuestionFault>
+    ensures { number_of result ≡ tree_fault names question.now }
 {
     let mut at: usize = HEADER_BYTES;
     let mut pending: usize = 1;
-    let mut left: usize = MOST_NODES;
-    while pending != 0 {
-        let node = node_at(question, at);
-        if left == 0 {
-            return more_fault(node);
+    for _passed in 0..MOST_NODES {
+        if pending == 0 {
+            return check_end(question, at);
         }
-        let fault = node_fault(node, names);
-        if fault != 0 {
-            return fault;
-        }
+        let node = checked(node_at(question, at), names)?;
         at += own_bytes(node);
         pending = pending - 1 + children(node);
-        left -= 1;
     }
-    end_fault(question, at)
+    if pending == 0 {
+        return check_end(question, at);
+    }
+    Err(more(node_at(question, at)))
 }
 
-// 0 for a question that is accepted, or the number with which it is refused.
-pub fn check_question(question: &[u8], names: Names) -> u8
-    ensures { result ≡ question_fault names question.now }
+// Whether a question is accepted, or why it is refused.
+pub fn check_question(question: &[u8], names: Names) -> Result<(), QuestionFault>
+    ensures { number_of result ≡ question_fault names question.now }
 {
     if LONGEST_QUESTION < question.len() {
-        return 8;
+        return Err(QuestionFault::Malformed);
     }
-    let fault = header_fault(question, names);
-    if fault != 0 {
-        return fault;
-    }
-    tree_fault(question, names)
+    check_header(question, names)?;
+    check_tree(question, names)
 }

@@ -1,28 +1,36 @@
 // The nodes of a question's tree.
-ghost use Rattle.std.specs.Prelude.{◌≡◌};
+ghost use Rattle.std.specs.Prelude.{◌≡◌, ◌&&◌, leb};
 ghost use Rattle.ty.specs.Read.{read_type, longest_type};
-ghost use Rattle.question.specs.NodeRead.{leaf_of, node_of, node_in, node_at, own_bytes, children as children_of};
+ghost use Rattle.ty.specs.Choose.{choose};
+ghost use Rattle.question.specs.NodeRead.{Bad, Binary, Unary, last_binary, last_unary, leaf_of, node_of, node_in, node_at, own_bytes, children as children_of};
+ghost use Rattle.question.specs.Node.{node_read, read_of};
 ghost use Rattle.question.specs.Inside.Skip.{skip_at};
 
-use ty::read::read_type;
-use ty::{Kind, TypeRead, byte_at, id_at, kind_of, tail};
+use crate::operator::{BinOp, UnOp};
+use ty::read::{TypeFault, read_type};
+use ty::{Kind, byte_at, id_at, kind_of, tail};
 
 // What stands at a position of the question: a node's own bytes, without its children.
 #[derive(Clone, Copy)]
-pub enum NodeRead {
-    // No node: malformed, or cut.
-    Bad,
+pub enum Node {
     // A type of len bytes stands behind the kind; top is the highest id in it, 0 for none.
     Leaf { len: u16, top: u16 },
-    // A leaf's type without end; top is the highest id that was examined.
-    Endless { top: u16 },
-    Binary { op: u8 },
-    Unary { op: u8 },
+    Binary { op: BinOp },
+    Unary { op: UnOp },
     Named { id: u16 },
     Member { id: u16 },
     Call { id: u16, count: u8 },
     // The object stands before the arguments, and count leaves it out.
     Method { id: u16, count: u8 },
+}
+
+// Why no node was read.
+#[derive(Clone, Copy)]
+pub enum NodeFault {
+    // No node: malformed, or cut.
+    Bad,
+    // A leaf's type without end; top is the highest id that was examined.
+    Endless { top: u16 },
 }
 
 // Where nodes end: the next position, and how many nodes were passed.
@@ -32,10 +40,6 @@ pub struct Skipped {
     pub nodes: usize,
 }
 
-const LAST_BINARY: u8 = 22;
-
-const LAST_UNARY: u8 = 6;
-
 const MOST_ARGUMENTS: u8 = 16;
 
 const LONGEST_TYPE: u16 = 192;
@@ -43,53 +47,72 @@ const LONGEST_TYPE: u16 = 192;
 pub const MOST_NODES: usize = 64;
 
 // A leaf, whose type stands at the front of some bytes.
-fn leaf(s: &[u8]) -> NodeRead
-    ensures { result ≡ leaf_of (read_type s.now longest_type) }
+fn leaf(s: &[u8]) -> Result<Node, NodeFault>
+    ensures { read_of result ≡ leaf_of (read_type s.now longest_type) }
 {
     // a kind below Nullable is a type by itself
-    if kind_of(s) < Kind::NULLABLE {
-        return NodeRead::Leaf { len: 1, top: 0 };
+    if kind_of(s) < Kind::Nullable as u8 {
+        return Ok(Node::Leaf { len: 1, top: 0 });
     }
-    let read = read_type(s, LONGEST_TYPE);
-    match read {
-        TypeRead::Whole { len, top, error: _ } => NodeRead::Leaf {
-            len: len as u16,
-            top,
-        },
-        TypeRead::Cut => NodeRead::Bad,
-        TypeRead::Malformed => NodeRead::Bad,
-        TypeRead::Endless { top, error: _ } => NodeRead::Endless { top },
+    match read_type(s, LONGEST_TYPE) {
+        Ok(read) => Ok(Node::Leaf {
+            len: read.len as u16,
+            top: read.top,
+        }),
+        Err(TypeFault::Endless { top, error: _ }) => Err(NodeFault::Endless { top }),
+        Err(TypeFault::Cut) => Err(NodeFault::Bad),
+        Err(TypeFault::Malformed) => Err(NodeFault::Bad),
+    }
+}
+
+// A node whose bytes are there, and none otherwise.
+#[tactic(auto, unfolding(ty::specs::Choose::choose))]
+fn if_there(there: bool, node: Node) -> Result<Node, NodeFault>
+    ensures { read_of result ≡ choose there (node_read node) Bad }
+{
+    if there { Ok(node) } else { Err(NodeFault::Bad) }
+}
+
+// A binary node of which so many bytes are there.
+fn binary(there: usize, op: u8) -> Result<Node, NodeFault>
+    ensures { read_of result ≡ choose (leb 2 there && leb op last_binary) (Binary op) Bad }
+{
+    match BinOp::try_from(op) {
+        Ok(op) => if_there(2 <= there, Node::Binary { op }),
+        Err(_) => Err(NodeFault::Bad),
+    }
+}
+
+// A unary one.
+fn unary(there: usize, op: u8) -> Result<Node, NodeFault>
+    ensures { read_of result ≡ choose (leb 2 there && leb op last_unary) (Unary op) Bad }
+{
+    match UnOp::try_from(op) {
+        Ok(op) => if_there(2 <= there, Node::Unary { op }),
+        Err(_) => Err(NodeFault::Bad),
     }
 }
 
 // A node of kind k, not a leaf, of which so many bytes are there.
-fn node_of(k: u8, there: usize, op: u8, id: u16, count: u8) -> NodeRead
-    ensures { result ≡ node_of k there op id count }
+#[tactic(auto, unfolding(crate::specs::NodeRead::node_of, ty::specs::Choose::choose))]
+fn node_of(k: u8, there: usize, op: u8, id: u16, count: u8) -> Result<Node, NodeFault>
+    ensures { read_of result ≡ node_of k there op id count }
 {
-    if (k == 1) & ((2 <= there) & (op <= LAST_BINARY)) {
-        return NodeRead::Binary { op };
+    let called = (4 <= there) & (count <= MOST_ARGUMENTS);
+    match k {
+        1 => binary(there, op),
+        2 => unary(there, op),
+        3 => if_there(3 <= there, Node::Named { id }),
+        4 => if_there(3 <= there, Node::Member { id }),
+        5 => if_there(called, Node::Call { id, count }),
+        6 => if_there(called, Node::Method { id, count }),
+        _ => Err(NodeFault::Bad),
     }
-    if (k == 2) & ((2 <= there) & (op <= LAST_UNARY)) {
-        return NodeRead::Unary { op };
-    }
-    if (k == 3) & (3 <= there) {
-        return NodeRead::Named { id };
-    }
-    if (k == 4) & (3 <= there) {
-        return NodeRead::Member { id };
-    }
-    if (k == 5) & ((4 <= there) & (count <= MOST_ARGUMENTS)) {
-        return NodeRead::Call { id, count };
-    }
-    if (k == 6) & ((4 <= there) & (count <= MOST_ARGUMENTS)) {
-        return NodeRead::Method { id, count };
-    }
-    NodeRead::Bad
 }
 
 // The node at the front of some bytes. Its kind is the first byte, as a type's is.
-fn node_in(s: &[u8]) -> NodeRead
-    ensures { result ≡ node_in s.now }
+fn node_in(s: &[u8]) -> Result<Node, NodeFault>
+    ensures { read_of result ≡ node_in s.now }
 {
     let k = kind_of(s);
     if k == 0 {
@@ -99,43 +122,36 @@ fn node_in(s: &[u8]) -> NodeRead
 }
 
 // The node at a position.
-pub fn node_at(q: &[u8], at: usize) -> NodeRead
-    ensures { result ≡ node_at q.now at }
+pub fn node_at(q: &[u8], at: usize) -> Result<Node, NodeFault>
+    ensures { read_of result ≡ node_at q.now at }
 {
     node_in(tail(q, at))
 }
 
 // How many bytes of its own a node has.
-pub fn own_bytes(node: NodeRead) -> usize
-    ensures { result ≡ own_bytes node }
+#[tactic(auto, unfolding(crate::specs::NodeRead::own_bytes))]
+pub fn own_bytes(node: Node) -> usize
+    ensures { result ≡ own_bytes (node_read node) }
 {
     match node {
-        NodeRead::Bad => 0,
-        NodeRead::Leaf { len, top: _ } => len as usize + 1,
-        NodeRead::Endless { top: _ } => 0,
-        NodeRead::Binary { op: _ } => 2,
-        NodeRead::Unary { op: _ } => 2,
-        NodeRead::Named { id: _ } => 3,
-        NodeRead::Member { id: _ } => 3,
-        NodeRead::Call { id: _, count: _ } => 4,
-        NodeRead::Method { id: _, count: _ } => 4,
+        Node::Leaf { len, top: _ } => len as usize + 1,
+        Node::Binary { op: _ } | Node::Unary { op: _ } => 2,
+        Node::Named { id: _ } | Node::Member { id: _ } => 3,
+        Node::Call { id: _, count: _ } | Node::Method { id: _, count: _ } => 4,
     }
 }
 
 // How many children it has.
-pub fn children(node: NodeRead) -> usize
-    ensures { result ≡ children_of node }
+#[tactic(auto, unfolding(crate::specs::NodeRead::children))]
+pub fn children(node: Node) -> usize
+    ensures { result ≡ children_of (node_read node) }
 {
     match node {
-        NodeRead::Bad => 0,
-        NodeRead::Leaf { len: _, top: _ } => 0,
-        NodeRead::Endless { top: _ } => 0,
-        NodeRead::Binary { op: _ } => 2,
-        NodeRead::Unary { op: _ } => 1,
-        NodeRead::Named { id: _ } => 1,
-        NodeRead::Member { id: _ } => 1,
-        NodeRead::Call { id: _, count } => count as usize,
-        NodeRead::Method { id: _, count } => count as usize + 1,
+        Node::Leaf { len: _, top: _ } => 0,
+        Node::Binary { op: _ } => 2,
+        Node::Unary { op: _ } | Node::Named { id: _ } | Node::Member { id: _ } => 1,
+        Node::Call { id: _, count } => count as usize,
+        Node::Method { id: _, count } => count as usize + 1,
     }
 }
 
@@ -144,16 +160,19 @@ pub fn skip(q: &[u8], start: usize, trees: u8) -> Skipped
     ensures { result ≡ skip_at q.now start trees }
 {
     let mut at = start;
-    let mut nodes: usize = 0;
     let mut pending: usize = trees as usize;
-    while pending != 0 {
-        if nodes == MOST_NODES {
+    for nodes in 0..MOST_NODES {
+        if pending == 0 {
             return Skipped { at, nodes };
         }
-        let node = node_at(q, at);
-        at += own_bytes(node);
-        nodes += 1;
-        pending = pending - 1 + children(node);
+        pending -= 1;
+        if let Ok(node) = node_at(q, at) {
+            at += own_bytes(node);
+            pending += children(node);
+        }
     }
-    Skipped { at, nodes }
+    Skipped {
+        at,
+        nodes: MOST_NODES,
+    }
 }

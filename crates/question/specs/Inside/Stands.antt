@@ -2,7 +2,7 @@
 use Rattle.std.specs.Prelude.{ℕ, ◌+◌, length, take, drop, List, ◌≡◌}
 use Rattle.question.specs.NodeRead.{node_at}
 use Rattle.question.specs.Tree.{Node, Row, leaf, binary, unary, named, member, call, method, nil, cons, bytes, count}
-use Rattle.question.specs.declared.node.NodeRead.TheVariants.{Leaf, Binary, Unary, Named, Member, Call, Method}
+use Rattle.question.specs.NodeRead.{Leaf, Binary, Unary, Named, Member, Call, Method}
 use Rattle.ty.specs.Bytes.{Ty}
 
 -- a leaf's type is the bytes behind its kind

@@ -2,8 +2,8 @@
 use Rattle.std.specs.Prelude.{ℕ}
 use Rattle.question.specs.QuestionRefused.{defined}
 use Rattle.question.specs.declared.Names.{Names}
-use Rattle.question.specs.declared.node.NodeRead.TheVariants.{Bad, Leaf, Endless, Binary, Unary, Named, Member, Call, Method}
-use Rattle.question.specs.declared.node.NodeRead.{NodeRead}
+use Rattle.question.specs.NodeRead.{Bad, Leaf, Endless, Binary, Unary, Named, Member, Call, Method}
+use Rattle.question.specs.NodeRead.{NodeRead}
 use Rattle.ty.specs.Choose.{choose}
 
 unfoldable pub id_fault : Names → ℕ → ℕ

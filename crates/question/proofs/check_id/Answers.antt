@@ -1,6 +1,6 @@
 use Rattle.question.specs.Inside.Top.{id_fault}
 use Rattle.ty.proofs.Choice.{chain_calls}
-use Rattle.question.proofs.id_fault.Goals as goal
+use Rattle.question.proofs.check_id.Goals as goal
 
 pub returns-then-id_defined : goal.returns-then-id_defined
 unfolding id_fault

@@ -1,6 +1,6 @@
 use Rattle.question.specs.QuestionRefused.{end_fault}
 use Rattle.ty.proofs.Choice.{chain}
-use Rattle.question.proofs.end_fault.Goals as goal
+use Rattle.question.proofs.check_end.Goals as goal
 
 pub returns-then-at-question : goal.returns-then-at-question
 unfolding end_fault

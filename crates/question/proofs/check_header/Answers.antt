@@ -1,6 +1,6 @@
 use Rattle.question.specs.QuestionRefused.{header_fault}
 use Rattle.ty.proofs.Choice.{chain}
-use Rattle.question.proofs.header_fault.Goals as goal
+use Rattle.question.proofs.check_header.Goals as goal
 
 pub returns-then-question-byte_at : goal.returns-then-question-byte_at
 unfolding header_fault

@@ -1,0 +1,26 @@
+-- A node as the code has it, and as reading has it: operators are enums there and numbers here.
+use Rattle.std.specs.Prelude.{Result, Ok, Err}
+use Rattle.question.specs.NodeRead.{NodeRead, Bad, Leaf, Endless, Binary, Unary, Named, Member, Call, Method}
+use Rattle.question.specs.OperatorNumber.{binary_number, unary_number}
+use Rattle.question.specs.declared.node.Node.TheVariants.{Leaf as LeafNode, Binary as BinaryNode, Unary as UnaryNode, Named as NamedNode}
+use Rattle.question.specs.declared.node.Node.TheVariants.{Member as MemberNode, Call as CallNode, Method as MethodNode}
+use Rattle.question.specs.declared.node.Node.{Node}
+use Rattle.question.specs.declared.node.NodeFault.TheVariants.{Bad as BadNode, Endless as EndlessNode}
+use Rattle.question.specs.declared.node.NodeFault.{NodeFault}
+
+abbrev pub node_read : Node → NodeRead
+node_read (LeafNode len top) = Leaf len top
+node_read (BinaryNode op) = Binary (binary_number op)
+node_read (UnaryNode op) = Unary (unary_number op)
+node_read (NamedNode id) = Named id
+node_read (MemberNode id) = Member id
+node_read (CallNode id n) = Call id n
+node_read (MethodNode id n) = Method id n
+
+abbrev pub fault_read : NodeFault → NodeRead
+fault_read BadNode = Bad
+fault_read (EndlessNode top) = Endless top
+
+abbrev pub read_of : Result Node NodeFault → NodeRead
+read_of (Ok node) = node_read node
+read_of (Err fault) = fault_read fault
