@@ -55,19 +55,19 @@ module _ (table a l : List ℕ) (node first second : ℕ) (s : Source) (lent : L
   reads_as : (r : Source) → s ≡ r → Reads l node first second r
   reads_as r e = rw (← e) h.reads
 
-  pub asks_first : s ≡ First → Lent a l × Slot l node first
+  pub asks_first : s ≡ First → Lent a l × Slot l node first × (0 + get_or l first 0 ≤ 256)
   unfolding Reads
-  asks_first e = (lent, reads_as First e)
+  asks_first e = let w : Slot l node first = reads_as First e in (lent, w, omega (arith, w.small))
 
-  pub asks_second : s ≡ Second → Lent a l × Slot l node second
+  pub asks_second : s ≡ Second → Lent a l × Slot l node second × (0 + get_or l second 0 ≤ 256)
   unfolding Reads
-  asks_second e = (lent, reads_as Second e)
+  asks_second e = let w : Slot l node second = reads_as Second e in (lent, w, omega (arith, w.small))
 
   pub asks_inner : s ≡ Inner → Lent a l × Slot l node first
   unfolding Reads
   asks_inner e = (lent, reads_as Inner e)
 
-  pub asks_pointer : s ≡ Pointer → Lent a l × Slot l node first × (get_or l first 0 < 256)
+  pub asks_pointer : s ≡ Pointer → Lent a l × Slot l node first × (1 + get_or l first 0 ≤ 256)
   unfolding Reads type_from
   asks_pointer e =
       let w : Slot l node first = reads_as Pointer e in
@@ -77,7 +77,7 @@ module _ (table a l : List ℕ) (node first second : ℕ) (s : Source) (lent : L
   unfolding type_from
   asks_part start len e = (lent, h.room, short_as (Part start len) e)
 
-  pub asks_function : (start len : ℕ) → s ≡ Function start len → Lent a l × (node < length l) × (length (take len (drop start table)) + 2 ≤ 256)
+  pub asks_function : (start len : ℕ) → s ≡ Function start len → Lent a l × (node < length l) × (2 + length (take len (drop start table)) ≤ 256)
   unfolding type_from
   asks_function start len e = (lent, h.room, omega (arith, short_as (Function start len) e))
 

@@ -1,3 +1,2 @@
 pub mod ListFacts
-pub mod CopyLoops
 pub mod Outputs
