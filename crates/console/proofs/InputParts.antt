@@ -6,16 +6,26 @@ use lib.ListN.{length, get_or, take, drop, length-take}
 use lib.Seq.{get_or-take, take-take, take_all, take-nil}
 use mathlib.Core.Bool.{Bool, true, false, ◌&&◌}
 use mathlib.Core.List.{List, [], ◌∷◌}
-use mathlib.Core.Logic.{◌↔◌}
+use mathlib.Core.Logic.{◌↔◌, ◌⊎◌, inl, inr}
 use mathlib.Core.Path.{◌≡◌, refl, sym, ap, ◌∙◌}
 use native.Mathlib.Omega.{arith}
 use Rattle.console.specs.Input.{table_length, is_whole, table_of, question_of, Bytes, input_limit}
-use Rattle.ty.proofs.Choice.{and_right, chosen, passed}
+use Rattle.ty.proofs.Choice.{chosen, passed}
 use Rattle.ty.specs.Choose.{choose}
 
-pub whole_room : (input : List ℕ) → is_whole input ≡ true → 2 + table_length input ≤ length input
+-- the input is whole just where it has the bytes that it says
+and_false : (t : Bool) → t && false ≡ false
+and_false true = refl
+and_false false = refl
+
+pub whole_from : (input : List ℕ) (n : ℕ) → n ≡ table_length input → 2 + n ≤ length input → is_whole input ≡ true
 unfolding is_whole
-whole_room input e = leb-true (2 + table_length input) (length input) (and_right (leb 2 (length input)) (leb (2 + table_length input) (length input)) e)
+whole_from input n e h = rw (le-leb 2 (length input) (omega arith), le-leb (2 + table_length input) (length input) (omega arith))
+
+pub part_from : (input : List ℕ) (n : ℕ) → n ≡ table_length input → (2 + n < 2) ⊎ (length input < 2 + n) → is_whole input ≡ false
+unfolding is_whole
+part_from input n e (inl h) = absurd (omega arith)
+part_from input n e (inr h) = rw (lt-leb (2 + table_length input) (length input) (omega arith)) (and_false (leb 2 (length input)))
 
 pub table_some : (input : List ℕ) (n : ℕ) → is_whole input ≡ true → n ≡ table_length input → take (2 + n - 2) (drop 2 input) ≡ table_of input
 unfolding table_of

@@ -125,3 +125,7 @@ wrote_all {b₀} {b} {b₁} {b₂} {next} {r} {xs} {ys} e w z =
       size = omega (arith, a.next);
       part = (h, sym (length-take-le r b₂ h));
     }
+
+-- the same buffer
+pub filled_as : {b₀ b b₁ : List ℕ} {r : ℕ} {text : List ℕ} → Filled b₀ b r text → b₁ ≡ b → Filled b₀ b₁ r text
+filled_as w e = rw e w

@@ -5,7 +5,7 @@ pub mod print;
 
 ghost use Rattle.std.specs.Prelude.{◌≡◌, ◌≤◌, ◌<◌, length, take, IfOk};
 ghost use Rattle.std.specs.Io.KnownBytes.{Consumes, IsAtEnd};
-ghost use Rattle.console.specs.Input.{table_length, is_whole, table_of, question_of};
+ghost use Rattle.console.specs.Input.{table_of, question_of};
 
 pub use print::print_answer;
 use std::io::{self, Read};
@@ -28,39 +28,14 @@ pub fn read_full<R: Read>(input: &mut R, buf: &mut [u8]) -> io::Result<usize>
     Ok(at)
 }
 
-// The table length that the input begins with.
-fn table_length(input: &[u8]) -> usize
-    ensures { (result ≡ table_length input.now) × (result ≤ 65535) }
+// The table's bytes and the question's.
+pub fn parts(input: &[u8]) -> (&[u8], &[u8])
+    ensures table { result.0.now ≡ table_of input.now }
+    ensures question { result.1.now ≡ question_of input.now }
 {
-    id_at(input, 0) as usize
-}
-
-// The input has a table length and as many bytes behind it.
-fn is_whole(input: &[u8]) -> bool
-    ensures { result ≡ is_whole input.now }
-{
-    let n = table_length(input);
-    (2 <= input.len()) & (2 + n <= input.len())
-}
-
-// The table's bytes.
-pub fn table_part(input: &[u8]) -> &[u8]
-    ensures { result.now ≡ table_of input.now }
-{
-    if is_whole(input) {
-        let end = 2 + table_length(input);
-        return &input[2..end];
+    let end = 2 + id_at(input, 0) as usize;
+    match input.get(2..end) {
+        Some(table) => (table, &input[end..]),
+        None => (&[], &[]),
     }
-    &input[..0]
-}
-
-// The question's bytes.
-pub fn question_part(input: &[u8]) -> &[u8]
-    ensures { result.now ≡ question_of input.now }
-{
-    if is_whole(input) {
-        let start = 2 + table_length(input);
-        return &input[start..];
-    }
-    &input[..0]
 }

@@ -1,4 +1,4 @@
-// An answer as text in a lent buffer. Each `put_` function writes what fits from `at` on, and answers the place behind it.
+// An answer as text in a lent buffer.
 ghost use Rattle.std.specs.Prelude.{◌+◌, ◌*◌, ◌%◌, ◌<◌, ◌≤◌, ◌≡◌, [], ◌∷◌, length};
 ghost use Rattle.console.specs.Text.{decimal, hex_digit, hex_byte, hex_bytes};
 ghost use Rattle.console.specs.AnswerText.{field_text, type_text, first_line, line_at, lines_of, records_in, printed};
@@ -6,134 +6,121 @@ ghost use Rattle.console.specs.Buffer.{Filled};
 ghost use Rattle.console.specs.Inside.Wrote.{Wrote};
 
 use ty::{byte_at, id_at};
-use written::clear;
 
-const BLANK: u8 = 32;
+const BLANK: u8 = b' ';
 
-const LINE_BREAK: u8 = 10;
+const LINE_BREAK: u8 = b'\n';
 
-const DASH: u8 = 45;
-
-fn put_byte(b: u8, out: &mut [u8], at: usize) -> usize
-    ensures { Wrote out.old out.new at result (b ∷ []) }
-{
-    if at < out.len() {
-        out[at] = b;
-        return at + 1;
-    }
-    at
+// Where the text goes: each `put_` method writes what fits from `at` on, and leaves `at` behind it.
+#[derive(Drop)]
+struct Writer<'a> {
+    out: &'a mut [u8],
+    at: usize,
 }
 
-// The last decimal digit of n.
-fn last_digit(n: usize) -> u8
-    ensures { result ≡ 48 + n % 10 }
-{
-    48 + (n % 10) as u8
-}
-
-fn put_decimal(n: usize, out: &mut [u8], at: usize) -> usize
-    ensures { Wrote out.old out.new at result (decimal n) }
-{
-    if n < 10 {
-        return put_byte(last_digit(n), out, at);
+impl Writer<'_> {
+    fn put_byte(&mut self, b: u8)
+        ensures writes { Wrote self.old.out.now self.new.out.now self.old.at self.new.at (b ∷ []) }
+        ensures same { self.new.out.ghost_name ≡ self.old.out.ghost_name }
+    {
+        if self.at < self.out.len() {
+            self.out[self.at] = b;
+            self.at += 1;
+        }
     }
-    let next = put_decimal(n / 10, out, at);
-    put_byte(last_digit(n), out, next)
+
+    fn put_decimal(&mut self, n: usize)
+        ensures writes { Wrote self.old.out.now self.new.out.now self.old.at self.new.at (decimal n) }
+        ensures same { self.new.out.ghost_name ≡ self.old.out.ghost_name }
+    {
+        if n < 10 {
+            return self.put_byte(b'0' + n as u8);
+        }
+        self.put_decimal(n / 10);
+        self.put_byte(b'0' + (n % 10) as u8);
+    }
+
+    fn put_hex(&mut self, b: u8)
+        ensures writes { Wrote self.old.out.now self.new.out.now self.old.at self.new.at (hex_byte b) }
+        ensures same { self.new.out.ghost_name ≡ self.old.out.ghost_name }
+    {
+        self.put_byte(hex_digit(b / 16));
+        self.put_byte(hex_digit(b % 16));
+    }
+
+    // A type in hex, and a dash for none.
+    fn put_type(&mut self, ty: &[u8])
+        ensures writes { Wrote self.old.out.now self.new.out.now self.old.at self.new.at (type_text ty.now) }
+        ensures same { self.new.out.ghost_name ≡ self.old.out.ghost_name }
+    {
+        if ty.is_empty() {
+            return self.put_byte(b'-');
+        }
+        for &b in ty {
+            self.put_hex(b);
+        }
+    }
+
+    // A number and the byte that ends its field.
+    fn put_field(&mut self, n: usize, end: u8)
+        ensures writes { Wrote self.old.out.now self.new.out.now self.old.at self.new.at (field_text n end) }
+        ensures same { self.new.out.ghost_name ≡ self.old.out.ghost_name }
+    {
+        self.put_decimal(n);
+        self.put_byte(end);
+    }
+
+    fn put_first_line(&mut self, number: u8, pass: u8, ty: &[u8], count: usize)
+        ensures writes { Wrote self.old.out.now self.new.out.now self.old.at self.new.at (first_line number pass ty.now count) }
+        ensures same { self.new.out.ghost_name ≡ self.old.out.ghost_name }
+    {
+        self.put_field(number as usize, BLANK);
+        self.put_field(pass as usize, BLANK);
+        self.put_field(ty.len(), BLANK);
+        self.put_type(ty);
+        self.put_byte(BLANK);
+        self.put_field(count, LINE_BREAK);
+    }
+
+    // The line of the diagnostic whose record is at `p`.
+    fn put_line(&mut self, diagnostics: &[u8], p: usize)
+        requires { p + 5 ≤ length diagnostics.now }
+        ensures writes { Wrote self.old.out.now self.new.out.now self.old.at self.new.at (line_at diagnostics.now p) }
+        ensures same { self.new.out.ghost_name ≡ self.old.out.ghost_name }
+    {
+        self.put_field(byte_at(diagnostics, p) as usize, BLANK);
+        self.put_field(id_at(diagnostics, p + 1) as usize, BLANK);
+        self.put_field(id_at(diagnostics, p + 3) as usize, LINE_BREAK);
+    }
+
+    // The lines of the first n diagnostics.
+    fn put_lines(&mut self, diagnostics: &[u8], n: usize)
+        requires { 5 * n ≤ length diagnostics.now }
+        ensures writes { Wrote self.old.out.now self.new.out.now self.old.at self.new.at (lines_of diagnostics.now n) }
+        ensures same { self.new.out.ghost_name ≡ self.old.out.ghost_name }
+    {
+        for i in 0..n {
+            self.put_line(diagnostics, 5 * i);
+        }
+    }
 }
 
 fn hex_digit(d: u8) -> u8
     requires { d < 16 }
     ensures { result ≡ hex_digit d }
 {
-    if d < 10 {
-        return 48 + d;
-    }
-    87 + d
-}
-
-fn put_hex(b: u8, out: &mut [u8], at: usize) -> usize
-    ensures { Wrote out.old out.new at result (hex_byte b) }
-{
-    let next = put_byte(hex_digit(b / 16), out, at);
-    put_byte(hex_digit(b % 16), out, next)
-}
-
-fn put_hex_bytes(s: &[u8], out: &mut [u8], at: usize) -> usize
-    ensures { Wrote out.old out.new at result (hex_bytes s.now) }
-{
-    let mut next = at;
-    let mut i = 0;
-    while i < s.len() {
-        next = put_hex(s[i], out, next);
-        i += 1;
-    }
-    next
-}
-
-fn put_type(ty: &[u8], out: &mut [u8], at: usize) -> usize
-    ensures { Wrote out.old out.new at result (type_text ty.now) }
-{
-    if ty.len() == 0 {
-        return put_byte(DASH, out, at);
-    }
-    put_hex_bytes(ty, out, at)
-}
-
-// A number and the byte that ends its field.
-fn put_field(n: usize, end: u8, out: &mut [u8], at: usize) -> usize
-    ensures { Wrote out.old out.new at result (field_text n end) }
-{
-    let next = put_decimal(n, out, at);
-    put_byte(end, out, next)
-}
-
-fn put_first_line(number: u8, pass: u8, ty: &[u8], count: usize, out: &mut [u8], at: usize) -> usize
-    ensures { Wrote out.old out.new at result (first_line number pass ty.now count) }
-{
-    let a = put_field(number as usize, BLANK, out, at);
-    let b = put_field(pass as usize, BLANK, out, a);
-    let c = put_field(ty.len(), BLANK, out, b);
-    let d = put_type(ty, out, c);
-    let e = put_byte(BLANK, out, d);
-    put_field(count, LINE_BREAK, out, e)
-}
-
-// The line of the diagnostic whose record is at `p`.
-fn put_line(diagnostics: &[u8], p: usize, out: &mut [u8], at: usize) -> usize
-    requires { p + 5 ≤ length diagnostics.now }
-    ensures { Wrote out.old out.new at result (line_at diagnostics.now p) }
-{
-    let a = put_field(byte_at(diagnostics, p) as usize, BLANK, out, at);
-    let b = put_field(id_at(diagnostics, p + 1) as usize, BLANK, out, a);
-    put_field(id_at(diagnostics, p + 3) as usize, LINE_BREAK, out, b)
+    if d < 10 { b'0' + d } else { b'a' + (d - 10) }
 }
 
 // How many of `count` records a buffer of `size` bytes has whole.
 fn records_in(size: usize, count: usize) -> usize
     ensures { (result ≡ records_in size count) × (5 * result ≤ size) }
 {
-    let n = size / 5;
-    if count < n {
-        return count;
-    }
-    n
+    count.min(size / 5)
 }
 
-// The lines of the first n diagnostics.
-fn put_lines(diagnostics: &[u8], n: usize, out: &mut [u8], at: usize) -> usize
-    requires { 5 * n ≤ length diagnostics.now }
-    ensures { Wrote out.old out.new at result (lines_of diagnostics.now n) }
-{
-    let mut next = at;
-    let mut i: usize = 0;
-    while i < n {
-        next = put_line(diagnostics, 5 * i, out, next);
-        i += 1;
-    }
-    next
-}
-
-// Puts what is printed for an answer at the front of `out`, as much of it as fits, and zeros behind it; answers how many bytes of `out` it takes.
+// Puts what is printed for an answer at the front of `out`, as much of it as fits, and zeros
+// behind it; answers how many bytes of `out` it takes.
 pub fn print_answer(
     number: u8,
     pass: u8,
@@ -144,7 +131,9 @@ pub fn print_answer(
 ) -> usize
     ensures { Filled out.old out.new result (printed number pass ty.now count diagnostics.now) }
 {
-    clear(out);
-    let next = put_first_line(number, pass, ty, count, out, 0);
-    put_lines(diagnostics, records_in(diagnostics.len(), count), out, next)
+    out.fill(0);
+    let mut text = Writer { out, at: 0 };
+    text.put_first_line(number, pass, ty, count);
+    text.put_lines(diagnostics, records_in(diagnostics.len(), count));
+    text.at
 }

@@ -1,4 +1,4 @@
-use Rattle.std.proofs.Common.{rules, length, take, subst, sym}
+use Rattle.std.proofs.Common.{rules, subst, sym}
 use Rattle.std.proofs.KnownBytes.{Consumes-trans}
 use Rattle.std.specs.Io.KnownBytes.{Consumes}
 use Rattle.console.proofs.ReadFronts.{front_read}

@@ -1,4 +1,7 @@
 use Rattle.console.specs.Text.{hex_digit}
+use native.Mathlib.Omega.{arith}
+use Prim.Native.Nat.{◌+◌, ◌-◌}
+use mathlib.Core.Path.{◌≡◌}
 use Rattle.ty.proofs.Choice.{chain}
 use Rattle.console.proofs.print.hex_digit.Goals as goal
 
@@ -6,6 +9,6 @@ pub returns-then-d-lt10 : goal.returns-then-d-lt10
 unfolding hex_digit
 returns-then-d-lt10 c = search chain depth 8
 
-pub returns : goal.returns
+pub returns-else-d-lt10 : goal.returns-else-d-lt10
 unfolding hex_digit
-returns c = search chain depth 8
+returns-else-d-lt10 c = let e : 97 + (c.args.d - 10) ≡ 87 + c.args.d = omega arith in rw e (search chain depth 8)

@@ -1,7 +1,9 @@
-use Rattle.console.proofs.Writing.{wrote_all, lines_done}
+use borrow.Author.Rules.{rules}
+use Rattle.console.proofs.Writing.{wrote_all, lines_done, filled_as}
 use Rattle.console.specs.AnswerText.{printed}
 use Rattle.console.proofs.print.print_answer.Goals as goal
 
 pub returns : goal.returns
 unfolding printed
-returns c = wrote_all c.clear.ensures c.put_first_line-next.ensures (lines_done c.args.diagnostics.now _ _ c.records_in.ensures.0 c.put_lines.ensures)
+returns c = filled_as (wrote_all (c.fill.ensures.after (λ y e. e)) c.put_first_line.ensures.writes
+    (lines_done c.args.diagnostics.now _ _ c.records_in.ensures.0 c.put_lines.ensures.writes)) (search rules)

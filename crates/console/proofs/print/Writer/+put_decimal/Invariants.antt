@@ -1,4 +1,4 @@
-use Rattle.console.proofs.print.+put_decimal.Given as goal
+use Rattle.console.proofs.print.Writer.+put_decimal.Given as goal
 
 -- the number falls
 abbrev pub decreases-put_decimal : goal.decreases-put_decimal
