@@ -21,7 +21,10 @@ fn next<R: Read>(rt: &impl Print, input: &mut R) -> io::Result<bool>
     let len = ty::id_at(&head, 2) as usize;
     let mut space = [0u8; 65535];
     let n = read_full(input, &mut space[..len])?;
-    let number = question::check_question(&space[..n], Names { count });
+    let number = match question::check_question(&space[..n], Names { count }) {
+        Ok(()) => 0,
+        Err(fault) => fault.number(),
+    };
     println!(rt; "{number}")?;
     Ok(true)
 }
