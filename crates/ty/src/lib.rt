@@ -58,7 +58,7 @@ pub fn byte_at(s: &[u8], i: usize) -> u8
 pub fn tail(s: &[u8], n: usize) -> &[u8]
     ensures { result.now ≡ drop n s.now }
 {
-    if n <= s.len() { &s[n..] } else { &s[s.len()..] }
+    s.get(n..).unwrap_or(&[])
 }
 
 // The two-byte number at i, low byte first, with 0 for each byte past the end.
@@ -120,6 +120,7 @@ pub fn is_array(s: &[u8]) -> bool
 }
 
 // What a Nullable, a Pointer, a List or an Array holds.
+#[tactic(auto, unfolding(crate::specs::Bytes::inner_of, crate::specs::Choose::choose))]
 pub fn inner(s: &[u8]) -> &[u8]
     ensures { result.now ≡ inner_of s.now }
 {
@@ -136,6 +137,7 @@ pub fn is_string(s: &[u8]) -> bool
 }
 
 // A type with one Nullable taken off.
+#[tactic(auto, unfolding(crate::specs::Bytes::non_null, crate::specs::Choose::choose))]
 pub fn non_null(s: &[u8]) -> &[u8]
     ensures { result.now ≡ non_null s.now }
 {
@@ -146,6 +148,7 @@ pub fn non_null(s: &[u8]) -> &[u8]
 }
 
 // Equal types are equal bytes.
+#[tactic(auto, using(crate::proofs::Same::pointwise_same))]
 pub fn same_bytes(a: &[u8], b: &[u8]) -> bool
     ensures { result ≡ same_bytes a.now b.now }
 {

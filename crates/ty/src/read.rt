@@ -40,6 +40,7 @@ enum ItemFault {
 
 // Reading tests the kind's number: a match on an enum of it was measured to be 2.3 times slower.
 
+#[tactic(auto, unfolding(crate::specs::Read::body_length, crate::specs::Choose::choose))]
 fn body_length(k: u8) -> usize
     ensures { result ≡ body_length k }
 {
@@ -58,6 +59,7 @@ fn body_length(k: u8) -> usize
     0
 }
 
+#[tactic(auto, unfolding(crate::specs::Read::child_count, crate::specs::Choose::choose))]
 fn child_count(k: u8, c: u8) -> usize
     ensures { result ≡ child_count k c }
 {
@@ -80,6 +82,7 @@ fn good_body(k: u8, c: u8, z: bool) -> bool
         & ((!(k == Kind::Function as u8)) | (c <= 16))
 }
 
+#[tactic(auto, unfolding(crate::specs::Read::id_in, crate::specs::Choose::choose))]
 fn id_in(k: u8, i: u16) -> u16
     ensures { result ≡ id_in k i }
 {
@@ -90,6 +93,7 @@ fn id_in(k: u8, i: u16) -> u16
 }
 
 // A kind with its body: c is the body's first byte, z says that an Array's size is 0, i is an id.
+#[tactic(auto, unfolding(crate::specs::Read::item_of, crate::specs::Choose::choose))]
 fn judged(k: u8, c: u8, z: bool, i: u16, next: usize) -> Result<Item, ItemFault>
     ensures { result ≡ item_of k c z i next }
 {
@@ -114,6 +118,7 @@ fn four_zeros(s: &[u8], at: usize) -> bool
 }
 
 // The kind with its body at `at`, within the first `end` bytes.
+#[tactic(auto, unfolding(crate::specs::Read::item_at, crate::specs::Choose::choose))]
 fn item_at(s: &[u8], end: usize, at: usize) -> Result<Item, ItemFault>
     requires { end ≤ 65535 }
     ensures { result ≡ item_at s.now end at }
@@ -139,6 +144,7 @@ fn item_at(s: &[u8], end: usize, at: usize) -> Result<Item, ItemFault>
 }
 
 // What is found where the type does not end within the limit.
+#[tactic(auto, unfolding(crate::specs::Read::no_end, crate::specs::Choose::choose))]
 fn no_end(len: usize, limit: usize, top: u16, error: bool) -> TypeFault
     ensures { result ≡ no_end len limit top error }
 {
