@@ -3,8 +3,7 @@ use Rattle.std.proofs.Common.{◌≡◌, ℕ, zero, suc, ◌-◌, ◌<◌, ◌�
 use borrow.Author.Tests.{lt-leb}
 use Rattle.load.specs.Draw.{stepped, taken_from, drawn}
 use Rattle.load.specs.DrawnTree.{Drawn, drawn_leaf, unary_over, drawn_unary, left_nodes, binary_behind, drawn_binary, drawn_inner, drawn_in, drawn_tree}
-use Rattle.load.specs.Inside.Shape.{shape_of}
-use Rattle.load.specs.declared.Shape.{Shape}
+use Rattle.load.specs.Inside.Shape.{Shape, shape_of}
 use Rattle.ty.proofs.Choice.{by_choice, choose_yes, choose_no}
 use Rattle.ty.specs.Choose.{choose}
 

@@ -1,4 +1,3 @@
-pub mod Product
 pub mod DrawnTrees
 pub mod Fits
 pub mod Order1

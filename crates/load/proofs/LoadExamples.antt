@@ -7,6 +7,7 @@ use Rattle.question.specs.Tree.{size}
 use Rattle.question.specs.Write.{write_tree}
 use Rattle.ty.specs.Choose.{choose}
 use Rattle.written.specs.Output.{refused, lent_after}
+use Rattle.written.specs.declared.WriteFault.TheVariants.{BadCount, TooShort}
 
 record Worked : Type 0 where
   -- one leaf
@@ -16,9 +17,9 @@ record Worked : Type 0 where
   -- a binary of three nodes
   three : load_question 2 3 ≡ 255 ∷ 255 ∷ 255 ∷ 255 ∷ 0 ∷ 1 ∷ 14 ∷ 0 ∷ 9 ∷ 0 ∷ 9 ∷ []
   -- no node, too many, and one byte too few
-  none : load_of 7 0 0 ≡ refused 14
-  many : load_of 7 65 1000 ≡ refused 14
-  short : load_of 7 64 132 ≡ refused 15
+  none : load_of 7 0 0 ≡ refused BadCount
+  many : load_of 7 65 1000 ≡ refused BadCount
+  short : load_of 7 64 132 ≡ refused TooShort
   zeros : lent_after 3 (load_of 7 64 3) ≡ 0 ∷ 0 ∷ 0 ∷ []
   -- the most nodes, from the largest start number
   all : size (drawn_tree 64 4_294_967_295).tree ≡ 64

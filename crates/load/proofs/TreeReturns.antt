@@ -1,15 +1,15 @@
 -- What each return of `write_tree` leaves, on plain values.
-use Rattle.std.proofs.Common.{◌≡◌, ℕ, ◌+◌, ◌-◌, ◌*◌, ◌%◌, ◌^◌, ◌<◌, ◌≤◌, true, false, eqb, leb, List, [], ◌∷◌, ◌++◌, length, sym, ap, ◌∙◌, arith, le-leb}
+use Rattle.std.proofs.Common.{◌≡◌, ℕ, ◌+◌, ◌-◌, ◌*◌, ◌%◌, ◌^◌, ◌<◌, ◌≤◌, true, false, eqb, ltb, List, [], ◌∷◌, ◌++◌, length, sym, refl, ap, ◌∙◌, arith, le-leb, le-ltb}
 use borrow.Author.Tests.{lt-leb}
 use lib.Seq.{sets}
 use Rattle.load.proofs.DrawnTrees.{left_low, binary_many, shaped, drawn-one, drawn_more}
 use Rattle.load.proofs.Fits.{drawn_bytes}
 use Rattle.load.specs.Draw.{stepped, taken_from}
 use Rattle.load.specs.DrawnTree.{Drawn, drawn_leaf, unary_over, drawn_unary, left_nodes, binary_behind, drawn_binary, drawn_tree}
-use Rattle.load.specs.Inside.Shape.{shape_of}
+use Rattle.load.specs.Inside.Shape.{shape_of, ShapeIs}
 use Rattle.load.specs.Inside.WritesTree.{WritesTree}
 use Rattle.question.specs.Write.{write_tree}
-use Rattle.ty.proofs.Choice.{choose_yes, choose_no}
+use Rattle.ty.specs.Choose.{choose}
 use Rattle.written.proofs.ListFacts.{sets-append}
 
 -- the step, with the product wrapped before the sum
@@ -18,13 +18,13 @@ unfolding stepped
 wrapped s = omega arith
 
 -- the shape of two nodes, and of more
-pub shape_two : (k s : ℕ) → k ≤ 2 → record { binary = false; state = s } ≡ shape_of k s
-unfolding shape_of
-shape_two k s h = sym (choose_yes (leb k 2) _ _ (le-leb k 2 h))
+pub shape_two : (k s : ℕ) → k ≤ 2 → ShapeIs (ltb 2 k) s (shape_of k s)
+unfolding shape_of choose
+shape_two k s h = rw (le-leb k 2 h, le-ltb 2 k h) (record { answer = refl; behind = refl })
 
-pub shape_drawn : (k s t d : ℕ) → 2 < k → t ≡ stepped s → d ≡ taken_from 2 t → record { binary = eqb d 1; state = t } ≡ shape_of k s
-unfolding shape_of
-shape_drawn k s t d h e f = rw (f, e) (sym (choose_no (leb k 2) _ _ (lt-leb k 2 h)))
+pub shape_drawn : (k s t d : ℕ) → 2 < k → t ≡ stepped s → d ≡ taken_from 2 (stepped s) → ShapeIs (eqb d 1) t (shape_of k s)
+unfolding shape_of choose
+shape_drawn k s t d h e f = rw (lt-leb k 2 h) (record { answer = ap (λ (n : ℕ). eqb n 1) f; behind = e })
 
 -- the left side, as it is drawn
 pub left_is : (k s t d : ℕ) → t ≡ stepped s → d ≡ taken_from (k - 2) t → 1 + d ≡ left_nodes k s

@@ -5,7 +5,8 @@ use Rattle.load.specs.DrawnTree.{drawn_tree}
 use Rattle.question.specs.Parse.{most_nodes}
 use Rattle.question.specs.Write.{write_tree}
 use Rattle.ty.specs.Choose.{choose}
-use Rattle.written.specs.Output.{Output, wrote, refused, too_short}
+use Rattle.written.specs.Output.{Output, wrote, refused}
+use Rattle.written.specs.declared.WriteFault.TheVariants.{BadCount, TooShort}
 
 -- "header FF FF FF FF 00 (hex)"
 abbrev pub load_header : List ℕ
@@ -19,13 +20,9 @@ load_question start nodes = load_header ++ write_tree (drawn_tree nodes start).t
 abbrev pub load_bytes : ℕ → ℕ
 load_bytes nodes = 5 + 2 * nodes
 
--- "a node count outside 1 to 64 with 14"
-abbrev pub bad_count : ℕ
-bad_count = 14
-
 -- what the part does, with so many bytes lent
 unfoldable pub load_of : ℕ → ℕ → ℕ → Output
 load_of start nodes lent =
-    choose (nodes == 0 || nat_lt most_nodes nodes) (refused bad_count)
-    (choose (nat_lt lent (load_bytes nodes)) (refused too_short)
+    choose (nodes == 0 || nat_lt most_nodes nodes) (refused BadCount)
+    (choose (nat_lt lent (load_bytes nodes)) (refused TooShort)
     (wrote (load_question start nodes)))

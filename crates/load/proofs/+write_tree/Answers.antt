@@ -1,31 +1,29 @@
-use Rattle.std.proofs.Common.{sym, ap, ◌∙◌, arith}
+use Rattle.std.proofs.Common.{refl, sym, ap, ◌∙◌, arith}
 use Rattle.load.proofs.DrawnTrees.{binary_many}
 use Rattle.load.proofs.TreeReturns.{leaf_written, unary_written, binary_written, left_is}
 use Rattle.load.proofs.+write_tree.Goals as goal
 use Rattle.load.specs.Draw.{taken_from, stepped}
-use Rattle.load.specs.declared.Shape.{Shape}
 
 pub returns-then-nodes-eq1 : goal.returns-then-nodes-eq1
 returns-then-nodes-eq1 t c =
-    leaf_written _ _ _ _ _ _ c.if-nodes-eq1.true c.step-s.ensures _ (c.take_of.ensures.0 ∙ ap (taken_from 12) c.step-s.ensures) c.put_node.ensures
+    leaf_written _ _ _ _ _ _ c.if-nodes-eq1.true c.draw.ensures.stepped _ c.draw.ensures.taken c.put_node.ensures
 
-pub take_of-requires-then-root : goal.take_of-requires-then-root
-take_of-requires-then-root t c =
-    let many = binary_many _ _ (ap (λ (h : Shape). h.binary) (sym c.shape_of-root.ensures) ∙ c.if-root.true) in
-    omega arith
+pub draw-requires-then-draw_binary-2 : goal.draw-requires-then-draw_binary-2
+draw-requires-then-draw_binary-2 t c = omega (arith, binary_many c.args.nodes c.args.draws.now.state (sym c.if-draw_binary.ensures.answer))
 
-pub returns-then-root : goal.returns-then-root
-returns-then-root t c =
-    let shaped = c.shape_of-root.ensures in
-    binary_written _ _ _ _ _ _ (omega arith) _ (c.step-s-2.ensures ∙ ap (λ (h : Shape). stepped h.state) shaped) _
-    (ap (λ (h : Shape). h.binary) (sym shaped) ∙ c.if-root.true)
-    _ c.take_of-then-root-2.ensures.0 c.put_node-then-root.ensures _ _ c.step-t.ensures
-    (left_is _ _ _ _ c.step-t.ensures c.take_of-then-root.ensures.0)
-    _ _ c.write_tree-u.ensures c.write_tree.ensures
+pub returns-then-draw_binary : goal.returns-then-draw_binary
+returns-then-draw_binary t c =
+    let shape = c.if-draw_binary.ensures in
+    let op = c.draw-then-draw_binary.ensures in
+    let split = c.draw-then-draw_binary-2.ensures in
+    binary_written _ _ _ _ _ _ (omega arith) _ (op.stepped ∙ ap stepped shape.behind) _ (sym shape.answer)
+    _ (op.taken ∙ ap (taken_from 23) (sym op.stepped)) c.put_node-then-draw_binary.ensures _ _ split.stepped
+    (left_is _ _ _ _ refl split.taken)
+    _ _ c.write_tree.ensures c.write_tree-then-draw_binary.ensures
 
 pub returns : goal.returns
 returns t c =
-    let shaped = c.shape_of-root.ensures in
-    unary_written _ _ _ _ _ _ (omega arith) _ (c.step-s-2.ensures ∙ ap (λ (h : Shape). stepped h.state) shaped) _
-    (ap (λ (h : Shape). h.binary) (sym shaped) ∙ c.if-root.false)
-    _ c.take_of-2.ensures.0 c.put_node-2.ensures c.write_tree-2.ensures
+    let shape = c.if-draw_binary.ensures in
+    let op = c.draw-2.ensures in
+    unary_written _ _ _ _ _ _ (omega arith) _ (op.stepped ∙ ap stepped shape.behind) _ (sym shape.answer)
+    _ (op.taken ∙ ap (taken_from 7) (sym op.stepped)) c.put_node-2.ensures c.write_tree-2.ensures

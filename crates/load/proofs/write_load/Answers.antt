@@ -13,5 +13,5 @@ returns-then-out-len c =
 
 pub returns : goal.returns
 returns c =
-    let w = load_wrote _ _ _ _ c.if-nodes.false c.if-out-len.false _ _ c.clear.ensures c.copy_in.ensures _ c.write_tree-behind.ensures in
+    let w = load_wrote _ _ _ _ c.if-nodes.false c.if-out-len.false _ _ (c.fill.ensures.after (λ y e. e)) c.copy_in.ensures _ c.write_tree.ensures in
     record { writes = w.0; load_fine = w.1 }
