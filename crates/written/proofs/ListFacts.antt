@@ -42,8 +42,8 @@ pub stored_length : {b' : List ℕ} (b : List ℕ) (at : ℕ) (vs : List ℕ) �
 stored_length b at vs e = ap length e ∙ length-sets b at vs
 
 -- a part of a slice that was written
-pub put_mid-sets : (xs ys zs : List ℕ) (at k : ℕ) → ys ≡ zs → k ≡ length zs → at + length zs ≤ length xs → put_mid at k xs ys ≡ sets xs at zs
-put_mid-sets xs ys zs at k e f h =
+pub part_stored : (xs ys zs : List ℕ) (at k : ℕ) → ys ≡ zs → k ≡ length zs → at + length zs ≤ length xs → put_mid at k xs ys ≡ sets xs at zs
+part_stored xs ys zs at k e f h =
     put_mid-paste at k xs ys zs (length zs) e (sym f) refl
     ∙ ap (λ (w : List ℕ). take at xs ++ w ++ drop (at + length zs) xs) (take_all (length zs) zs (omega arith))
     ∙ sym (sets-eq zs xs at h)

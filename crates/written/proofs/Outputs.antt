@@ -3,7 +3,7 @@ use Prim.Native.Nat.{ℕ, ◌+◌, ◌-◌, ◌≤◌}
 use lib.ListN.{length, replicate, length-append}
 use lib.Seq.{sets}
 use mathlib.Core.List.{List, [], ◌++◌}
-use mathlib.Core.Path.{◌≡◌, refl, sym, ap, ◌∙◌}
+use mathlib.Core.Path.{◌≡◌, sym, ap, ◌∙◌}
 use native.Mathlib.Nat.{sub-zero}
 use native.Mathlib.Omega.{arith}
 use Rattle.written.proofs.ListFacts.{sets-zeros}
@@ -28,11 +28,7 @@ wrote_more lent done s h =
 pub wrote_all : (lent : ℕ) (s : List ℕ) → length s ≤ lent → sets (replicate lent 0) 0 s ≡ lent_after lent (wrote s)
 wrote_all lent s h = ap (λ (b : List ℕ). sets b 0 s) (wrote_nothing lent) ∙ wrote_more lent [] s (omega arith)
 
--- the returns: a refusal, and an output
-pub refused_writes : (fault : WriteFault) (before after : List ℕ) → after ≡ replicate (length before) 0 → Writes (refused fault) (Err fault) before after
-unfolding written_of lent_after
-refused_writes fault before after e = record { answer = refl; buffer = e }
-
+-- the return of an output
 pub wrote_writes : (s : List ℕ) (len : ℕ) (before after : List ℕ) → len ≡ length s → after ≡ lent_after (length before) (wrote s)
     → Writes (wrote s) (Ok len) before after
 unfolding written_of

@@ -25,6 +25,7 @@ impl WriteFault {
 }
 
 // The bytes of s go to a place of some bytes.
+#[tactic(auto, using(crate::proofs::ListFacts::part_stored))]
 pub fn copy_in(out: &mut [u8], to: usize, s: &[u8])
     requires { to + length s.now ≤ length out.old }
     ensures { out.new ≡ sets out.old to s.now }
@@ -42,6 +43,7 @@ pub fn put_two(n: usize, out: &mut [u8], at: usize)
 }
 
 // Refuses: nothing is written.
+#[tactic(auto, unfolding(crate::specs::Output::written_of, crate::specs::Output::lent_after))]
 pub fn refuse(out: &mut [u8], fault: WriteFault) -> Result<usize, WriteFault>
     ensures { Writes (refused fault) result out.old out.new }
 {
