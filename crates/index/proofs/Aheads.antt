@@ -9,15 +9,15 @@ use mathlib.Core.List.{List, [], ◌∷◌}
 use mathlib.Core.Path.{◌≡◌, refl, sym, ap, ◌∙◌, subst}
 use native.Mathlib.Omega.{arith, not-le}
 use Rattle.index.proofs.Chains.{behind-before}
-use Rattle.index.proofs.ListSearch.{sits_cons, sits-own, sits_next, sits_later, sits-inside, sits-length}
+use Rattle.index.proofs.ListSearch.{sits_at, sits_cons, sits-own, sits_next, sits_later, sits-inside, sits-length}
 use Rattle.index.specs.Inside.Ahead.{or_else, last_class, Ahead, marked, all_marked, marked_from, Looked}
 use Rattle.record.proofs.Records.{at_next, records-end}
-use Rattle.record.specs.Inside.Front.{head_of}
+use Rattle.record.specs.Inside.Front.{front_of, front_at}
 use Rattle.record.specs.Inside.FrontRecord.{front_record}
 use Rattle.record.specs.Inside.HeadFault.{is_class, has_class}
 use Rattle.record.specs.Inside.Walk.{CursorAt, Sits, StepIs, record_at, behind}
 use Rattle.record.specs.Table.{Record, records_of}
-use Rattle.record.specs.declared.front.Head.{Head}
+use Rattle.record.specs.Inside.Front.{Front}
 use Rattle.record.specs.declared.walk.Cursor.{Cursor}
 use Rattle.record.specs.declared.walk.Step.{Step}
 use Rattle.ty.specs.Choose.{choose}
@@ -36,10 +36,10 @@ or_past p (suc v) w h = refl
 
 -- ---- the last class record among some
 abbrev own : ℕ → ℕ → Record → ℕ
-own id p r = choose (is_class id (head_of r)) (suc p) 0
+own id p r = choose (is_class id (front_of r)) (suc p) 0
 
 own_most : (id p : ℕ) (r : Record) → own id p r ≤ suc p
-own_most id p r = go (is_class id (head_of r))
+own_most id p r = go (is_class id (front_of r))
   where
     go : (b : Bool) → choose b (suc p) 0 ≤ suc p
     go true = unfold choose in omega arith
@@ -49,7 +49,7 @@ own_most id p r = go (is_class id (head_of r))
 last_has : (id p : ℕ) (rs : List Record) → ltb 0 (last_class id p rs) ≡ has_class id rs
 unfolding last_class has_class
 last_has id p [] = le-ltb 0 0 (omega arith)
-last_has id p (r ∷ rs) = go (is_class id (head_of r)) (last_class id (p + length r) rs) (last_has id (p + length r) rs)
+last_has id p (r ∷ rs) = go (is_class id (front_of r)) (last_class id (p + length r) rs) (last_has id (p + length r) rs)
   where
     go : (b : Bool) (v : ℕ) → ltb 0 v ≡ has_class id rs → ltb 0 (or_else v (choose b (suc p) 0)) ≡ (b || has_class id rs)
     go true zero h = unfold or_else choose in lt-ltb 0 (suc p) (omega arith)
@@ -61,7 +61,7 @@ last_has id p (r ∷ rs) = go (is_class id (head_of r)) (last_class id (p + leng
 last_low : (id p : ℕ) (rs : List Record) → 0 < last_class id p rs → p < last_class id p rs
 unfolding last_class
 last_low id p [] h = absurd (omega arith)
-last_low id p (r ∷ rs) h = go (is_class id (head_of r)) (last_class id (p + length r) rs) (last_low id (p + length r) rs) h
+last_low id p (r ∷ rs) h = go (is_class id (front_of r)) (last_class id (p + length r) rs) (last_low id (p + length r) rs) h
   where
     go : (b : Bool) (v : ℕ) → (0 < v → p + length r < v) → 0 < or_else v (choose b (suc p) 0) → p < or_else v (choose b (suc p) 0)
     go true zero l h = unfold or_else choose in omega arith
@@ -136,7 +136,7 @@ marked-length kind one p late = go (eqb kind 2)
     go false = unfold choose in refl
 
 -- an entry, with one record more
-marked_entry : (h : Head) (p : ℕ) (late : List ℕ) (id : ℕ) → id < length late → get_or (marked h.kind h.one p late) id 0 ≡ or_else (choose (is_class id h) (suc p) 0) (get_or late id 0)
+marked_entry : (h : Front) (p : ℕ) (late : List ℕ) (id : ℕ) → id < length late → get_or (marked h.kind h.one p late) id 0 ≡ or_else (choose (is_class id h) (suc p) 0) (get_or late id 0)
 unfolding marked choose or_else
 marked_entry h p late id i = go (eqb h.kind 2) (eqb h.one id) refl
   where
@@ -148,9 +148,13 @@ marked_entry h p late id i = go (eqb h.kind 2) (eqb h.one id) refl
     go true false e =
         get_or-set_other late h.one id (suc p) 0 (λ z. true≢false (sym (eq-eqb h.one id (sym z)) ∙ e))
 
--- where a step leads
-next_is : (t : List ℕ) (c : Cursor) (s : Step) → StepIs t c s → behind t c.at ≡ s.next.at
-next_is t c s st = sym (st.next ∙ ap (λ (h : Head). c.at + h.len) st.head)
+-- behind the record at a cursor
+abbrev next_of : List ℕ → Cursor → Cursor
+next_of t c = record { at = behind t c.at; index = c.index + 1 }
+
+-- that record comes into the entries
+abbrev marked_here : List ℕ → Cursor → List ℕ → List ℕ
+marked_here t c late = marked (front_of (drop c.at t)).kind (front_of (drop c.at t)).one c.at late
 
 module _ (t late : List ℕ) (e : ℕ) (c : Cursor) (g : Looking t late e c) where
   looking_done : length t ≤ c.at → Ahead t late e
@@ -161,31 +165,29 @@ module _ (t late : List ℕ) (e : ℕ) (c : Cursor) (g : Looking t late e c) whe
         last = λ id i. sym (g.last id i ∙ ap (λ (rs : List Record). or_else (last_class id c.at rs) (get_or late id 0)) (records-end t c.at end));
       }
 
-  looking_next : (s : Step) → StepIs t c s → c.at < length t → (late' : List ℕ) → late' ≡ marked s.head.kind s.head.one c.at late
-      → Looking t late' e s.next
-  looking_next s st some late' is = subst (λ (z : List ℕ). Looking t z e s.next) (sym is) next
+  abbrev h : Front
+  h = front_of (drop c.at t)
+
+  looking_next : c.at < length t → Looking t (marked_here t c late) e (next_of t c)
+  looking_next some =
+      record {
+        sits = g.sits;
+        at = sits_at t c.at w some;
+        last = λ id i.
+            let j : id < length late = omega (arith, marked-length h.kind h.one c.at late) in
+            g.last id j
+            ∙ ap (λ (k : ℕ). or_else k (get_or late id 0)) (here id)
+            ∙ or_nested (last_from t id (behind t c.at)) (choose (is_class id h) (suc c.at) 0) (get_or late id 0)
+            ∙ ap (or_else (last_from t id (behind t c.at))) (sym (marked_entry h c.at late id j));
+      }
     where
-      next_at_lem : behind t c.at ≡ s.next.at
-      next_at_lem = next_is t c s st
+      w : Sits t c.at
+      w = record { index = c.index; at = g.at }
 
-      here : (id : ℕ) → last_from t id c.at ≡ or_else (last_from t id s.next.at) (choose (is_class id s.head) (suc c.at) 0)
+      here : (id : ℕ) → last_from t id c.at ≡ or_else (last_from t id (behind t c.at)) (choose (is_class id h) (suc c.at) 0)
       here id =
-          last_next t id c.at (record { index = c.index; at = g.at }) some
-          ∙ ap (λ (k : ℕ). or_else (last_from t id k) (own id c.at (record_at t c))) next_at_lem
-          ∙ ap (λ (h : Head). or_else (last_from t id s.next.at) (choose (is_class id h) (suc c.at) 0)) (sym st.own)
-
-      next : Looking t (marked s.head.kind s.head.one c.at late) e s.next
-      next =
-          record {
-            sits = g.sits;
-            at = at_next t c g.at s st;
-            last = λ id i.
-                let j : id < length late = omega (arith, marked-length s.head.kind s.head.one c.at late) in
-                g.last id j
-                ∙ ap (λ (k : ℕ). or_else k (get_or late id 0)) (here id)
-                ∙ or_nested (last_from t id s.next.at) (choose (is_class id s.head) (suc c.at) 0) (get_or late id 0)
-                ∙ ap (or_else (last_from t id s.next.at)) (sym (marked_entry s.head c.at late id j));
-          }
+          last_next t id c.at w some
+          ∙ ap (λ (z : Front). or_else (last_from t id (behind t c.at)) (choose (is_class id z) (suc c.at) 0)) (sits-own t c.at w some)
 
 -- ---- the records from a cursor on come into the entries
 module _ (t late : List ℕ) (c : Cursor) (a : CursorAt t c) where
@@ -193,61 +195,45 @@ module _ (t late : List ℕ) (c : Cursor) (a : CursorAt t c) where
   unfolding all_marked
   marked-end end = ap (λ (rs : List Record). all_marked c.at rs late) (sym (records-end t c.at end))
 
-  pub marked_next : (s : Step) → StepIs t c s → c.at < length t → (late' : List ℕ) → late' ≡ marked s.head.kind s.head.one c.at late
-      → marked_from t s.next.at late' ≡ marked_from t c.at late
+  marked_on : c.at < length t → marked_from t (behind t c.at) (marked_here t c late) ≡ marked_from t c.at late
   unfolding all_marked
-  marked_next s st some late' is =
-      ap (marked_from t s.next.at) (is ∙ ap (λ (h : Head). marked h.kind h.one c.at late) st.own)
-      ∙ ap (λ (k : ℕ). all_marked k (records_of (drop s.next.at t)) here) next_at_lem
-      ∙ ap (λ (k : ℕ). all_marked (c.at + length (record_at t c)) (records_of (drop k t)) here) (sym (next_is t c s st))
+  marked_on some =
+      ap (λ (h : Front). marked_from t (behind t c.at) (marked h.kind h.one c.at late)) (sym (sits-own t c.at w some))
+      ∙ ap (λ (k : ℕ). all_marked k (records_of (drop (behind t c.at) t)) here) (sym (sits-length t c.at w some))
       ∙ ap (λ (rs : List Record). all_marked c.at rs late) (sym (sits_cons t c.at w some))
     where
       w : Sits t c.at
       w = record { index = c.index; at = a }
 
       here : List ℕ
-      here = marked (head_of (record_at t c)).kind (head_of (record_at t c)).one c.at late
+      here = marked (front_of (record_at t c)).kind (front_of (record_at t c)).one c.at late
 
-      next_at_lem : s.next.at ≡ c.at + length (record_at t c)
-      next_at_lem = sym (sits-length t c.at w some ∙ next_is t c s st)
+  pub marked_next : (s : Step) → StepIs t c s → c.at < length t → (late' : List ℕ)
+      → late' ≡ marked (front_at (drop c.at t) s.head).kind (front_at (drop c.at t) s.head).one c.at late
+      → marked_from t s.next.at late' ≡ marked_from t c.at late
+  marked_next s st some late' is =
+      ap (marked_from t s.next.at) (is ∙ ap (λ (h : Front). marked h.kind h.one c.at late) st.head)
+      ∙ ap (λ (k : ℕ). marked_from t k (marked_here t c late)) st.next ∙ marked_on some
 
 -- and so they have the last class records
-abbrev step_here : List ℕ → Cursor → Step
-step_here t c = record { head = head_of (drop c.at t); next = record { at = behind t c.at; index = c.index + 1 } }
-
-step_here_lem : (t : List ℕ) (c : Cursor) → CursorAt t c → c.at < length t → StepIs t c (step_here t c)
-step_here_lem t c a some =
-    let w : Sits t c.at = record { index = c.index; at = a } in
-    record {
-      head = refl;
-      own = sym (sits-own t c.at w some);
-      next = refl;
-      index = refl;
-      low = sits_later t c.at w some;
-      high = sits-inside t c.at w some;
-    }
-
 module _ (t : List ℕ) (e : ℕ) where
   made_end : (late : List ℕ) (c : Cursor) → Looking t late e c → length t ≤ c.at → Ahead t (marked_from t c.at late) e
   made_end late c g end = subst (λ (z : List ℕ). Ahead t z e) (marked-end t late c g.at end) (looking_done t late e c g end)
-
-  abbrev marked_here : List ℕ → Cursor → List ℕ
-  marked_here late c = marked (head_of (drop c.at t)).kind (head_of (drop c.at t)).one c.at late
 
   made : (m : ℕ) (late : List ℕ) (c : Cursor) → length t - c.at ≤ m → Looking t late e c → Ahead t (marked_from t c.at late) e
   made zero late c h g = made_end late c g (omega arith)
   made (suc m) late c h g =
       go (ltb c.at (length t)) refl
       (λ some.
-      let st = step_here_lem t c g.at some in
-      made m (marked_here late c) (step_here t c).next (omega (arith, st.low)) (looking_next t late e c g (step_here t c) st some _ refl))
+      let l = sits_later t c.at (record { index = c.index; at = g.at }) some in
+      made m (marked_here t c late) (next_of t c) (omega arith) (looking_next t late e c g some))
     where
-      go : (u : Bool) → ltb c.at (length t) ≡ u → (c.at < length t → Ahead t (marked_from t (behind t c.at) (marked_here late c)) e)
+      go : (u : Bool) → ltb c.at (length t) ≡ u → (c.at < length t → Ahead t (marked_from t (behind t c.at) (marked_here t c late)) e)
           → Ahead t (marked_from t c.at late) e
       go false q ih = made_end late c g (ltb-false c.at (length t) q)
       go true q ih =
           let some = ltb-true c.at (length t) q in
-          subst (λ (z : List ℕ). Ahead t z e) (marked_next t late c g.at (step_here t c) (step_here_lem t c g.at some) some _ refl) (ih some)
+          subst (λ (z : List ℕ). Ahead t z e) (marked_on t late c g.at some) (ih some)
 
 pub ahead_made : (t late : List ℕ) (c : Cursor) → CursorAt t c → ((i : ℕ) → get_or late i 0 ≡ 0) → (made : List ℕ) → made ≡ marked_from t c.at late
     → Ahead t made c.at

@@ -16,13 +16,13 @@ use Rattle.record.proofs.Records.{at_start, records-joined, at_more}
 use Rattle.record.proofs.RecordSizes.{head_long, head_ways}
 use Rattle.index.specs.Inside.Bucket.{bucket_of}
 use Rattle.index.specs.Inside.Entered.{clipped, Entered, link_at, entered}
-use Rattle.record.specs.Inside.Front.{head_of}
+use Rattle.record.specs.Inside.Front.{front_of}
 use Rattle.record.specs.Inside.FrontRecord.{front_record}
 use Rattle.record.specs.Table.{records_of, joined}
 use Rattle.index.specs.Inside.Index.{list_count, list_in, first_at, last_at, child_at, next_at, next_in, next_from, index_size}
 use Rattle.index.specs.Inside.SearchTree.{ways_at}
 use Rattle.record.specs.Inside.Walk.{CursorAt, Sits, behind}
-use Rattle.record.specs.declared.front.Head.{Head}
+use Rattle.record.specs.Inside.Front.{Front}
 
 -- ---- where records begin
 
@@ -55,7 +55,7 @@ behind-before t p q w v l =
     in_order t (v.index - (w.index + 1)) (behind t p) q (w.index + 1) v.index (omega arith) (omega arith) (sits_at t p w s) v.at
 
 -- two records have entries of their own
-pub apart_of : (t : List ℕ) (p q : ℕ) → (head_of (drop p t)).malformed ≡ false → Sits t p → (head_of (drop q t)).malformed ≡ false → Sits t q → (p ≡ q → ⊥)
+pub apart_of : (t : List ℕ) (p q : ℕ) → (front_of (drop p t)).malformed ≡ false → Sits t p → (front_of (drop q t)).malformed ≡ false → Sits t q → (p ≡ q → ⊥)
     → (k : ℕ) → k < ways_at t q → next_at (length t) p ≡ child_at (length t) q k → ⊥
 apart_of t p q m v n w d k l f = go (leb p q) refl
   where
@@ -184,7 +184,7 @@ link_low n b last m l h i = go (eqb last 0)
     go true = omega arith
     go false = omega arith
 
-module _ (t x : List ℕ) (e : ℕ) (g : Entered t x e) (l : Lasts t x e) (some : e < length t) (whole : (head_of (drop e t)).malformed ≡ false) where
+module _ (t x : List ℕ) (e : ℕ) (g : Entered t x e) (l : Lasts t x e) (some : e < length t) (whole : (front_of (drop e t)).malformed ≡ false) where
   abbrev n : ℕ
   n = length t
 
@@ -224,8 +224,8 @@ module _ (t x : List ℕ) (e : ℕ) (g : Entered t x e) (l : Lasts t x e) (some 
         go false q = kept (λ z. true≢false (sym (eq-eqb _ _ z) ∙ q))
 
   -- records before e, and the one at e, have entries of their own
-  apart : (p q : ℕ) → Sits t p → Sits t q → (head_of (drop p t)).malformed ≡ false → q < e → (p ≡ q → ⊥) → next_at n p ≡ next_at n q → ⊥
-  apart p q v w m b d f = apart_of t p q m v (g.whole q w b) w d 0 (ways_some (head_of (drop q t)).kind) f
+  apart : (p q : ℕ) → Sits t p → Sits t q → (front_of (drop p t)).malformed ≡ false → q < e → (p ≡ q → ⊥) → next_at n p ≡ next_at n q → ⊥
+  apart p q v w m b d f = apart_of t p q m v (g.whole q w b) w d 0 (ways_some (front_of (drop q t)).kind) f
 
   -- a record before e' that is not at e is before e
   before_e : (p : ℕ) → Sits t p → p < e' → (p ≡ e → ⊥) → p < e
@@ -236,16 +236,16 @@ module _ (t x : List ℕ) (e : ℕ) (g : Entered t x e) (l : Lasts t x e) (some 
   new_last =
       ⊎_elim (λ q. ap (clipped e') q ∙ clipped_in e' 0 (omega arith)) (λ q. clipped-out e' _ q.0) (next_bounds t b₀ e' (sits_next t e g.end some) _ refl)
 
-  is_whole : (p : ℕ) → Sits t p → p < e' → (head_of (drop p t)).malformed ≡ false
+  is_whole : (p : ℕ) → Sits t p → p < e' → (front_of (drop p t)).malformed ≡ false
   is_whole p w h = go (eqb p e) refl
     where
-      go : (u : Bool) → eqb p e ≡ u → (head_of (drop p t)).malformed ≡ false
-      go true s = subst (λ (i : ℕ). (head_of (drop i t)).malformed ≡ false) (sym (eqb-true p e s)) whole
+      go : (u : Bool) → eqb p e ≡ u → (front_of (drop p t)).malformed ≡ false
+      go true s = subst (λ (i : ℕ). (front_of (drop i t)).malformed ≡ false) (sym (eqb-true p e s)) whole
       go false s = g.whole p w (before_e p w h (λ r. true≢false (sym (eq-eqb _ _ r) ∙ s)))
 
   -- ---- another record, for which an entry is written that belongs to no list
-  module _ (nf : (head_of (drop e t)).kind ≡ 4 → ⊥) (a : ℕ) (far : (b : ℕ) → b < list_count n → (first_at n b ≡ a → ⊥) × (last_at n b ≡ a → ⊥))
-      (away : (p : ℕ) → Sits t p → p < e → (head_of (drop p t)).kind ≡ 4 → next_at n p ≡ a → ⊥) (front : a < next_at n e') where
+  module _ (nf : (front_of (drop e t)).kind ≡ 4 → ⊥) (a : ℕ) (far : (b : ℕ) → b < list_count n → (first_at n b ≡ a → ⊥) × (last_at n b ≡ a → ⊥))
+      (away : (p : ℕ) → Sits t p → p < e → (front_of (drop p t)).kind ≡ 4 → next_at n p ≡ a → ⊥) (front : a < next_at n e') where
     abbrev z : List ℕ
     z = set x a (suc e)
 
@@ -254,17 +254,17 @@ module _ (t x : List ℕ) (e : ℕ) (g : Entered t x e) (l : Lasts t x e) (some 
 
     none_of : (b : ℕ) → b < list_count n → b₀ ≡ b → ⊥
     none_of b low d =
-        let k : (head_of (front_record (drop e t))).kind ≡ 4 → ⊥ = λ r. nf (sym (ap (λ (h : Head). h.kind) (sits-own t e g.end some)) ∙ r) in
+        let k : (front_of (front_record (drop e t))).kind ≡ 4 → ⊥ = λ r. nf (sym (ap (λ (h : Front). h.kind) (sits-own t e g.end some)) ∙ r) in
         omega (arith, list_other n (front_record (drop e t)) k, d, low)
 
     zero_sits : Sits t 0
     zero_sits = record { index = 0; at = at_start t }
 
-    past_next : (p : ℕ) → Sits t p → p < e → (head_of (drop p t)).kind ≡ 4
+    past_next : (p : ℕ) → Sits t p → p < e → (front_of (drop p t)).kind ≡ 4
         → get_or z (next_at n p) 0 ≡ clipped e' (next_from t (list_in n (front_record (drop p t))) (behind t p))
     past_next p w h k =
         let s : p < length t = omega (arith, h, some) in
-        let o : (head_of (front_record (drop p t))).kind ≡ 4 = ap (λ (h : Head). h.kind) (sits-own t p w s) ∙ k in
+        let o : (front_of (front_record (drop p t))).kind ≡ 4 = ap (λ (h : Front). h.kind) (sits-own t p w s) ∙ k in
         let low : list_in n (front_record (drop p t)) < list_count n
         = subst (λ (i : ℕ). i < list_count n) (sym (list-function n (front_record (drop p t)) o)) (list-below (bucket_of (front_record (drop p t))) n) in
         same (next_at n p) (away p w h k) ∙ g.next p w h k
@@ -275,7 +275,7 @@ module _ (t x : List ℕ) (e : ℕ) (g : Entered t x e) (l : Lasts t x e) (some 
         record {
           end = sits_next t e g.end some;
           first = λ b low. same (first_at n b) (far b low).0 ∙ g.first b low ∙ sym (other b 0 zero_sits (omega arith) (none_of b low));
-          next = λ p w h k. past_next p w (before_e p w h (λ d. nf (subst (λ (i : ℕ). (head_of (drop i t)).kind ≡ 4) d k))) k;
+          next = λ p w h k. past_next p w (before_e p w h (λ d. nf (subst (λ (i : ℕ). (front_of (drop i t)).kind ≡ 4) d k))) k;
           whole = is_whole;
         }
 
@@ -299,10 +299,10 @@ module _ (t x : List ℕ) (e : ℕ) (g : Entered t x e) (l : Lasts t x e) (some 
         }
 
   -- ---- a function
-  module _ (fn : (head_of (drop e t)).kind ≡ 4) where
+  module _ (fn : (front_of (drop e t)).kind ≡ 4) where
     bucket_low : b₀ < list_count n
     bucket_low =
-        let k : (head_of (front_record (drop e t))).kind ≡ 4 = ap (λ (h : Head). h.kind) (sits-own t e g.end some) ∙ fn in
+        let k : (front_of (front_record (drop e t))).kind ≡ 4 = ap (λ (h : Front). h.kind) (sits-own t e g.end some) ∙ fn in
         subst (λ (i : ℕ). i < list_count n) (sym (list-function n (front_record (drop e t)) k)) (list-below (bucket_of (front_record (drop e t))) n)
 
     abbrev last : ℕ
@@ -389,7 +389,7 @@ module _ (t x : List ℕ) (e : ℕ) (g : Entered t x e) (l : Lasts t x e) (some 
             let d : b₀ ≡ b → ⊥ = λ r. true≢false (sym (eq-eqb _ _ r) ∙ s) in
             kept_next q z (first_at n b) (λ r. omega (arith, low)) (λ r. omega (arith, low)) ∙ g.first b low ∙ sym (other b 0 start (omega arith) d)
 
-    module _ (p : ℕ) (w : Sits t p) (f : (head_of (drop p t)).kind ≡ 4) where
+    module _ (p : ℕ) (w : Sits t p) (f : (front_of (drop p t)).kind ≡ 4) where
       abbrev b : ℕ
       b = list_in n (front_record (drop p t))
 
@@ -482,7 +482,7 @@ module _ (t x : List ℕ) (e : ℕ) (g : Entered t x e) (l : Lasts t x e) (some 
 
     -- an entry of no list stays
     pub entered-kept : (j : ℕ) → (j ≡ last_at n b₀ → ⊥) → (j ≡ first_at n b₀ → ⊥)
-        → ((q : ℕ) → Sits t q → q < e → (head_of (drop q t)).kind ≡ 4 → j ≡ next_at n q → ⊥) → get_or x' j 0 ≡ get_or x j 0
+        → ((q : ℕ) → Sits t q → q < e → (front_of (drop q t)).kind ≡ 4 → j ≡ next_at n q → ⊥) → get_or x' j 0 ≡ get_or x j 0
     entered-kept j h k away = go last refl
       where
         go : (v : ℕ) → last ≡ v → get_or x' j 0 ≡ get_or x j 0
@@ -589,6 +589,6 @@ module _ (t x : List ℕ) (e : ℕ) (g : Entered t x e) (end : length t ≤ e) w
   pub first_done : (b : ℕ) → b < list_count (length t) → get_or x (first_at (length t) b) 0 ≡ next_from t b 0
   first_done b low = g.first b low ∙ all_in b 0 (record { index = 0; at = at_start t })
 
-  pub next_done : (p : ℕ) → Sits t p → p < length t → (head_of (drop p t)).kind ≡ 4
+  pub next_done : (p : ℕ) → Sits t p → p < length t → (front_of (drop p t)).kind ≡ 4
       → get_or x (next_at (length t) p) 0 ≡ next_from t (list_in (length t) (front_record (drop p t))) (behind t p)
   next_done p w h k = g.next p w (omega arith) k ∙ all_in _ (behind t p) (sits_next t p w h)

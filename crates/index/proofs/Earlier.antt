@@ -10,15 +10,16 @@ use mathlib.Core.Path.{◌≡◌, refl, sym, ap, ◌∙◌, subst}
 use native.Mathlib.Omega.{arith, not-le}
 use Rattle.ty.specs.Bytes.{id_at, same_bytes}
 use Rattle.index.proofs.Chains.{behind-before}
-use Rattle.index.proofs.ListSearch.{sits-own, sits_at, sits_later, raw_test}
+use Rattle.index.proofs.ListSearch.{sits_before, sits-own, sits_at, sits_later, raw_test}
 use Rattle.record.proofs.Records.{at_start, before_next}
 use Rattle.record.proofs.RecordSizes.{head_kind, name_room, name_bytes_lem}
-use Rattle.record.specs.Inside.Front.{head_of}
+use Rattle.record.specs.Inside.Front.{front_of}
 use Rattle.record.specs.Inside.HeadFault.{name_bytes, same_key, has_key, is_class, has_class}
 use Rattle.record.specs.Inside.FrontRecord.{front_record}
 use Rattle.record.specs.Table.{Record, records_of}
 use Rattle.index.specs.Inside.SearchKey.{name_bytes_at, key_matches}
-use Rattle.record.specs.Inside.Walk.{CursorAt, Sits, WholeRecordAt, behind, before, Stands}
+use Rattle.record.specs.Inside.Walk.{CursorAt, Sits, WholeRecordAt, behind, before}
+use Rattle.index.proofs.Standing.{Standing, standing_room, standing_bytes}
 use Rattle.index.specs.declared.index.Place.{Place}
 use Rattle.index.specs.declared.tree.Key.{Key}
 use Rattle.index.specs.declared.tree.Key.TheVariants.{Name, Ids}
@@ -34,23 +35,16 @@ unfolding any_of has_key
 any_key x [] = refl
 any_key x (r ∷ rs) = ap (λ (v : Bool). same_key r x || v) (any_key x rs)
 
-pub any-class : (id : ℕ) (rs : List Record) → any_of (λ r. is_class id (head_of r)) rs ≡ has_class id rs
+pub any-class : (id : ℕ) (rs : List Record) → any_of (λ r. is_class id (front_of r)) rs ≡ has_class id rs
 unfolding any_of has_class
 any-class id [] = refl
-any-class id (r ∷ rs) = ap (λ (v : Bool). is_class id (head_of r) || v) (any-class id rs)
+any-class id (r ∷ rs) = ap (λ (v : Bool). is_class id (front_of r) || v) (any-class id rs)
 
 -- the byte where a record begins says its number
 one_number : (t : List ℕ) (p i j : ℕ) → CursorAt t (record { at = p; index = i }) → CursorAt t (record { at = p; index = j }) → i ≡ j
 one_number t p i j a b =
     let e = sym a.sits ∙ b.sits in
     omega (arith, length-drop i (records_of t), length-drop j (records_of t), ap (λ (l : List Record). length l) e, a.count, b.count)
-
--- the records before that behind p
-sits-before : (t : List ℕ) (p : ℕ) (w : Sits t p) → p < length t → before (w.index + 1) (records_of t) ≡ front_record (drop p t) ∷ before w.index (records_of t)
-sits-before t p w s =
-    before_next t (record { at = p; index = w.index }) w.at
-    (record { head = head_of (drop p t); next = record { at = behind t p; index = w.index + 1 } })
-    (record { head = refl; own = sym (sits-own t p w s); next = refl; index = refl; low = sits_later t p w s; high = (sits_at t p w s).inside })
 
 module _ (t : List ℕ) (f : Record → Bool) where
   -- what matches among the records before that at p
@@ -62,7 +56,7 @@ module _ (t : List ℕ) (f : Record → Bool) where
 
   one_more : (p : ℕ) (w : Sits t p) (s : p < length t) → some_before (behind t p) (sits_behind p w s) ≡ (f (front_record (drop p t)) || some_before p w)
   unfolding any_of
-  one_more p w s = ap (any_of f) (sits-before t p w s)
+  one_more p w s = ap (any_of f) (sits_before t p w s)
 
   same_byte : (p q : ℕ) (w : Sits t p) (v : Sits t q) → p ≡ q → some_before p w ≡ some_before q v
   same_byte p q w v e =
@@ -112,16 +106,16 @@ module _ (t : List ℕ) (f : Record → Bool) where
 
 -- ---- a record by its bytes
 module _ (t : List ℕ) (p : ℕ) (w : WholeRecordAt t p) where
-  pub begun_own : head_of (front_record (drop p t)) ≡ head_of (drop p t)
+  pub begun_own : front_of (front_record (drop p t)) ≡ front_of (drop p t)
   begun_own = sits-own t p w.sits w.some
 
-  pub begun_kind : (head_of (drop p t)).kind ≡ get_or t p 0
+  pub begun_kind : (front_of (drop p t)).kind ≡ get_or t p 0
   begun_kind = let e : p + 0 ≡ p = omega arith in head_kind (drop p t) w.whole ∙ get_or-drop p t 0 0 ∙ ap (λ (n : ℕ). get_or t n 0) e
 
   abbrev place : Cursor
   place = record { at = p; index = w.sits.index }
 
-  pub begun_stands : Stands t place (head_of (drop p t))
+  pub begun_stands : Standing t place (front_of (drop p t))
   begun_stands = record { at = w.sits.at; some = w.some; head = refl }
 
   -- the test of a key by the record's bytes
@@ -132,7 +126,7 @@ module _ (t : List ℕ) (p : ℕ) (w : WholeRecordAt t p) where
 
   pub has_name : (k : Key) (a : Place) → k ≡ Name a → get_or t p 0 ≡ 1 → same_bytes (name_bytes_at t p) (name_bytes_at t a.at) ≡ key_matches t k (front_record (drop p t))
   has_name k a e n =
-      let o : name_bytes_at t p ≡ name_bytes (front_record (drop p t)) = name_bytes_lem t place (head_of (drop p t)) begun_stands (begun_kind ∙ n) in
+      let o : name_bytes_at t p ≡ name_bytes (front_record (drop p t)) = standing_bytes t place (front_of (drop p t)) begun_stands (begun_kind ∙ n) in
       subst (λ (z : Key). same_bytes (name_bytes_at t p) (name_bytes_at t a.at) ≡ key_matches t z (front_record (drop p t))) (sym e)
       (rw (begun_own, begun_kind, eq-eqb _ _ n, ← o))
 
@@ -143,4 +137,4 @@ module _ (t : List ℕ) (p : ℕ) (w : WholeRecordAt t p) where
       (raw_test t p w.sits w.some w.whole kind a b l)
 
   pub has_room : get_or t p 0 ≡ 1 → p + 26 ≤ length t
-  has_room n = name_room t place (head_of (drop p t)) begun_stands (begun_kind ∙ n)
+  has_room n = standing_room t place (front_of (drop p t)) begun_stands (begun_kind ∙ n)

@@ -11,10 +11,10 @@ use Rattle.index.proofs.ListSearch.{first_yes, first_no, sits_cons, sits_next, s
 use Rattle.index.specs.Inside.Found.{first_in, first_with, first_from, found_at, FoundIs}
 use Rattle.index.specs.Inside.IndexedTable.{IndexedTable}
 use Rattle.index.specs.Inside.Searched.{Searched, with_at}
-use Rattle.index.specs.declared.index.Found.{Found}
+use Rattle.index.specs.Inside.Found.{Found}
 use Rattle.record.proofs.Accepts.{with_no}
 use Rattle.record.proofs.Records.{at_start, records-end}
-use Rattle.record.specs.Inside.Front.{head_of}
+use Rattle.record.specs.Inside.Front.{front_of}
 use Rattle.record.specs.Inside.FrontRecord.{front_record}
 use Rattle.record.specs.Inside.Keyed.{is_of, records_with}
 use Rattle.record.specs.Inside.Walk.{Sits, behind}
@@ -22,7 +22,7 @@ use Rattle.record.specs.Table.{Record, records_of}
 use Rattle.record.specs.TableRefused.{table_fault}
 
 -- a record without the key is passed over, and behind the last there is none
-pub first-behind : (t : List ℕ) (k a b p : ℕ) → Sits t p → p < length t → is_of k a b (head_of (front_record (drop p t))) ≡ false
+pub first-behind : (t : List ℕ) (k a b p : ℕ) → Sits t p → p < length t → is_of k a b (front_of (front_record (drop p t))) ≡ false
     → first_in k a b p (records_of (drop p t)) ≡ first_in k a b (behind t p) (records_of (drop (behind t p) t))
 first-behind t k a b p w s lacks =
     ap (first_in k a b p) (sits_cons t p w s) ∙ first_no k a b p (front_record (drop p t)) _ lacks
@@ -45,13 +45,13 @@ module _ (t : List ℕ) (clean : table_fault t ≡ 0) (k a b : ℕ) where
   told_end p h = subst (λ (v : ℕ). FoundIs t (records_with k a b (records_of (drop p t))) k a b (found_at v)) (sym (first-end t k a b p h)) (with_end t k a b p h)
 
   module _ (p : ℕ) (w : Sits t p) (some : p < length t) where
-    told_here : is_of k a b (head_of (front_record (drop p t))) ≡ true → Told p
+    told_here : is_of k a b (front_of (front_record (drop p t))) ≡ true → Told p
     told_here has =
         subst (λ (v : ℕ). FoundIs t (records_with k a b (records_of (drop p t))) k a b (found_at v))
         (sym (ap (first_in k a b p) (sits_cons t p w some) ∙ first_yes k a b p _ _ has))
         (here_is t p w some clean k a b has (records_with k a b (records_of (drop p t))) refl)
 
-    told_on : is_of k a b (head_of (front_record (drop p t))) ≡ false → Told (behind t p) → Told p
+    told_on : is_of k a b (front_of (front_record (drop p t))) ≡ false → Told (behind t p) → Told p
     told_on lacks h =
         subst (λ (rs : List Record). FoundIs t rs k a b (found_at (first_in k a b p (records_of (drop p t)))))
         (sym (ap (records_with k a b) (sits_cons t p w some) ∙ with_no k a b _ _ lacks))
@@ -60,10 +60,10 @@ module _ (t : List ℕ) (clean : table_fault t ≡ 0) (k a b : ℕ) where
   told : (m p : ℕ) → length t - p ≤ m → Sits t p → Told p
   told zero p h w = told_end p (omega arith)
   told (suc m) p h w =
-      go (ltb p (length t)) refl (is_of k a b (head_of (front_record (drop p t)))) refl
+      go (ltb p (length t)) refl (is_of k a b (front_of (front_record (drop p t)))) refl
       (λ s. told m (behind t p) (omega (arith, sits_later t p w s)) (sits_next t p w s))
     where
-      go : (u : Bool) → ltb p (length t) ≡ u → (v : Bool) → is_of k a b (head_of (front_record (drop p t))) ≡ v → (p < length t → Told (behind t p)) → Told p
+      go : (u : Bool) → ltb p (length t) ≡ u → (v : Bool) → is_of k a b (front_of (front_record (drop p t))) ≡ v → (p < length t → Told (behind t p)) → Told p
       go false q v z ih = told_end p (ltb-false p (length t) q)
       go true q true z ih = told_here p w (ltb-true p (length t) q) z
       go true q false z ih = let s = ltb-true p (length t) q in told_on p w s z (ih s)

@@ -7,6 +7,7 @@ use lib.Seq.{drop-drop, get_or-drop, length-take-le}
 use mathlib.Core.Bool.{Bool, true, false, ◌&&◌, ◌||◌, false≢true}
 use mathlib.Core.List.{List, [], ◌∷◌}
 use mathlib.Core.Path.{◌≡◌, refl, sym, ap, ◌∙◌, subst}
+use native.Mathlib.Numerals.{add-one}
 use native.Mathlib.Omega.{arith, not-le}
 use Rattle.index.proofs.Buckets.{list-below, list_kind_of}
 use Rattle.index.specs.Inside.Bucket.{key_bucket, bucket_of}
@@ -23,48 +24,61 @@ use Rattle.record.proofs.NoFault.{Clean}
 use Rattle.record.proofs.Own.{head_own}
 use Rattle.record.proofs.RecordSizes.{Fits, head_fits, head_kind, head_ids}
 use Rattle.record.proofs.Records.{at_start, at_next, records-here, records-end, record_byte, record_part}
-use Rattle.record.specs.Inside.Front.{head_of}
+use Rattle.record.specs.Inside.Front.{front_of}
 use Rattle.record.specs.Inside.FrontRecord.{front_record}
 use Rattle.record.specs.Inside.Keyed.{is_of, records_with}
 use Rattle.record.specs.Inside.Walk.{CursorAt, Sits, behind, before}
 use Rattle.record.specs.Table.{Record, first_record, records_of, key_of}
 use Rattle.record.specs.TableRefused.{table_fault}
-use Rattle.record.specs.declared.front.Head.{Head}
+use Rattle.record.specs.Inside.Front.{Front}
 use Rattle.record.specs.declared.walk.Cursor.{Cursor}
 use Rattle.ty.proofs.Choice.{and_left, and_right, choose_yes, choose_no}
 use Rattle.ty.specs.Bytes.{id_at}
 use Rattle.ty.specs.Choose.{choose}
 
-with_yes : (k a b : ℕ) (r : Record) (rs : List Record) → is_of k a b (head_of r) ≡ true → records_with k a b (r ∷ rs) ≡ r ∷ records_with k a b rs
+with_yes : (k a b : ℕ) (r : Record) (rs : List Record) → is_of k a b (front_of r) ≡ true → records_with k a b (r ∷ rs) ≡ r ∷ records_with k a b rs
 unfolding records_with choose
 with_yes k a b r rs h = rw h
 
 -- ---- the first record with a key
-pub first_yes : (k a b p : ℕ) (r : Record) (rs : List Record) → is_of k a b (head_of r) ≡ true → first_in k a b p (r ∷ rs) ≡ suc p
+pub first_yes : (k a b p : ℕ) (r : Record) (rs : List Record) → is_of k a b (front_of r) ≡ true → first_in k a b p (r ∷ rs) ≡ suc p
 unfolding first_in
 first_yes k a b p r rs h = choose_yes _ _ _ h
 
-pub first_no : (k a b p : ℕ) (r : Record) (rs : List Record) → is_of k a b (head_of r) ≡ false → first_in k a b p (r ∷ rs) ≡ first_in k a b (p + length r) rs
+pub first_no : (k a b p : ℕ) (r : Record) (rs : List Record) → is_of k a b (front_of r) ≡ false → first_in k a b p (r ∷ rs) ≡ first_in k a b (p + length r) rs
 unfolding first_in
 first_no k a b p r rs h = choose_no _ _ _ h
 
 -- ---- records with one key have one bucket
-pub key_bucket_lem : (k a b : ℕ) (r : Record) → 2 ≤ k → is_of k a b (head_of r) ≡ true → bucket_of r ≡ key_bucket k a b
+pub key_bucket_lem : (k a b : ℕ) (r : Record) → 2 ≤ k → is_of k a b (front_of r) ≡ true → bucket_of r ≡ key_bucket k a b
 unfolding bucket_of key_bucket choose
 key_bucket_lem k a b r l e =
-    let d : (head_of r).kind ≡ k = eqb-true _ _ (and_left (eqb (head_of r).kind k) (eqb (head_of r).one a && (ltb k 4 || eqb (head_of r).two b)) e) in
-    let f = and_right (eqb (head_of r).kind k) (eqb (head_of r).one a && (ltb k 4 || eqb (head_of r).two b)) e in
-    let o : (head_of r).one ≡ a = eqb-true _ _ (and_left (eqb (head_of r).one a) (ltb k 4 || eqb (head_of r).two b) f) in
-    let g = and_right (eqb (head_of r).one a) (ltb k 4 || eqb (head_of r).two b) f in
+    let d : (front_of r).kind ≡ k = eqb-true _ _ (and_left (eqb (front_of r).kind k) (eqb (front_of r).one a && (ltb k 4 || eqb (front_of r).two b)) e) in
+    let f = and_right (eqb (front_of r).kind k) (eqb (front_of r).one a && (ltb k 4 || eqb (front_of r).two b)) e in
+    let o : (front_of r).one ≡ a = eqb-true _ _ (and_left (eqb (front_of r).one a) (ltb k 4 || eqb (front_of r).two b) f) in
+    let g = and_right (eqb (front_of r).one a) (ltb k 4 || eqb (front_of r).two b) f in
     let n : k ≡ 1 → ⊥ = λ z. omega arith in
     rw (d, o, ne_eqb k 1 n) (go (ltb k 4) g)
   where
-    go : (v : Bool) → v || eqb (head_of r).two b ≡ true → choose v a ((a * 509 + (head_of r).two) % 65536) ≡ choose v a ((a * 509 + b) % 65536)
+    go : (v : Bool) → v || eqb (front_of r).two b ≡ true → choose v a ((a * 509 + (front_of r).two) % 65536) ≡ choose v a ((a * 509 + b) % 65536)
     go true h = refl
-    go false h = rw (eqb-true (head_of r).two b h)
+    go false h = rw (eqb-true (front_of r).two b h)
 
 pub drop_id : (t : List ℕ) (p i : ℕ) → id_at (drop p t) i ≡ id_at t (p + i)
 drop_id t p i = let e : p + (i + 1) ≡ p + i + 1 = omega arith in rw (get_or-drop p t i 0, get_or-drop p t (i + 1) 0, e)
+
+-- what a cons behind k elements says
+module _ (all : List Record) (k : ℕ) (x : Record) (xs : List Record) (e : drop k all ≡ x ∷ xs) where
+  cons_rest : drop (k + 1) all ≡ xs
+  cons_rest = sym (drop-drop 1 k all) ∙ ap (λ (z : List Record). drop 1 z) e
+
+  cons_first : get_or all k [] ≡ x
+  cons_first =
+      let z : k + 0 ≡ k = omega arith in
+      ap (λ (n : ℕ). get_or all n []) (sym z) ∙ sym (get_or-drop k all 0 []) ∙ ap (λ (l : List Record). get_or l 0 []) e
+
+  cons_long : k < length all
+  cons_long = omega (arith, length-drop k all, ap (λ (l : List Record). length l) e)
 
 -- ---- a record begins at byte p
 module _ (t : List ℕ) (p : ℕ) (w : Sits t p) (some : p < length t) where
@@ -76,9 +90,9 @@ module _ (t : List ℕ) (p : ℕ) (w : Sits t p) (some : p < length t) where
 
   pub sits_cons : records_of (drop p t) ≡ here ∷ records_of (drop (behind t p) t)
   sits_cons =
-      records-here (drop p t) more ∙ ap (λ (z : List ℕ). here ∷ records_of z) (drop-drop (head_of (drop p t)).len p t)
+      records-here (drop p t) more ∙ ap (λ (z : List ℕ). here ∷ records_of z) (drop-drop (front_of (drop p t)).len p t)
 
-  pub sits-own : head_of here ≡ head_of (drop p t)
+  pub sits-own : front_of here ≡ front_of (drop p t)
   sits-own = head_own (drop p t) more
 
   pub sits-inside : behind t p ≤ length t
@@ -88,20 +102,33 @@ module _ (t : List ℕ) (p : ℕ) (w : Sits t p) (some : p < length t) where
   sits_later = omega (arith, (head_bounded (drop p t) more).low)
 
   pub sits-length : p + length here ≡ behind t p
-  sits-length = omega (arith, length-take-le (head_of (drop p t)).len (drop p t) (head_bounded (drop p t) more).high)
+  sits-length = omega (arith, length-take-le (front_of (drop p t)).len (drop p t) (head_bounded (drop p t) more).high)
+
+  from_here : drop w.index (records_of t) ≡ here ∷ records_of (drop (behind t p) t)
+  from_here = sym w.at.sits ∙ sits_cons
 
   pub sits_at : CursorAt t (record { at = behind t p; index = w.index + 1 })
   sits_at =
-      at_next t (record { at = p; index = w.index }) w.at
-      (record { head = head_of (drop p t); next = record { at = behind t p; index = w.index + 1 } })
-      (record { head = refl; own = sym sits-own; next = refl; index = refl; low = sits_later; high = sits-inside })
+      record {
+        sits = sym (cons_rest (records_of t) w.index _ _ from_here);
+        behind = omega (arith, w.at.behind, sits_later);
+        inside = sits-inside;
+        count = omega (arith, cons_long (records_of t) w.index _ _ from_here);
+      }
+
+  -- the records behind the next one: this one first
+  pub sits_before : before (w.index + 1) (records_of t) ≡ here ∷ before w.index (records_of t)
+  unfolding before
+  sits_before =
+      ap (λ (k : ℕ). before k (records_of t)) (add-one w.index)
+      ∙ ap (λ (z : Record). z ∷ before w.index (records_of t)) (cons_first (records_of t) w.index _ _ from_here)
 
   pub sits_next : Sits t (behind t p)
   sits_next = record { index = w.index + 1; at = sits_at }
 
   -- a record with a bucket of a list is a function
-  pub list_kind_lem : (b : ℕ) → b < list_count (length t) → list_in (length t) here ≡ b → (head_of (drop p t)).kind ≡ 4
-  list_kind_lem b l e = sym (ap (λ (h : Head). h.kind) sits-own) ∙ list_kind_of (length t) here b l e
+  pub list_kind_lem : (b : ℕ) → b < list_count (length t) → list_in (length t) here ≡ b → (front_of (drop p t)).kind ≡ 4
+  list_kind_lem b l e = sym (ap (λ (h : Front). h.kind) sits-own) ∙ list_kind_of (length t) here b l e
 
   module _ (clean : table_fault t ≡ 0) where
     pub sits-clean : Clean (before w.index (records_of t)) here (here ∷ records_of (drop (behind t p) t))
@@ -109,43 +136,43 @@ module _ (t : List ℕ) (p : ℕ) (w : Sits t p) (some : p < length t) where
         (subst (λ (z : List Record). CleanFrom (before w.index (records_of t)) z) sits_cons
         (clean_at t (record { at = p; index = w.index }) w.at clean)).0
 
-    pub sits-whole : (head_of (drop p t)).malformed ≡ false
-    sits-whole = sym (ap (λ (h : Head). h.malformed) sits-own) ∙ sits-clean.whole
+    pub sits-whole : (front_of (drop p t)).malformed ≡ false
+    sits-whole = sym (ap (λ (h : Front). h.malformed) sits-own) ∙ sits-clean.whole
 
-  module _ (whole : (head_of (drop p t)).malformed ≡ false) where
+  module _ (whole : (front_of (drop p t)).malformed ≡ false) where
     byte : get_or (drop p t) 0 0 ≡ get_or t p 0
     byte = let e : p + 0 ≡ p = omega arith in get_or-drop p t 0 0 ∙ ap (λ (n : ℕ). get_or t n 0) e
 
     -- the test of a key by the record's bytes
     pub raw_test : (k a b : ℕ) → 2 ≤ k
-        → (eqb (get_or t p 0) k && (eqb (id_at t (p + 1)) a && (ltb k 4 || eqb (id_at t (p + 3)) b))) ≡ is_of k a b (head_of here)
+        → (eqb (get_or t p 0) k && (eqb (id_at t (p + 1)) a && (ltb k 4 || eqb (id_at t (p + 3)) b))) ≡ is_of k a b (front_of here)
     raw_test k a b l =
-        let q : (head_of here).kind ≡ get_or t p 0 = ap (λ (h : Head). h.kind) sits-own ∙ head_kind (drop p t) whole ∙ byte in
-        rw (← q) (go (eqb (head_of here).kind k) refl)
+        let q : (front_of here).kind ≡ get_or t p 0 = ap (λ (h : Front). h.kind) sits-own ∙ head_kind (drop p t) whole ∙ byte in
+        rw (← q) (go (eqb (front_of here).kind k) refl)
       where
-        go : (v : Bool) → eqb (head_of here).kind k ≡ v → v && (eqb (id_at t (p + 1)) a && (ltb k 4 || eqb (id_at t (p + 3)) b)) ≡ v && (eqb (head_of here).one a && (ltb k 4 || eqb (head_of here).two b))
+        go : (v : Bool) → eqb (front_of here).kind k ≡ v → v && (eqb (id_at t (p + 1)) a && (ltb k 4 || eqb (id_at t (p + 3)) b)) ≡ v && (eqb (front_of here).one a && (ltb k 4 || eqb (front_of here).two b))
         go false e = refl
         go true e =
-            let d : (head_of here).kind ≡ k = eqb-true _ _ e in
-            let m : 2 ≤ (head_of (drop p t)).kind = omega (arith, ap (λ (h : Head). h.kind) sits-own) in
+            let d : (front_of here).kind ≡ k = eqb-true _ _ e in
+            let m : 2 ≤ (front_of (drop p t)).kind = omega (arith, ap (λ (h : Front). h.kind) sits-own) in
             let i = head_ids (drop p t) m in
-            let one : (head_of here).one ≡ id_at t (p + 1) = ap (λ (h : Head). h.one) sits-own ∙ i.0 ∙ drop_id t p 1 in
-            let two : (head_of here).two ≡ id_at t (p + 3) = ap (λ (h : Head). h.two) sits-own ∙ i.1 ∙ drop_id t p 3 in
+            let one : (front_of here).one ≡ id_at t (p + 1) = ap (λ (h : Front). h.one) sits-own ∙ i.0 ∙ drop_id t p 1 in
+            let two : (front_of here).two ≡ id_at t (p + 3) = ap (λ (h : Front). h.two) sits-own ∙ i.1 ∙ drop_id t p 3 in
             rw (one, two)
 
 -- ---- functions with one key have one bucket
-key_list : (n a b : ℕ) (r : Record) → is_of 4 a b (head_of r) ≡ true → list_in n r ≡ key_bucket 4 a b % list_count n
+key_list : (n a b : ℕ) (r : Record) → is_of 4 a b (front_of r) ≡ true → list_in n r ≡ key_bucket 4 a b % list_count n
 unfolding list_in
 key_list n a b r e =
-    let d : (head_of r).kind ≡ 4 = eqb-true _ _ (and_left (eqb (head_of r).kind 4) (eqb (head_of r).one a && (ltb 4 4 || eqb (head_of r).two b)) e) in
+    let d : (front_of r).kind ≡ 4 = eqb-true _ _ (and_left (eqb (front_of r).kind 4) (eqb (front_of r).one a && (ltb 4 4 || eqb (front_of r).two b)) e) in
     choose_yes _ _ _ (eq-eqb _ _ d) ∙ ap (λ (z : ℕ). z % list_count n) (key_bucket_lem 4 a b r (omega arith) e)
 
 -- ---- the first function of a bucket
 module _ (t : List ℕ) (n b a c : ℕ) (is : key_bucket 4 a c % list_count n ≡ b) where
-  other : (r : Record) → eqb (list_in n r) b ≡ false → is_of 4 a c (head_of r) ≡ false
-  other r e = go (is_of 4 a c (head_of r)) refl
+  other : (r : Record) → eqb (list_in n r) b ≡ false → is_of 4 a c (front_of r) ≡ false
+  other r e = go (is_of 4 a c (front_of r)) refl
     where
-      go : (v : Bool) → is_of 4 a c (head_of r) ≡ v → v ≡ false
+      go : (v : Bool) → is_of 4 a c (front_of r) ≡ v → v ≡ false
       go false h = refl
       go true h = absurd (false≢true (sym e ∙ eq-eqb _ _ (key_list n a c r h ∙ is)))
 
@@ -244,24 +271,24 @@ left_of n (suc p) = suc (n - p)
 
 -- what the test of a key by the record's bytes says
 module _ (t : List ℕ) (p : ℕ) (w : Sits t p) (some : p < length t) (clean : table_fault t ≡ 0) (k a b : ℕ)
-    (yes : is_of k a b (head_of (front_record (drop p t))) ≡ true) where
-  own : head_of (front_record (drop p t)) ≡ head_of (drop p t)
+    (yes : is_of k a b (front_of (front_record (drop p t))) ≡ true) where
+  own : front_of (front_record (drop p t)) ≡ front_of (drop p t)
   own = sits-own t p w some
 
-  pair : eqb (head_of (front_record (drop p t))).one a && (ltb k 4 || eqb (head_of (front_record (drop p t))).two b) ≡ true
-  pair = and_right (eqb (head_of (front_record (drop p t))).kind k) (eqb (head_of (front_record (drop p t))).one a && (ltb k 4 || eqb (head_of (front_record (drop p t))).two b)) yes
+  pair : eqb (front_of (front_record (drop p t))).one a && (ltb k 4 || eqb (front_of (front_record (drop p t))).two b) ≡ true
+  pair = and_right (eqb (front_of (front_record (drop p t))).kind k) (eqb (front_of (front_record (drop p t))).one a && (ltb k 4 || eqb (front_of (front_record (drop p t))).two b)) yes
 
-  second : 4 ≤ k → ltb k 4 || eqb (head_of (front_record (drop p t))).two b ≡ true → eqb (head_of (front_record (drop p t))).two b ≡ true
+  second : 4 ≤ k → ltb k 4 || eqb (front_of (front_record (drop p t))).two b ≡ true → eqb (front_of (front_record (drop p t))).two b ≡ true
   second l g = rw (le-ltb k 4 l) at g
 
   pub here_is : (all : List Record) → all ≡ records_with k a b (records_of (drop p t)) → HereIs t all k a b (record { at = p })
   here_is all e =
       record {
         first = e ∙ ap (records_with k a b) (sits_cons t p w some) ∙ with_yes k a b _ _ yes;
-        kind = sym (ap (λ (h : Head). h.kind) own) ∙ eqb-true _ _ (and_left (eqb (head_of (front_record (drop p t))).kind k) (eqb (head_of (front_record (drop p t))).one a && (ltb k 4 || eqb (head_of (front_record (drop p t))).two b)) yes);
-        one = sym (ap (λ (h : Head). h.one) own) ∙ eqb-true _ _ (and_left (eqb (head_of (front_record (drop p t))).one a) (ltb k 4 || eqb (head_of (front_record (drop p t))).two b) pair);
-        two = λ l. sym (ap (λ (h : Head). h.two) own) ∙ eqb-true _ _ (second l (and_right (eqb (head_of (front_record (drop p t))).one a) (ltb k 4 || eqb (head_of (front_record (drop p t))).two b) pair));
-        error = sym (ap (λ (h : Head). h.error) own) ∙ (sits-clean t p w some clean).typed;
+        kind = sym (ap (λ (h : Front). h.kind) own) ∙ eqb-true _ _ (and_left (eqb (front_of (front_record (drop p t))).kind k) (eqb (front_of (front_record (drop p t))).one a && (ltb k 4 || eqb (front_of (front_record (drop p t))).two b)) yes);
+        one = sym (ap (λ (h : Front). h.one) own) ∙ eqb-true _ _ (and_left (eqb (front_of (front_record (drop p t))).one a) (ltb k 4 || eqb (front_of (front_record (drop p t))).two b) pair);
+        two = λ l. sym (ap (λ (h : Front). h.two) own) ∙ eqb-true _ _ (second l (and_right (eqb (front_of (front_record (drop p t))).one a) (ltb k 4 || eqb (front_of (front_record (drop p t))).two b) pair));
+        error = sym (ap (λ (h : Front). h.error) own) ∙ (sits-clean t p w some clean).typed;
         some = some;
         sits = w;
       }
@@ -277,7 +304,7 @@ module _ (t x : List ℕ) (ok : IndexedTable t x) (a b v : ℕ) (s : Searched t 
     abbrev test : Bool
     test = eqb (get_or t p 0) 4 && (eqb (id_at t (p + 1)) a && eqb (id_at t (p + 3)) b)
 
-    tested : test ≡ is_of 4 a b (head_of (front_record (drop p t)))
+    tested : test ≡ is_of 4 a b (front_of (front_record (drop p t)))
     tested = raw_test t p searched_at.sits searched_at.some (sits-whole t p searched_at.sits searched_at.some ok.clean) 4 a b (omega arith)
 
     cons : first_from t 4 a b v ≡ first_in 4 a b p (front_record (drop p t) ∷ records_of (drop (behind t p) t))
@@ -290,7 +317,7 @@ module _ (t x : List ℕ) (ok : IndexedTable t x) (a b v : ℕ) (s : Searched t 
         ∙ first_yes 4 a b p _ _ (sym tested ∙ h)
         ∙ sym e
 
-    pub searched_kind : (head_of (drop p t)).kind ≡ 4
+    pub searched_kind : (front_of (drop p t)).kind ≡ 4
     searched_kind = list_kind_lem t p searched_at.sits searched_at.some bucket (list-below (key_bucket 4 a b) (length t)) searched_at.own
 
     module _ (v' : ℕ) (next : v' ≡ get_or x (next_at (length t) p) 0) where
@@ -332,25 +359,25 @@ module _ (t x : List ℕ) (ok : IndexedTable t x) (a b v p v' : ℕ) (s : Search
 
 -- ---- a function at a place: its head and its key
 module _ (t : List ℕ) (p : Place) (f : FunctionAt t p) where
-  pub function_kind_lem : (head_of (drop p.at t)).kind ≡ 4
+  pub function_kind_lem : (front_of (drop p.at t)).kind ≡ 4
   function_kind_lem = same_kind (drop p.at t) ∙ f.kind
 
-  pub function-error : (head_of (drop p.at t)).error ≡ false
+  pub function-error : (front_of (drop p.at t)).error ≡ false
   function-error = same_error (drop p.at t) (kind_byte (drop p.at t) (omega (arith, f.kind))).0 ∙ f.error
 
 function-ids : (t : List ℕ) (p : Place) (f : FunctionAt t p)
-    → ((head_of (front_record (drop p.at t))).one ≡ id_at t (p.at + 1)) × ((head_of (front_record (drop p.at t))).two ≡ id_at t (p.at + 3))
+    → ((front_of (front_record (drop p.at t))).one ≡ id_at t (p.at + 1)) × ((front_of (front_record (drop p.at t))).two ≡ id_at t (p.at + 3))
 function-ids t p f =
     let o = sits-own t p.at f.sits f.some in
     let i = head_ids (drop p.at t) (omega (arith, function_kind_lem t p f)) in
-    (ap (λ (h : Head). h.one) o ∙ i.0 ∙ drop_id t p.at 1, ap (λ (h : Head). h.two) o ∙ i.1 ∙ drop_id t p.at 3)
+    (ap (λ (h : Front). h.one) o ∙ i.0 ∙ drop_id t p.at 1, ap (λ (h : Front). h.two) o ∙ i.1 ∙ drop_id t p.at 3)
 
 pub function-keyed : (t : List ℕ) (p : Place) → FunctionAt t p → key_of (first_record (drop p.at t)) ≡ id_at t (p.at + 1) ∷ id_at t (p.at + 3) ∷ []
 function-keyed t p f =
     let o = sits-own t p.at f.sits f.some in
     let i = function-ids t p f in
     ap (λ (n : ℕ). key_of (take n (drop p.at t))) (sym (same_size (drop p.at t)))
-    ∙ function_key (front_record (drop p.at t)) (ap (λ (h : Head). h.kind) o ∙ function_kind_lem t p f)
+    ∙ function_key (front_record (drop p.at t)) (ap (λ (h : Front). h.kind) o ∙ function_kind_lem t p f)
     ∙ (λ j. i.0 j ∷ i.1 j ∷ [])
 
 -- ---- where a search begins
@@ -373,10 +400,10 @@ module _ (t x : List ℕ) (ok : IndexedTable t x) where
     unfolding list_in bucket_of choose
     key =
         let o = sits-own t p.at f.sits f.some in
-        let k : (head_of (front_record (drop p.at t))).kind ≡ 4 = ap (λ (h : Head). h.kind) o ∙ function_kind_lem t p f in
+        let k : (front_of (front_record (drop p.at t))).kind ≡ 4 = ap (λ (h : Front). h.kind) o ∙ function_kind_lem t p f in
         let i = function-ids t p f in
-        let one : (head_of (front_record (drop p.at t))).one ≡ a = i.0 ∙ sym ea in
-        let two : (head_of (front_record (drop p.at t))).two ≡ b = i.1 ∙ sym eb in
+        let one : (front_of (front_record (drop p.at t))).one ≡ a = i.0 ∙ sym ea in
+        let two : (front_of (front_record (drop p.at t))).two ≡ b = i.1 ∙ sym eb in
         rw (k, one, two)
 
     pub next_first : Searched t v a b
@@ -399,24 +426,24 @@ module _ (t : List ℕ) (all : List Record) (k a b : ℕ) (p : Place) (h : HereI
   abbrev place : Cursor
   place = record { at = p.at; index = 0 }
 
-  pub place-fits : Fits k (head_of (drop p.at t)).len
+  pub place-fits : Fits k (front_of (drop p.at t)).len
   place-fits = rw (← h.kind) (head_fits (drop p.at t))
 
   pub place_inside : behind t p.at ≤ length t
   place_inside = sits-inside t p.at h.sits h.some
 
-  pub place_byte : (i : ℕ) → i < (head_of (drop p.at t)).len → get_or (front_record (drop p.at t)) i 0 ≡ get_or t (p.at + i) 0
+  pub place_byte : (i : ℕ) → i < (front_of (drop p.at t)).len → get_or (front_record (drop p.at t)) i 0 ≡ get_or t (p.at + i) 0
   place_byte i l = record_byte t place i 0 l
 
-  pub place_id : (i : ℕ) → i + 2 ≤ (head_of (drop p.at t)).len → id_at (front_record (drop p.at t)) i ≡ id_at t (p.at + i)
+  pub place_id : (i : ℕ) → i + 2 ≤ (front_of (drop p.at t)).len → id_at (front_record (drop p.at t)) i ≡ id_at t (p.at + i)
   place_id i l =
       let e : p.at + (i + 1) ≡ p.at + i + 1 = omega arith in
       rw (place_byte i (omega arith), place_byte (i + 1) (omega arith), e)
 
-  pub place-part : (i : ℕ) → drop i (front_record (drop p.at t)) ≡ take ((head_of (drop p.at t)).len - i) (drop (p.at + i) t)
+  pub place-part : (i : ℕ) → drop i (front_record (drop p.at t)) ≡ take ((front_of (drop p.at t)).len - i) (drop (p.at + i) t)
   place-part i = record_part t place i
 
-  ids : 2 ≤ k → ((head_of (drop p.at t)).one ≡ id_at (drop p.at t) 1) × ((head_of (drop p.at t)).two ≡ id_at (drop p.at t) 3)
+  ids : 2 ≤ k → ((front_of (drop p.at t)).one ≡ id_at (drop p.at t) 1) × ((front_of (drop p.at t)).two ≡ id_at (drop p.at t) 3)
   ids l = head_ids (drop p.at t) (omega (arith, h.kind))
 
   pub place-one : 2 ≤ k → id_at t (p.at + 1) ≡ a
@@ -425,5 +452,5 @@ module _ (t : List ℕ) (all : List Record) (k a b : ℕ) (p : Place) (h : HereI
   pub place_key : 4 ≤ k → id_at t (p.at + 3) ≡ b
   place_key l = sym ((ids (omega arith)).1 ∙ drop_id t p.at 3) ∙ h.two l
 
-  pub place-two : 2 ≤ k → (head_of (front_record (drop p.at t))).two ≡ id_at t (p.at + 3)
-  place-two l = ap (λ (x : Head). x.two) (sits-own t p.at h.sits h.some) ∙ (ids l).1 ∙ drop_id t p.at 3
+  pub place-two : 2 ≤ k → (front_of (front_record (drop p.at t))).two ≡ id_at t (p.at + 3)
+  place-two l = ap (λ (x : Front). x.two) (sits-own t p.at h.sits h.some) ∙ (ids l).1 ∙ drop_id t p.at 3

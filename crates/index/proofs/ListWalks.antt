@@ -10,7 +10,7 @@ use Rattle.index.proofs.ListSearch.{left_of, positive, searched_at, searched_fir
 use Rattle.index.specs.Inside.Bucket.{key_bucket}
 use Rattle.index.specs.Inside.Found.{first_from}
 use Rattle.index.specs.Inside.IndexedTable.{IndexedTable}
-use Rattle.index.specs.Inside.ListWalk.{list_start, here_has_key, list_step, list_followed}
+use Rattle.index.specs.Inside.ListWalk.{list_start, here_has_key, list_step, list_followed, NextAsked}
 use Rattle.index.specs.Inside.Searched.{Searched, with_at}
 use Rattle.index.specs.declared.list.ListCursor.{ListCursor}
 use Rattle.record.proofs.Accepts.{accepted_short}
@@ -28,6 +28,11 @@ moved c v = record { owner = c.owner; name = c.name; here = v }
 pub stays_end : (t : List ℕ) (c : ListCursor) → c.here ≡ 0 → c ≡ list_followed t c
 unfolding list_followed
 stays_end t c z = ap (moved c) (z ∙ ap (first_from t 4 c.owner c.name) (sym z))
+
+-- behind a function whose entry leads on in the bucket
+pub next_at_list : (t x : List ℕ) (c : ListCursor) → NextAsked t x c → ListAt t (list_step (length t) x c)
+unfolding list_step
+next_at_list t x c a = a.searched
 
 module _ (t x : List ℕ) (ok : IndexedTable t x) (c : ListCursor) (s : ListAt t c) where
   module _ (z : c.here ≡ 0 → ⊥) where

@@ -8,7 +8,7 @@ use mathlib.Core.List.{List}
 use mathlib.Core.Path.{◌≡◌, refl}
 use native.Mathlib.Omega.{arith}
 use Rattle.index.specs.Inside.IndexedTable.{IndexRoom}
-use Rattle.index.specs.Inside.Ahead.{LateRoom}
+use Rattle.index.specs.Inside.Ahead.{late_size, LateRoom}
 use Rattle.index.specs.Inside.Index.{bucket_count, list_count}
 use Rattle.index.proofs.Buckets.{buckets_some, buckets_few, buckets_bound, lists_some, lists_few, lists_bound}
 
@@ -42,12 +42,7 @@ room_long t =
     record { long = λ h. omega (arith, (buckets_bound (length t)).1, (lists_bound (length t)).1); blank = get_d_zeros 42435 }
 
 -- the room that is enough for the classes ahead
-pub late_short : (t : List ℕ) → length t ≤ 2048 → LateRoom t (replicate 118 0)
-late_short t h =
-    let n : length (replicate {A = ℕ} 118 0) ≡ 118 = length-replicate {A = ℕ} 118 0 in
-    record { long = omega arith; blank = get_d_zeros 118 }
-
-pub late_long : (t : List ℕ) → length t ≤ 60000 → LateRoom t (replicate 2347 0)
-late_long t h =
-    let n : length (replicate {A = ℕ} 2347 0) ≡ 2347 = length-replicate {A = ℕ} 2347 0 in
-    record { long = omega arith; blank = get_d_zeros 2347 }
+pub late_room : (t : List ℕ) (n : ℕ) → late_size (length t) ≤ n → LateRoom t (replicate n 0)
+late_room t n h =
+    let l : length (replicate {A = ℕ} n 0) ≡ n = length-replicate {A = ℕ} n 0 in
+    record { long = omega arith; blank = get_d_zeros n }

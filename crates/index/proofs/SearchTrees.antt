@@ -14,12 +14,12 @@ use Rattle.index.proofs.Chains.{behind-before}
 use Rattle.index.proofs.ListSearch.{positive, sits_later, sits-own}
 use Rattle.record.proofs.RecordSizes.{head_ways}
 use Rattle.index.specs.Inside.Bucket.{digit_of}
-use Rattle.record.specs.Inside.Front.{head_of}
+use Rattle.record.specs.Inside.Front.{front_of}
 use Rattle.record.specs.Inside.FrontRecord.{front_record}
 use Rattle.index.specs.Inside.Index.{bucket_count, tree_in, root_at, child_at, ways_in, index_size}
 use Rattle.record.specs.Inside.Walk.{ways_of, Sits, WholeRecordAt, behind}
 use Rattle.index.specs.Inside.SearchTree.{place_of, Led, TreeMember, ways_at, Held, Tree}
-use Rattle.record.specs.declared.front.Head.{Head}
+use Rattle.record.specs.Inside.Front.{Front}
 
 -- ---- a search in two indexes
 
@@ -150,10 +150,10 @@ module _ (t x : List ℕ) (e : ℕ) (g : Tree t x e) (end : Sits t e) (some : e 
       }
 
   -- ---- a function: no tree changes
-  module _ (y : List ℕ) (fn : (head_of (drop e t)).kind ≡ 4) (roots : (b : ℕ) → b < 2 * bucket_count (length t) → get_or y (root_at b) 0 ≡ get_or x (root_at b) 0)
+  module _ (y : List ℕ) (fn : (front_of (drop e t)).kind ≡ 4) (roots : (b : ℕ) → b < 2 * bucket_count (length t) → get_or y (root_at b) 0 ≡ get_or x (root_at b) 0)
       (entries : (p : ℕ) → TreeMember t e p → (c : ℕ) → c < ways_at t p → get_or y (child_at (length t) p c) 0 ≡ get_or x (child_at (length t) p c) 0) where
     old : (q : ℕ) → TreeMember t e' q → TreeMember t e q
-    old q k = node_less q k (λ d. k.other (subst (λ (i : ℕ). (head_of (drop i t)).kind ≡ 4) (sym d) fn))
+    old q k = node_less q k (λ d. k.other (subst (λ (i : ℕ). (front_of (drop i t)).kind ≡ 4) (sym d) fn))
 
     pub tree-function : Tree t y e'
     tree-function =
@@ -164,7 +164,7 @@ module _ (t x : List ℕ) (e : ℕ) (g : Tree t x e) (end : Sits t e) (some : e 
         }
 
   -- ---- another record: it stands in the empty entry where a search for its key ends
-  module _ (whole : (head_of (drop e t)).malformed ≡ false) (nf : (head_of (drop e t)).kind ≡ 4 → ⊥) (a depth : ℕ)
+  module _ (whole : (front_of (drop e t)).malformed ≡ false) (nf : (front_of (drop e t)).kind ≡ 4 → ⊥) (a depth : ℕ)
       (led : Led x (length t) (tree_in (length t) (front_record (drop e t))) (digit_of (front_record (drop e t))) depth)
       (place : a ≡ place_of x (length t) (tree_in (length t) (front_record (drop e t))) (digit_of (front_record (drop e t))) depth) (empty : get_or x a 0 ≡ 0)
       (blank : (j : ℕ) → child_at (length t) e 0 ≤ j → get_or x j 0 ≡ 0) (long : index_size (length t) ≤ length x) where
@@ -217,7 +217,7 @@ module _ (t x : List ℕ) (e : ℕ) (g : Tree t x e) (end : Sits t e) (some : e 
 
     -- it has the ways of its tree, and so has the record whose entry it fills
     own_ways : ways_at t e ≡ ways_in (length t) b₀
-    own_ways = ap (λ (h : Head). ways_of h.kind) (sym (sits-own t e end some)) ∙ ways_tree (length t) (front_record (drop e t))
+    own_ways = ap (λ (h : Front). ways_of h.kind) (sym (sits-own t e end some)) ∙ ways_tree (length t) (front_record (drop e t))
 
     root_tree : (b : ℕ) → b < 2 * bucket_count (length t) → root_at b ≡ a → b₀ ≡ b
     root_tree b l f = ⊎_elim (λ z. omega (arith, z, f)) (λ z. absurd (omega (arith, z.is, f, l))) spot

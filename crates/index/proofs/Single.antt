@@ -19,23 +19,23 @@ use Rattle.index.specs.Inside.SearchKey.{Single}
 use Rattle.index.specs.Inside.SearchTree.{TreeMember}
 use Rattle.index.specs.Inside.Spot.{Open, TakenIs, FreeIs, SpotIs}
 use Rattle.index.specs.Inside.TreeWalk.{search_of}
-use Rattle.index.specs.declared.index.Found.TheVariants.{Nothing, Here}
+use Rattle.std.specs.Prelude.{None, Some}
 use Rattle.index.specs.declared.index.Place.{Place}
 use Rattle.index.specs.declared.tree.Key.TheVariants.{Ids}
 use Rattle.index.specs.declared.tree.Spot.TheVariants.{Taken, Free}
 use Rattle.index.specs.declared.tree.Spot.{Spot}
 use Rattle.record.proofs.Accepts.{accepted_short}
 use Rattle.record.proofs.Records.{at_start}
-use Rattle.record.specs.Inside.Front.{head_of}
+use Rattle.record.specs.Inside.Front.{front_of}
 use Rattle.record.specs.Inside.FrontRecord.{front_record}
 use Rattle.record.specs.Inside.HeadFault.{same_key, has_key}
 use Rattle.record.specs.Inside.Keyed.{is_of}
 use Rattle.record.specs.Inside.Walk.{Sits, behind, before}
 use Rattle.record.specs.Table.{records_of}
-use Rattle.record.specs.declared.front.Head.{Head}
+use Rattle.record.specs.Inside.Front.{Front}
 
 -- records that are passed over
-passed_over_lem : (t : List ℕ) (k a b e : ℕ) → Sits t e → ((q : ℕ) → Sits t q → q < e → is_of k a b (head_of (front_record (drop q t))) ≡ false)
+passed_over_lem : (t : List ℕ) (k a b e : ℕ) → Sits t e → ((q : ℕ) → Sits t q → q < e → is_of k a b (front_of (front_record (drop q t))) ≡ false)
     → (m p : ℕ) → e - p ≤ m → Sits t p → p ≤ e → first_in k a b p (records_of (drop p t)) ≡ first_in k a b e (records_of (drop e t))
 passed_over_lem t k a b e v fails zero p h w l = let d : p ≡ e = omega arith in ap (λ (i : ℕ). first_in k a b i (records_of (drop i t))) d
 passed_over_lem t k a b e v fails (suc m) p h w l =
@@ -50,7 +50,7 @@ passed_over_lem t k a b e v fails (suc m) p h w l =
         let s : p < length t = omega (arith, v.at.inside) in
         first-behind t k a b p w s (fails p w c) ∙ ih s (behind-before t p e w v c)
 
-none_left : (t : List ℕ) (k a b : ℕ) → ((q : ℕ) → Sits t q → q < length t → is_of k a b (head_of (front_record (drop q t))) ≡ false)
+none_left : (t : List ℕ) (k a b : ℕ) → ((q : ℕ) → Sits t q → q < length t → is_of k a b (front_of (front_record (drop q t))) ≡ false)
     → (m p : ℕ) → length t - p ≤ m → Sits t p → first_in k a b p (records_of (drop p t)) ≡ 0
 none_left t k a b fails zero p h w = first-end t k a b p (omega arith)
 none_left t k a b fails (suc m) p h w =
@@ -68,14 +68,14 @@ module _ (t x : List ℕ) (ok : IndexedTable t x) (k a b : ℕ) (one : Single k)
   start = record { index = 0; at = at_start t }
 
   -- the first record that passes is the only one
-  module _ (p : ℕ) (w : Sits t p) (some : p < length t) (yes : is_of k a b (head_of (front_record (drop p t))) ≡ true) where
+  module _ (p : ℕ) (w : Sits t p) (some : p < length t) (yes : is_of k a b (front_of (front_record (drop p t))) ≡ true) where
     fresh : has_key (front_record (drop p t)) (before w.index (records_of t)) ≡ false
     fresh = (sits-clean t p w some ok.clean).fresh
 
-    alone : (q : ℕ) → Sits t q → q < p → is_of k a b (head_of (front_record (drop q t))) ≡ false
-    alone q v l = go (is_of k a b (head_of (front_record (drop q t)))) refl
+    alone : (q : ℕ) → Sits t q → q < p → is_of k a b (front_of (front_record (drop q t))) ≡ false
+    alone q v l = go (is_of k a b (front_of (front_record (drop q t)))) refl
       where
-        go : (u : Bool) → is_of k a b (head_of (front_record (drop q t))) ≡ u → is_of k a b (head_of (front_record (drop q t))) ≡ false
+        go : (u : Bool) → is_of k a b (front_of (front_record (drop q t))) ≡ u → is_of k a b (front_of (front_record (drop q t))) ≡ false
         go false z = z
         go true z =
             let s : same_key (front_record (drop q t)) (front_record (drop p t)) ≡ true = of_both k a b (front_record (drop q t)) (front_record (drop p t)) one z yes in
@@ -91,18 +91,18 @@ module _ (t x : List ℕ) (ok : IndexedTable t x) (k a b : ℕ) (one : Single k)
   single_free : (s : ℕ) → FreeIs t x (Ids k a b) s → first_with t k a b ≡ 0
   single_free s free = none_left t k a b none (length t) 0 (omega arith) start
     where
-      none : (q : ℕ) → Sits t q → q < length t → is_of k a b (head_of (front_record (drop q t))) ≡ false
-      none q v l = go (is_of k a b (head_of (front_record (drop q t)))) refl
+      none : (q : ℕ) → Sits t q → q < length t → is_of k a b (front_of (front_record (drop q t))) ≡ false
+      none q v l = go (is_of k a b (front_of (front_record (drop q t)))) refl
         where
-          node : is_of k a b (head_of (front_record (drop q t))) ≡ true → TreeMember t (length t) q
+          node : is_of k a b (front_of (front_record (drop q t))) ≡ true → TreeMember t (length t) q
           node z =
               record {
                 begun = record { sits = v; some = l; whole = sits-whole t q v l ok.clean };
                 low = l;
-                other = λ f. one.other (sym (sym (ap (λ (h : Head). h.kind) (sits-own t q v l)) ∙ of_kind_lem k a b (front_record (drop q t)) z) ∙ f);
+                other = λ f. one.other (sym (sym (ap (λ (h : Front). h.kind) (sits-own t q v l)) ∙ of_kind_lem k a b (front_record (drop q t)) z) ∙ f);
               }
 
-          go : (u : Bool) → is_of k a b (head_of (front_record (drop q t))) ≡ u → is_of k a b (head_of (front_record (drop q t))) ≡ false
+          go : (u : Bool) → is_of k a b (front_of (front_record (drop q t))) ≡ u → is_of k a b (front_of (front_record (drop q t))) ≡ false
           go false z = z
           go true z = absurd (not-met t x (length t) ok.indexed.tree (Ids k a b) one.low s free q (node z) z)
 
@@ -111,8 +111,8 @@ module _ (t x : List ℕ) (ok : IndexedTable t x) (k a b : ℕ) (one : Single k)
     spot : SpotIs t x (length t) (Ids k a b) r
     spot = search_spot t x (Ids k a b) (accepted_open t x ok) r is (length t) ok.indexed.tree
 
-    pub single_found : (p : Place) → r ≡ Taken p → Here p ≡ found_at (first_with t k a b)
+    pub single_found : (p : Place) → r ≡ Taken p → Some p ≡ found_at (first_with t k a b)
     single_found p e = ap found_at (sym (single_taken p (subst (SpotIs t x (length t) (Ids k a b)) e spot)))
 
-    pub single_nothing : (s : ℕ) → r ≡ Free s → Nothing ≡ found_at (first_with t k a b)
+    pub single_nothing : (s : ℕ) → r ≡ Free s → None ≡ found_at (first_with t k a b)
     single_nothing s e = ap found_at (sym (single_free s (subst (SpotIs t x (length t) (Ids k a b)) e spot)))

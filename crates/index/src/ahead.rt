@@ -1,20 +1,25 @@
 // The classes ahead: for each id the last class record from a record on.
-ghost use Rattle.std.specs.Prelude.{◌≡◌, ◌≤◌, ◌<◌, ltb, length, get_or};
+ghost use Rattle.std.specs.Prelude.{◌≡◌, ◌≤◌, ◌<◌, ltb, length, get_or, List, ℕ};
 ghost use Rattle.index.specs.Inside.Ahead.{marked, marked_from};
+ghost use Rattle.record.specs.Inside.Front.{front_at};
 ghost use Rattle.record.specs.Inside.Walk.{CursorAt};
 
-use crate::index::{entry_at, number, put};
+use crate::index::{entry_at, put};
+use record::front::{Head, RecordKind};
 use record::walk::Cursor;
 
-// The record at p, of a kind and a first id, comes into the entries if it is a class whose id has one.
-fn mark(late: &mut [u16], kind: u8, one: u16, p: usize)
+// The record at p comes into the entries if it is a class whose id has one.
+fn mark(late: &mut [u16], head: Option<Head>, p: usize)
     requires { p < 65535 }
-    ensures { late.new ≡ marked kind one p late.old }
+    ensures { (s : List ℕ) → late.new ≡ marked (front_at s head).kind (front_at s head).one p late.old }
 {
-    if kind != 2 {
+    let Some(h) = head else {
+        return;
+    };
+    if h.kind != RecordKind::Class {
         return;
     }
-    let i = number(one);
+    let i = h.one as usize;
     if late.len() <= i {
         return;
     }
@@ -29,8 +34,7 @@ pub fn look_ahead(t: &[u8], me: Cursor, late: &mut [u16])
     let mut c = me;
     while c.at < t.len() {
         let s = c.step(t);
-        let h = s.head;
-        mark(late, h.kind, h.one, c.at);
+        mark(late, s.head, c.at);
         c = s.next;
     }
 }
@@ -39,5 +43,5 @@ pub fn look_ahead(t: &[u8], me: Cursor, late: &mut [u16])
 pub fn class_ahead(late: &[u16], p: usize, id: u16) -> bool
     ensures { result ≡ ltb p (get_or late.now id 0) }
 {
-    p < entry_at(late, number(id))
+    p < entry_at(late, id as usize)
 }

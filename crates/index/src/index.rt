@@ -1,7 +1,10 @@
 // The index of a table: its entries.
 ghost use Rattle.std.specs.Prelude.{◌≡◌, ◌%◌, ◌≤◌, ◌<◌, length, get_or, set};
 ghost use Rattle.index.specs.Inside.Bucket.{key_bucket};
-ghost use Rattle.index.specs.Inside.Index.{bucket_count, list_count, child_at, unit_base};
+ghost use Rattle.index.specs.Inside.Index.{size_of, sized, bucket_count, list_count, first_at, last_at, child_at};
+ghost use Rattle.index.specs.Inside.SearchKey.{has_ids};
+
+use ty::{byte_at, id_at};
 
 // A table of at most so many bytes has a small index.
 pub const SHORT_TABLE: usize = 2048;
@@ -15,27 +18,45 @@ pub struct Place {
     pub at: usize,
 }
 
-#[derive(Clone, Copy)]
-pub enum Found {
-    Nothing,
-    Here(Place),
+// How large the index of a table is.
+#[derive(Clone, Copy, PartialEq, Eq)]
+pub enum TableSize {
+    Short,
+    Middle,
+    Long,
 }
 
-// An id or an entry as a number.
-pub fn number(id: u16) -> usize
-    ensures { (result ≡ id) × (result < 65536) }
-{
-    id as usize
+impl TableSize {
+    // That of a table of n bytes.
+    pub fn of(n: usize) -> TableSize
+        ensures { result ≡ size_of n }
+    {
+        if MIDDLE_TABLE < n {
+            return TableSize::Long;
+        }
+        if SHORT_TABLE < n {
+            return TableSize::Middle;
+        }
+        TableSize::Short
+    }
+
+    // One of three numbers. They are all given, so that a division is by a constant.
+    fn pick(self, short: usize, middle: usize, long: usize) -> usize
+        ensures { result ≡ sized self short middle long }
+    {
+        match self {
+            TableSize::Short => short,
+            TableSize::Middle => middle,
+            TableSize::Long => long,
+        }
+    }
 }
 
 // An entry, with 0 past the end.
 pub fn entry_at(x: &[u16], i: usize) -> usize
     ensures { result ≡ get_or x.now i 0 }
 {
-    if i < x.len() {
-        return number(x[i]);
-    }
-    0
+    x.get(i).copied().unwrap_or(0) as usize
 }
 
 // Writes an entry.
@@ -50,65 +71,44 @@ pub fn put(x: &mut [u16], i: usize, v: u16)
 pub fn bucket_count(n: usize) -> usize
     ensures { (result ≡ bucket_count n) × (result ≤ 8192) }
 {
-    if MIDDLE_TABLE < n {
-        return 8192;
-    }
-    if SHORT_TABLE < n {
-        return 2048;
-    }
-    256
+    TableSize::of(n).pick(256, 2048, 8192)
 }
 
 // How many buckets of lists there are.
 pub fn list_count(n: usize) -> usize
     ensures { (result ≡ list_count n) × (result ≤ 1024) }
 {
-    if MIDDLE_TABLE < n {
-        return 1024;
-    }
-    if SHORT_TABLE < n {
-        return 256;
-    }
-    64
+    TableSize::of(n).pick(64, 256, 1024)
 }
 
 // The bucket of a number among those of a table of n bytes.
 pub fn reduced(h: usize, n: usize) -> usize
     ensures { (result ≡ h % bucket_count n) × (result < bucket_count n) × (result < 8192) }
 {
-    if MIDDLE_TABLE < n {
-        return h % 8192;
-    }
-    if SHORT_TABLE < n {
-        return h % 2048;
-    }
-    h % 256
+    TableSize::of(n).pick(h % 256, h % 2048, h % 8192)
 }
 
 // The bucket of a number among the lists.
 pub fn list_reduced(h: usize, n: usize) -> usize
     ensures { (result ≡ h % list_count n) × (result < list_count n) × (result < 1024) }
 {
-    if MIDDLE_TABLE < n {
-        return h % 1024;
-    }
-    if SHORT_TABLE < n {
-        return h % 256;
-    }
-    h % 64
+    TableSize::of(n).pick(h % 64, h % 256, h % 1024)
 }
 
-// Where the entries of the first 5 bytes stand.
-fn unit_base(n: usize) -> usize
-    ensures { (result ≡ unit_base n) × (result < 32768) }
+// Where the entry of a list's first function stands.
+pub fn first_at(n: usize, b: usize) -> usize
+    requires { b < list_count n }
+    ensures { result ≡ first_at n b }
 {
-    if MIDDLE_TABLE < n {
-        return 18433;
-    }
-    if SHORT_TABLE < n {
-        return 4609;
-    }
-    641
+    1 + 2 * bucket_count(n) + b
+}
+
+// Where the entry of a list's last function stands.
+pub fn last_at(n: usize, b: usize) -> usize
+    requires { b < list_count n }
+    ensures { result ≡ last_at n b }
+{
+    1 + 2 * bucket_count(n) + list_count(n) + b
 }
 
 // Where the entry c of the record at p stands.
@@ -116,7 +116,15 @@ pub fn child_at(n: usize, p: usize, c: usize) -> usize
     requires { c < 8 }
     ensures { result ≡ child_at n p c }
 {
-    unit_base(n) + 2 * (p / 5) + c
+    TableSize::of(n).pick(641, 4609, 18433) + 2 * (p / 5) + c
+}
+
+// The record at p is of a kind and has a key; of kinds 2 and 3 the key is the first id alone.
+pub fn has_ids(t: &[u8], p: usize, kind: u8, one: u16, two: u16) -> bool
+    requires { p ≤ 60000 }
+    ensures { result ≡ has_ids t.now p kind one two }
+{
+    (byte_at(t, p) == kind) & ((id_at(t, p + 1) == one) & ((kind < 4) | (id_at(t, p + 3) == two)))
 }
 
 // A number for the key of a record of kind 2 or more.
@@ -124,7 +132,7 @@ pub fn key_bucket(kind: u8, one: u16, two: u16) -> usize
     ensures { (result ≡ key_bucket kind one two) × (result < 65536) }
 {
     if kind < 4 {
-        return number(one);
+        return one as usize;
     }
-    (number(one) * 509 + number(two)) % 65536
+    (one as usize * 509 + two as usize) % 65536
 }

@@ -4,4 +4,5 @@
 pub mod ahead;
 pub mod index;
 pub mod list;
+pub mod table;
 pub mod tree;

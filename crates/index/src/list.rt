@@ -1,16 +1,15 @@
 // The lists of functions in the index: one chain for each bucket, in table order.
-ghost use Rattle.std.specs.Prelude.{◌≡◌, ◌&&◌, ◌≤◌, ◌<◌, eqb, length};
+ghost use Rattle.std.specs.Prelude.{◌≡◌, ◌≤◌, ◌<◌, length};
 ghost use Rattle.index.specs.Inside.IndexedTable.{IndexedTable};
 ghost use Rattle.index.specs.Inside.Found.{found_at};
 ghost use Rattle.index.specs.Inside.Entered.{EntryAsked, link_at, entered};
 ghost use Rattle.index.specs.Inside.Index.{list_count};
 ghost use Rattle.index.specs.Inside.Searched.{Searched};
-ghost use Rattle.index.specs.Inside.ListWalk.{list_start, here_has_key, list_step, list_followed};
+ghost use Rattle.index.specs.Inside.ListWalk.{list_start, here_has_key, list_step, list_followed, NextAsked};
 
 use crate::index::{
-    Found, Place, bucket_count, child_at, entry_at, key_bucket, list_count, list_reduced, put,
+    Place, child_at, entry_at, first_at, has_ids, key_bucket, last_at, list_reduced, put,
 };
-use ty::{byte_at, id_at};
 
 // Where the entry for a function stands that comes into bucket b behind its last function, or as its first.
 fn link_at(n: usize, b: usize, last: usize) -> usize
@@ -18,7 +17,7 @@ fn link_at(n: usize, b: usize, last: usize) -> usize
     ensures { result ≡ link_at n b last }
 {
     if last == 0 {
-        return 1 + 2 * bucket_count(n) + b;
+        return first_at(n, b);
     }
     child_at(n, last - 1, 0)
 }
@@ -28,18 +27,11 @@ pub fn enter(x: &mut [u16], n: usize, b: usize, p: usize)
     requires { EntryAsked x.old n b p }
     ensures { x.new ≡ entered n b p x.old }
 {
-    let at = 1 + 2 * bucket_count(n) + list_count(n) + b;
+    let at = last_at(n, b);
     let last = entry_at(x, at);
     let v = (p + 1) as u16;
     put(x, link_at(n, b, last), v);
     put(x, at, v);
-}
-
-// A record with kind k and ids i and j is a function with a key.
-fn is_function(k: u8, i: u16, j: u16, one: u16, two: u16) -> bool
-    ensures { result ≡ (eqb k 4 && (eqb i one && eqb j two)) }
-{
-    (k == 4) & ((i == one) & (j == two))
 }
 
 // A place in the list of a bucket: the owner and the name that are looked for, and the function here by its first byte, counted from 1; 0 is the list's end.
@@ -60,18 +52,18 @@ impl ListCursor {
         ListCursor {
             owner,
             name,
-            here: entry_at(x, 1 + 2 * bucket_count(n) + b),
+            here: entry_at(x, first_at(n, b)),
         }
     }
 
     // The function here.
-    pub fn found(self) -> Found
+    pub fn found(self) -> Option<Place>
         ensures { result ≡ found_at self.here }
     {
         if self.here == 0 {
-            return Found::Nothing;
+            return None;
         }
-        Found::Here(Place { at: self.here - 1 })
+        Some(Place { at: self.here - 1 })
     }
 
     // The function here has the owner and the name.
@@ -79,14 +71,7 @@ impl ListCursor {
         requires { (0 < self.here) × (self.here ≤ 60000) }
         ensures { result ≡ here_has_key t.now self }
     {
-        let p = self.here - 1;
-        is_function(
-            byte_at(t, p),
-            id_at(t, p + 1),
-            id_at(t, p + 3),
-            self.owner,
-            self.name,
-        )
+        has_ids(t, self.here - 1, 4, self.owner, self.name)
     }
 
     // At the next function of the bucket.
@@ -114,5 +99,20 @@ impl ListCursor {
             c = c.step(t, x);
         }
         c
+    }
+    // At the first function with an owner and a name.
+    pub fn first(t: &[u8], x: &[u16], owner: u16, name: u16) -> ListCursor
+        requires { IndexedTable t.now x.now }
+        ensures { result ≡ list_followed t.now (list_start (length t.now) x.now owner name) }
+    {
+        ListCursor::new(t, x, owner, name).follow(t, x)
+    }
+
+    // At the first function with the owner and the name behind the one here.
+    pub fn next(self, t: &[u8], x: &[u16]) -> ListCursor
+        requires { IndexedTable t.now x.now × NextAsked t.now x.now self }
+        ensures { result ≡ list_followed t.now (list_step (length t.now) x.now self) }
+    {
+        self.step(t, x).follow(t, x)
     }
 }

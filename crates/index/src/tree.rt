@@ -1,5 +1,5 @@
 // The search trees of the index.
-ghost use Rattle.std.specs.Prelude.{◌≡◌, ◌&&◌, ◌||◌, ℕ, ◌+◌, ◌-◌, ◌%◌, ◌≤◌, ◌<◌, ltb, eqb, length, drop, take};
+ghost use Rattle.std.specs.Prelude.{◌≡◌, ℕ, ◌+◌, ◌-◌, ◌≤◌, ◌<◌, ltb, length, drop, take};
 ghost use Rattle.ty.specs.Choose.{choose};
 ghost use Rattle.index.specs.Inside.IndexedTable.{IndexedTable};
 ghost use Rattle.index.specs.Inside.Found.{first_with, found_at};
@@ -10,8 +10,8 @@ ghost use Rattle.record.specs.Inside.FrontRecord.{front_record};
 ghost use Rattle.index.specs.Inside.Spot.{Open};
 ghost use Rattle.index.specs.Inside.TreeWalk.{tree_start, spot_at, TreeStepAsked, tree_step, search_of};
 
-use crate::index::{Found, Place, bucket_count, child_at, entry_at, key_bucket, number, reduced};
-use ty::{byte_at, id_at, same_bytes};
+use crate::index::{Place, bucket_count, child_at, entry_at, has_ids, key_bucket, reduced};
+use ty::{byte_at, same_bytes};
 
 // What a search looks for: the name of the record at a place, or a kind from 2 on with its ids.
 #[derive(Clone, Copy)]
@@ -43,19 +43,11 @@ fn hash(name: &[u8]) -> usize
 {
     let mut sum: usize = 0;
     let mut weight: usize = 173;
-    let mut i: usize = 0;
-    while i < 24 {
-        sum = sum + wide(byte_at(name, i)) * weight;
+    for i in 0..24usize {
+        sum += byte_at(name, i) as usize * weight;
         weight = (weight * 463 + 7) % 32749;
-        i += 1;
     }
     sum % 65536
-}
-
-fn wide(b: u8) -> usize
-    ensures { (result ≡ b) × (result < 256) }
-{
-    b as usize
 }
 
 // The tree of a key.
@@ -75,8 +67,8 @@ fn word_at(name: &[u8], i: usize) -> usize
     requires { i < 4294967296 }
     ensures { (result ≡ word_at name.now i) × (result < 4294967296) }
 {
-    let low = wide(byte_at(name, i)) + 256 * wide(byte_at(name, i + 1));
-    let high = wide(byte_at(name, i + 2)) + 256 * wide(byte_at(name, i + 3));
+    let low = byte_at(name, i) as usize + 256 * (byte_at(name, i + 1) as usize);
+    let high = byte_at(name, i + 2) as usize + 256 * (byte_at(name, i + 3) as usize);
     low + 65536 * high
 }
 
@@ -95,10 +87,8 @@ fn digest(name: &[u8]) -> usize
     ensures { result ≡ digest_of 15 name.now }
 {
     let mut s: usize = 11400714819323198485;
-    let mut k: usize = 0;
-    while k < 15 {
+    for k in 0..15usize {
         s = digest_round(s, word_at(name, 4 * k % 24));
-        k += 1;
     }
     s
 }
@@ -110,7 +100,7 @@ fn second(kind: u8, two: u16) -> usize
     if kind < 4 {
         return 0;
     }
-    number(two)
+    two as usize
 }
 
 // The number that a key's digits are taken from behind d records; h is that behind one record less.
@@ -128,7 +118,7 @@ fn digits(t: &[u8], key: Key, h: usize, d: usize) -> usize
             }
             h
         }
-        Key::Ids { kind, one, two } => number(one) + 65536 * second(kind, two),
+        Key::Ids { kind, one, two } => one as usize + 65536 * second(kind, two),
     }
 }
 
@@ -143,7 +133,7 @@ fn digit(t: &[u8], key: Key, h: usize, d: usize) -> usize
                 return (h >> (3 * d)) % 8;
             }
             let b = byte_at(name_at(t, at.at), d % 24);
-            (wide(b) >> (3 * (d / 24 % 3))) % 8
+            (b as usize >> (3 * (d / 24 % 3))) % 8
         }
         Key::Ids {
             kind: _,
@@ -151,13 +141,6 @@ fn digit(t: &[u8], key: Key, h: usize, d: usize) -> usize
             two: _,
         } => (h >> (d % 32)) % 2,
     }
-}
-
-// A record with kind k and ids i and j is of a kind and has a key; of kinds 2 and 3 the key is the first id alone.
-fn is_of(k: u8, i: u16, j: u16, kind: u8, one: u16, two: u16) -> bool
-    ensures { result ≡ (eqb k kind && (eqb i one && (ltb kind 4 || eqb j two))) }
-{
-    (k == kind) & ((i == one) & ((kind < 4) | (j == two)))
 }
 
 // The record at p has a key.
@@ -172,14 +155,7 @@ fn has(t: &[u8], p: usize, key: Key) -> bool
             }
             same_bytes(name_at(t, p), name_at(t, at.at))
         }
-        Key::Ids { kind, one, two } => is_of(
-            byte_at(t, p),
-            id_at(t, p + 1),
-            id_at(t, p + 3),
-            kind,
-            one,
-            two,
-        ),
+        Key::Ids { kind, one, two } => has_ids(t, p, kind, one, two),
     }
 }
 
@@ -250,14 +226,13 @@ pub fn search(t: &[u8], x: &[u16], key: Key, b: usize) -> Spot
 }
 
 // The only record of a kind, from 2 on and not 4, with a key.
-pub fn seek(t: &[u8], x: &[u16], kind: u8, one: u16, two: u16) -> Found
+pub fn seek(t: &[u8], x: &[u16], kind: u8, one: u16, two: u16) -> Option<Place>
     requires { IndexedTable t.now x.now × Single kind }
     ensures { result ≡ found_at (first_with t.now kind one two) }
 {
     let key = Key::Ids { kind, one, two };
-    let spot = search(t, x, key, tree_of(t, key));
-    match spot {
-        Spot::Taken(p) => Found::Here(p),
-        Spot::Free(_) => Found::Nothing,
+    match search(t, x, key, tree_of(t, key)) {
+        Spot::Taken(p) => Some(p),
+        Spot::Free(_) => None,
     }
 }

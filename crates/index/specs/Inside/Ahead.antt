@@ -1,7 +1,7 @@
 -- The classes at a byte of the table or behind it: for each id the last class record that has it.
 use Rattle.std.specs.Prelude.{ℕ, zero, suc, ◌+◌, ◌/◌, ◌≤◌, ◌<◌, Bool, true, false, ◌≡◌, List, [], ◌∷◌, length, get_or, set, drop, eqb}
 use Rattle.ty.specs.Choose.{choose}
-use Rattle.record.specs.Inside.Front.{head_of}
+use Rattle.record.specs.Inside.Front.{front_of}
 use Rattle.record.specs.Inside.HeadFault.{is_class}
 use Rattle.record.specs.Table.{Record, records_of}
 use Rattle.record.specs.Inside.Walk.{Sits}
@@ -14,7 +14,7 @@ or_else (suc v) w = suc v
 -- the last class record of an id among some, of which the first begins at byte p: by its first byte, counted from 1; 0 is none
 unfoldable pub last_class : ℕ → ℕ → List Record → ℕ
 last_class id p [] = 0
-last_class id p (r ∷ rs) = or_else (last_class id (p + length r) rs) (choose (is_class id (head_of r)) (suc p) 0)
+last_class id p (r ∷ rs) = or_else (last_class id (p + length r) rs) (choose (is_class id (front_of r)) (suc p) 0)
 
 -- the last class record at byte e or behind it, for each id that has an entry
 pub record Ahead (t late : List ℕ) (e : ℕ) : Type 0 where
@@ -28,7 +28,7 @@ marked kind one p late = choose (eqb kind 2) (set late one (suc p)) late
 -- some records come into the entries, one after the other, of which the first begins at byte p; and those at byte p or behind it
 unfoldable pub all_marked : ℕ → List Record → List ℕ → List ℕ
 all_marked p [] late = late
-all_marked p (r ∷ rs) late = all_marked (p + length r) rs (marked (head_of r).kind (head_of r).one p late)
+all_marked p (r ∷ rs) late = all_marked (p + length r) rs (marked (front_of r).kind (front_of r).one p late)
 
 abbrev pub marked_from : List ℕ → ℕ → List ℕ → List ℕ
 marked_from t p late = all_marked p (records_of (drop p t)) late

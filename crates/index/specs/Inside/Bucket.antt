@@ -2,7 +2,7 @@
 -- key have one bucket and the same digits; nothing but speed depends on which they are.
 use Rattle.std.specs.Prelude.{ℕ, zero, suc, ◌+◌, ◌*◌, ◌/◌, ◌%◌, ◌^◌, List, get_or, ltb, eqb}
 use Rattle.ty.specs.Choose.{choose}
-use Rattle.record.specs.Inside.Front.{head_of}
+use Rattle.record.specs.Inside.Front.{front_of}
 use Rattle.record.specs.Inside.HeadFault.{name_bytes}
 use Rattle.record.specs.Table.{Record}
 
@@ -25,7 +25,7 @@ unfoldable pub key_bucket : ℕ → ℕ → ℕ → ℕ
 key_bucket kind one two = choose (ltb kind 4) one ((one * 509 + two) % 65536)
 
 unfoldable pub bucket_of : Record → ℕ
-bucket_of r = choose (eqb (head_of r).kind 1) (hash_of 24 (name_bytes r)) (key_bucket (head_of r).kind (head_of r).one (head_of r).two)
+bucket_of r = choose (eqb (front_of r).kind 1) (hash_of 24 (name_bytes r)) (key_bucket (front_of r).kind (front_of r).one (front_of r).two)
 
 -- four bytes of a name from byte i on as a number, low byte first
 unfoldable pub word_at : List ℕ → ℕ → ℕ
@@ -59,4 +59,4 @@ unfoldable pub key_digit : ℕ → ℕ → ℕ → ℕ → ℕ
 key_digit kind one two d = key_digits kind one two / 2 ^ (d % 32) % 2
 
 unfoldable pub digit_of : Record → ℕ → ℕ
-digit_of r = choose (eqb (head_of r).kind 1) (name_digit (name_bytes r)) (key_digit (head_of r).kind (head_of r).one (head_of r).two)
+digit_of r = choose (eqb (front_of r).kind 1) (name_digit (name_bytes r)) (key_digit (front_of r).kind (front_of r).one (front_of r).two)

@@ -1,7 +1,7 @@
 -- The lists of functions before a byte of the table: what the index holds of them while the table is checked.
 use Rattle.std.specs.Prelude.{ℕ, suc, ◌-◌, ◌≤◌, ◌<◌, ◌≡◌, false, List, length, get_or, set, drop, leb, eqb}
 use Rattle.ty.specs.Choose.{choose}
-use Rattle.record.specs.Inside.Front.{head_of}
+use Rattle.record.specs.Inside.Front.{front_of}
 use Rattle.record.specs.Inside.FrontRecord.{front_record}
 use Rattle.index.specs.Inside.Index.{list_count, list_in, first_at, last_at, next_at, next_from, index_size}
 use Rattle.record.specs.Inside.Walk.{Sits, behind}
@@ -14,9 +14,9 @@ clipped e v = choose (leb v e) v 0
 pub record Entered (t x : List ℕ) (e : ℕ) : Type 0 where
   pub end : Sits t e
   pub first : (b : ℕ) → b < list_count (length t) → get_or x (first_at (length t) b) 0 ≡ clipped e (next_from t b 0)
-  pub next : (p : ℕ) → Sits t p → p < e → (head_of (drop p t)).kind ≡ 4
+  pub next : (p : ℕ) → Sits t p → p < e → (front_of (drop p t)).kind ≡ 4
       → get_or x (next_at (length t) p) 0 ≡ clipped e (next_from t (list_in (length t) (front_record (drop p t))) (behind t p))
-  pub whole : (p : ℕ) → Sits t p → p < e → (head_of (drop p t)).malformed ≡ false
+  pub whole : (p : ℕ) → Sits t p → p < e → (front_of (drop p t)).malformed ≡ false
 
 -- a function at byte p comes into bucket b: behind the bucket's last function, or as its first
 unfoldable pub link_at : ℕ → ℕ → ℕ → ℕ

@@ -1,9 +1,7 @@
 -- What a search for the records of a kind with a key finds.
-use Rattle.std.specs.Prelude.{ℕ, zero, suc, ◌+◌, ◌≤◌, ◌<◌, length, drop, false, List, [], ◌∷◌, ◌≡◌}
-use Rattle.index.specs.declared.index.Found.TheVariants as found
-use Rattle.index.specs.declared.index.Found.{Found}
+use Rattle.std.specs.Prelude.{ℕ, zero, suc, ◌+◌, ◌≤◌, ◌<◌, length, drop, false, List, [], ◌∷◌, ◌≡◌, Option, None, Some}
 use Rattle.index.specs.declared.index.Place.{Place}
-use Rattle.record.specs.Inside.Front.{head_of}
+use Rattle.record.specs.Inside.Front.{front_of}
 use Rattle.record.specs.Inside.FrontRecord.{front_record}
 use Rattle.record.specs.Inside.Keyed.{is_of, records_with}
 use Rattle.record.specs.Inside.Walk.{Sits, behind}
@@ -14,7 +12,7 @@ use Rattle.ty.specs.Choose.{choose}
 -- the first record of kind k with the key a, b among some, of which the first begins at byte p: by its first byte, counted from 1; 0 is none
 unfoldable pub first_in : ℕ → ℕ → ℕ → ℕ → List Record → ℕ
 first_in k a b p [] = 0
-first_in k a b p (r ∷ rs) = choose (is_of k a b (head_of r)) (suc p) (first_in k a b (p + length r) rs)
+first_in k a b p (r ∷ rs) = choose (is_of k a b (front_of r)) (suc p) (first_in k a b (p + length r) rs)
 
 -- the first in the table, and from the record v on
 abbrev pub first_with : List ℕ → ℕ → ℕ → ℕ → ℕ
@@ -24,24 +22,28 @@ abbrev pub first_from : List ℕ → ℕ → ℕ → ℕ → ℕ → ℕ
 first_from t k a b zero = 0
 first_from t k a b (suc p) = first_in k a b p (records_of (drop p t))
 
+-- what a search for a record finds: its place, or nothing
+abbrev pub Found : Type 0
+Found = Option Place
+
 -- a record that is given so, as a place
 abbrev pub found_at : ℕ → Found
-found_at zero = found.Nothing
-found_at (suc p) = found.Here (record { at = p })
+found_at zero = None
+found_at (suc p) = Some (record { at = p })
 
 -- one that stands at a place, and the others behind it
 pub record HereIs (t : List ℕ) (all : List Record) (k a b : ℕ) (p : Place) : Type 0 where
   pub first : all ≡ front_record (drop p.at t) ∷ records_with k a b (records_of (drop (behind t p.at) t))
-  pub kind : (head_of (drop p.at t)).kind ≡ k
-  pub one : (head_of (drop p.at t)).one ≡ a
-  pub two : 4 ≤ k → (head_of (drop p.at t)).two ≡ b
-  pub error : (head_of (drop p.at t)).error ≡ false
+  pub kind : (front_of (drop p.at t)).kind ≡ k
+  pub one : (front_of (drop p.at t)).one ≡ a
+  pub two : 4 ≤ k → (front_of (drop p.at t)).two ≡ b
+  pub error : (front_of (drop p.at t)).error ≡ false
   pub some : p.at < length t
   pub sits : Sits t p.at
 
 abbrev pub FoundIs : List ℕ → List Record → ℕ → ℕ → ℕ → Found → Type 0
-FoundIs t all k a b found.Nothing = all ≡ []
-FoundIs t all k a b (found.Here p) = HereIs t all k a b p
+FoundIs t all k a b None = all ≡ []
+FoundIs t all k a b (Some p) = HereIs t all k a b p
 
 -- a whole function record without Error begins at the place
 pub record FunctionAt (t : List ℕ) (p : Place) : Type 0 where

@@ -6,7 +6,9 @@
 use Rattle.std.specs.Prelude.{ℕ, suc, ◌+◌, ◌*◌, ◌/◌, ◌%◌, List, [], ◌∷◌, length, drop, ltb, eqb}
 use Rattle.ty.specs.Choose.{choose}
 use Rattle.index.specs.Inside.Bucket.{bucket_of}
-use Rattle.record.specs.Inside.Front.{head_of}
+use Rattle.index.specs.declared.index.TableSize.{TableSize}
+use Rattle.index.specs.declared.index.TableSize.TheVariants.{Short, Middle, Long}
+use Rattle.record.specs.Inside.Front.{front_of}
 use Rattle.record.specs.Table.{Record, records_of}
 
 -- tables of at most so many bytes have a small index, or one of middle size
@@ -15,6 +17,15 @@ short_table = 2048
 
 abbrev pub middle_table : ℕ
 middle_table = 16384
+
+-- the size of the index of a table of n bytes, and one of three numbers by it
+unfoldable pub size_of : ℕ → TableSize
+size_of n = choose (ltb middle_table n) Long (choose (ltb short_table n) Middle Short)
+
+abbrev pub sized : TableSize → ℕ → ℕ → ℕ → ℕ
+sized Short a b c = a
+sized Middle a b c = b
+sized Long a b c = c
 
 -- how many buckets of names there are for a table of n bytes, and as many of other keys; and how many of lists
 unfoldable pub bucket_count : ℕ → ℕ
@@ -51,11 +62,11 @@ index_size n = child_at n n 2
 
 -- the tree of a record: the names have trees of their own
 unfoldable pub tree_in : ℕ → Record → ℕ
-tree_in n r = choose (eqb (head_of r).kind 1) (bucket_of r % bucket_count n) (bucket_count n + bucket_of r % bucket_count n)
+tree_in n r = choose (eqb (front_of r).kind 1) (bucket_of r % bucket_count n) (bucket_count n + bucket_of r % bucket_count n)
 
 -- the bucket of a record among the lists; what is no function has none
 unfoldable pub list_in : ℕ → Record → ℕ
-list_in n r = choose (eqb (head_of r).kind 4) (bucket_of r % list_count n) (list_count n)
+list_in n r = choose (eqb (front_of r).kind 4) (bucket_of r % list_count n) (list_count n)
 
 -- the first function of bucket b among some records, of which the first begins at byte p
 unfoldable pub next_in : ℕ → ℕ → ℕ → List Record → ℕ

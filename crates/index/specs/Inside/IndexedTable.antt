@@ -1,6 +1,6 @@
 -- A table that draws no number, with its index, as the lookups ask it; and what the check of a table asks of a lent index.
 use Rattle.std.specs.Prelude.{ℕ, ◌≤◌, ◌<◌, ◌≡◌, List, length, get_or, drop}
-use Rattle.record.specs.Inside.Front.{head_of}
+use Rattle.record.specs.Inside.Front.{front_of}
 use Rattle.record.specs.Inside.FrontRecord.{front_record}
 use Rattle.record.specs.TableRefused.{table_fault}
 use Rattle.record.specs.Table.{records_of, name_count}
@@ -12,7 +12,7 @@ use Rattle.record.specs.Inside.Walk.{Sits, behind}
 pub record Indexed (t x : List ℕ) : Type 0 where
   pub names : get_or x 0 0 ≡ name_count (records_of t)
   pub first : (b : ℕ) → b < list_count (length t) → get_or x (first_at (length t) b) 0 ≡ next_from t b 0
-  pub next : (p : ℕ) → Sits t p → p < length t → (head_of (drop p t)).kind ≡ 4
+  pub next : (p : ℕ) → Sits t p → p < length t → (front_of (drop p t)).kind ≡ 4
       → get_or x (next_at (length t) p) 0 ≡ next_from t (list_in (length t) (front_record (drop p t))) (behind t p)
   pub tree : Tree t x (length t)
 

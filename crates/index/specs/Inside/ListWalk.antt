@@ -1,9 +1,10 @@
 -- The cursor along the functions of a bucket, on the way to those of an owner and a name.
-use Rattle.std.specs.Prelude.{ℕ, ◌+◌, ◌-◌, ◌%◌, eqb, get_or, Bool, ◌&&◌, List}
+use Rattle.std.specs.Prelude.{ℕ, ◌+◌, ◌-◌, ◌%◌, ◌<◌, length, eqb, get_or, Bool, ◌&&◌, List}
 use Rattle.index.specs.Inside.Bucket.{key_bucket}
 use Rattle.index.specs.Inside.Found.{first_from}
 use Rattle.index.specs.Inside.Index.{list_count, first_at, next_at}
 use Rattle.index.specs.declared.list.ListCursor.{ListCursor}
+use Rattle.index.specs.Inside.Searched.{Searched}
 use Rattle.ty.specs.Bytes.{id_at}
 
 -- at the first function of the bucket of an owner and a name, in a table of n bytes with the index x
@@ -21,3 +22,8 @@ list_step n x c = record { owner = c.owner; name = c.name; here = get_or x (next
 -- at the first function with the owner and the name, from here on
 unfoldable pub list_followed : List ℕ → ListCursor → ListCursor
 list_followed t c = record { owner = c.owner; name = c.name; here = first_from t 4 c.owner c.name c.here }
+
+-- the entry of the function here leads to functions of the bucket of the owner and the name
+pub record NextAsked (t x : List ℕ) (c : ListCursor) : Type 0 where
+  pub some : 0 < c.here
+  pub searched : Searched t (list_step (length t) x c).here c.owner c.name

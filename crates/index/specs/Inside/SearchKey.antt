@@ -1,14 +1,14 @@
 -- What a search in the index looks for.
-use Rattle.std.specs.Prelude.{ℕ, ◌+◌, ◌%◌, ◌≤◌, Bool, ◌&&◌, ◌≡◌, List, eqb, length, drop, take}
-use Rattle.ty.specs.Bytes.{same_bytes}
+use Rattle.std.specs.Prelude.{ℕ, ◌+◌, ◌%◌, ◌≤◌, Bool, ◌&&◌, ◌||◌, ◌≡◌, List, eqb, ltb, length, get_or, drop, take}
+use Rattle.ty.specs.Bytes.{same_bytes, id_at}
 use Rattle.ty.specs.Choose.{choose}
 use Rattle.index.specs.Inside.Bucket.{hash_of, name_digits, name_digit, key_bucket, key_digits, key_digit}
-use Rattle.record.specs.Inside.Front.{head_of}
+use Rattle.record.specs.Inside.Front.{front_of}
 use Rattle.record.specs.Inside.Keyed.{is_of}
 use Rattle.record.specs.Inside.HeadFault.{name_bytes}
 use Rattle.record.specs.Table.{Record}
 use Rattle.index.specs.Inside.Index.{bucket_count}
-use Rattle.record.specs.declared.front.Head.{Head}
+use Rattle.record.specs.Inside.Front.{Front}
 use Rattle.index.specs.declared.tree.Key.{Key}
 use Rattle.index.specs.declared.tree.Key.TheVariants.{Name, Ids}
 use Rattle.record.specs.declared.walk.Cursor.{Cursor}
@@ -30,10 +30,14 @@ abbrev pub digit_for : List ℕ → Key → ℕ → ℕ
 digit_for t (Name p) = name_digit (name_bytes_at t p.at)
 digit_for t (Ids k a b) = key_digit k a b
 
+-- the record at byte p is of a kind and has a key, by its bytes; of kinds 2 and 3 the key is the first id alone
+abbrev pub has_ids : List ℕ → ℕ → ℕ → ℕ → ℕ → Bool
+has_ids t p kind one two = eqb (get_or t p 0) kind && (eqb (id_at t (p + 1)) one && (ltb kind 4 || eqb (id_at t (p + 3)) two))
+
 -- a record has the key
 abbrev pub key_matches : List ℕ → Key → Record → Bool
-key_matches t (Name p) r = eqb (head_of r).kind 1 && same_bytes (name_bytes r) (name_bytes_at t p.at)
-key_matches t (Ids k a b) r = is_of k a b (head_of r)
+key_matches t (Name p) r = eqb (front_of r).kind 1 && same_bytes (name_bytes r) (name_bytes_at t p.at)
+key_matches t (Ids k a b) r = is_of k a b (front_of r)
 
 -- a kind of records with a key of its own for each: from 2 on, but not the functions
 pub record Single (k : ℕ) : Type 0 where
@@ -46,5 +50,5 @@ KeyIn t (Name p) = p.at + 26 ≤ length t
 KeyIn t (Ids k a b) = 2 ≤ k
 
 -- the key of the record h at the cursor
-unfoldable pub key_at : Cursor → Head → Key
+unfoldable pub key_at : Cursor → Front → Key
 key_at c h = choose (eqb h.kind 1) (Name (record { at = c.at })) (Ids h.kind h.one h.two)

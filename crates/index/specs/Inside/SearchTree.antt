@@ -2,7 +2,7 @@
 -- it goes on at one of that record's entries, as the key's next digit says.
 use Rattle.std.specs.Prelude.{ℕ, zero, suc, ◌*◌, ◌-◌, ◌<◌, ◌≡◌, List, length, get_or, drop}
 use Rattle.index.specs.Inside.Bucket.{digit_of}
-use Rattle.record.specs.Inside.Front.{head_of}
+use Rattle.record.specs.Inside.Front.{front_of}
 use Rattle.record.specs.Inside.FrontRecord.{front_record}
 use Rattle.index.specs.Inside.Index.{bucket_count, tree_in, root_at, child_at, ways_in}
 use Rattle.record.specs.Inside.Walk.{ways_of, WholeRecordAt}
@@ -20,7 +20,7 @@ Led x n b f d = (i : ℕ) → i < d → get_or x (place_of x n b f i) 0 ≡ 0 �
 pub record TreeMember (t : List ℕ) (e q : ℕ) : Type 0 where
   pub begun : WholeRecordAt t q
   pub low : q < e
-  pub other : (head_of (drop q t)).kind ≡ 4 → ⊥
+  pub other : (front_of (drop q t)).kind ≡ 4 → ⊥
 
 -- a search for the key of the record at q meets it
 pub record Held (t x : List ℕ) (q : ℕ) : Type 0 where
@@ -30,7 +30,7 @@ pub record Held (t x : List ℕ) (q : ℕ) : Type 0 where
 
 -- how many ways there are behind the record at q
 abbrev pub ways_at : List ℕ → ℕ → ℕ
-ways_at t q = ways_of (head_of (drop q t)).kind
+ways_at t q = ways_of (front_of (drop q t)).kind
 
 -- the trees of the records before byte e: each of them is held, and every entry has one of them, with the tree's ways and later than its owner, or none
 pub record Tree (t x : List ℕ) (e : ℕ) : Type 0 where

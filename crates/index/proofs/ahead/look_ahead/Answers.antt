@@ -7,7 +7,7 @@ pub loop-c-preserved : goal.loop-c-preserved
 loop-c-preserved c = (
   c.mark.auto.late ∙ c.loop-c.invariant.0,
   at_next c.args.t.now c.loop-c.c c.loop-c.invariant.1 c.step-s.result c.step-s.ensures,
-  marked_next c.args.t.now c.loop-c.late c.loop-c.c c.loop-c.invariant.1 c.step-s.result c.step-s.ensures c.loop-c-test.true _ c.mark.ensures
+  marked_next c.args.t.now c.loop-c.late c.loop-c.c c.loop-c.invariant.1 c.step-s.result c.step-s.ensures c.loop-c-test.true _ (c.mark.ensures _)
       ∙ c.loop-c.invariant.2,
 )
 

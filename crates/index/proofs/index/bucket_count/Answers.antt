@@ -1,13 +1,8 @@
-use mathlib.Core.Path.{sym}
+use mathlib.Core.Path.{◌≡◌, ◌∙◌}
 use native.Mathlib.Omega.{arith}
-use Rattle.index.proofs.Buckets.{buckets_many, buckets_some, buckets_few}
+use Rattle.index.proofs.Buckets.{buckets_sized, buckets_bound}
+use Rattle.index.specs.Inside.Index.{bucket_count}
 use Rattle.index.proofs.index.bucket_count.Goals as goal
 
-pub returns-then-n-gt-MIDDLE_TABLE : goal.returns-then-n-gt-MIDDLE_TABLE
-returns-then-n-gt-MIDDLE_TABLE c = let e = buckets_many _ c.if-n-gt-MIDDLE_TABLE.true in (sym e, omega arith)
-
-pub returns-then-n-gt-SHORT_TABLE : goal.returns-then-n-gt-SHORT_TABLE
-returns-then-n-gt-SHORT_TABLE c = let e = buckets_some _ c.if-n-gt-MIDDLE_TABLE.false c.if-n-gt-SHORT_TABLE.true in (sym e, omega arith)
-
 pub returns : goal.returns
-returns c = let e = buckets_few _ c.if-n-gt-SHORT_TABLE.false in (sym e, omega arith)
+returns c = let e : c.pick.result ≡ bucket_count c.args.n = c.pick.ensures ∙ buckets_sized _ _ c.of.ensures in (e, omega (arith, e, (buckets_bound c.args.n).1))

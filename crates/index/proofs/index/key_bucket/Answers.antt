@@ -5,8 +5,8 @@ use Rattle.index.proofs.index.key_bucket.Goals as goal
 
 pub returns-then-kind-lt4 : goal.returns-then-kind-lt4
 unfolding key_bucket
-returns-then-kind-lt4 c = (rw c.number.ensures.0 (search chain depth 14), c.number.ensures.1)
+returns-then-kind-lt4 c = (search chain depth 14, omega arith)
 
 pub returns : goal.returns
 unfolding key_bucket
-returns c = (rw (c.number-2.ensures.0, c.number-3.ensures.0) (search chain depth 14), omega arith)
+returns c = (search chain depth 14, omega arith)

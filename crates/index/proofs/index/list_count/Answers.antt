@@ -1,13 +1,8 @@
-use mathlib.Core.Path.{sym}
+use mathlib.Core.Path.{◌≡◌, ◌∙◌}
 use native.Mathlib.Omega.{arith}
-use Rattle.index.proofs.Buckets.{lists_many, lists_some, lists_few}
+use Rattle.index.proofs.Buckets.{lists_sized, lists_bound}
+use Rattle.index.specs.Inside.Index.{list_count}
 use Rattle.index.proofs.index.list_count.Goals as goal
 
-pub returns-then-n-gt-MIDDLE_TABLE : goal.returns-then-n-gt-MIDDLE_TABLE
-returns-then-n-gt-MIDDLE_TABLE c = let e = lists_many _ c.if-n-gt-MIDDLE_TABLE.true in (sym e, omega arith)
-
-pub returns-then-n-gt-SHORT_TABLE : goal.returns-then-n-gt-SHORT_TABLE
-returns-then-n-gt-SHORT_TABLE c = let e = lists_some _ c.if-n-gt-MIDDLE_TABLE.false c.if-n-gt-SHORT_TABLE.true in (sym e, omega arith)
-
 pub returns : goal.returns
-returns c = let e = lists_few _ c.if-n-gt-SHORT_TABLE.false in (sym e, omega arith)
+returns c = let e : c.pick.result ≡ list_count c.args.n = c.pick.ensures ∙ lists_sized _ _ c.of.ensures in (e, omega (arith, e, (lists_bound c.args.n).1))

@@ -1,13 +1,10 @@
+use Prim.Native.Nat.{◌%◌, ◌<◌}
+use mathlib.Core.Path.{◌≡◌, ◌∙◌}
 use native.Mathlib.Omega.{arith}
-use Rattle.index.proofs.Buckets.{lists_many, lists_some, lists_few}
+use Rattle.index.proofs.Buckets.{list_reduced_sized, lists_bound, list-below}
+use Rattle.index.specs.Inside.Index.{list_count}
 use Rattle.index.proofs.index.list_reduced.Goals as goal
 
-pub returns-then-n-gt-MIDDLE_TABLE : goal.returns-then-n-gt-MIDDLE_TABLE
-returns-then-n-gt-MIDDLE_TABLE c = let e = lists_many _ c.if-n-gt-MIDDLE_TABLE.true in (rw e, rw e (omega arith), omega arith)
-
-pub returns-then-n-gt-SHORT_TABLE : goal.returns-then-n-gt-SHORT_TABLE
-returns-then-n-gt-SHORT_TABLE c = let e = lists_some _ c.if-n-gt-MIDDLE_TABLE.false c.if-n-gt-SHORT_TABLE.true in
-    (rw e, rw e (omega arith), omega arith)
-
 pub returns : goal.returns
-returns c = let e = lists_few _ c.if-n-gt-SHORT_TABLE.false in (rw e, rw e (omega arith), omega arith)
+returns c = let e : c.pick.result ≡ c.args.h % list_count c.args.n = c.pick.ensures ∙ list_reduced_sized _ _ c.of.ensures c.args.h in
+    let l : c.pick.result < list_count c.args.n = rw e (list-below c.args.h c.args.n) in (e, l, omega (arith, l, (lists_bound c.args.n).1))

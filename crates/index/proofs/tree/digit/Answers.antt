@@ -19,8 +19,8 @@ returns-then-d-lt21 c = (
 
 pub returns-else-d-lt21 : goal.returns-else-d-lt21
 returns-else-d-lt21 c = (
-  digit_own (name_bytes_at c.args.t.now c.in-Name.at.at) c.wide.result c.args.d
-      (c.wide.ensures.0 ∙ c.byte_at-b.ensures ∙ ap (λ (z : List ℕ). get_or z (c.args.d % 24) 0) c.name_at.ensures) (omega (arith, c.if-d-lt21.false))
+  digit_own (name_bytes_at c.args.t.now c.in-Name.at.at) c.byte_at-b.result c.args.d
+      (c.byte_at-b.ensures ∙ ap (λ (z : List ℕ). get_or z (c.args.d % 24) 0) c.name_at.ensures) (omega (arith, c.if-d-lt21.false))
       ∙ sym (ap (λ (z : Key). digit_for c.args.t.now z c.args.d) c.in-Name.is),
   omega arith,
 )

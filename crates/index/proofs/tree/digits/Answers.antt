@@ -26,4 +26,4 @@ returns-else-d-eq1 c = c.requires.1 (positive c.args.d c.if-d-eq0.false) ∙ ap 
 
 pub returns-in-Ids : goal.returns-in-Ids
 unfolding key_digits
-returns-in-Ids c = (rw (c.number.ensures.0, c.second.ensures.0)) ∙ sym (ap (λ (z : Key). digits_for c.args.t.now z c.args.d) c.in-Ids.is)
+returns-in-Ids c = (rw c.second.ensures.0) ∙ sym (ap (λ (z : Key). digits_for c.args.t.now z c.args.d) c.in-Ids.is)

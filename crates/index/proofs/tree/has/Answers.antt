@@ -16,5 +16,5 @@ returns-else-byte_at-ne1 c = c.same_bytes.ensures ∙ (rw (c.name_at.ensures, c.
     ∙ has_name c.args.t.now c.args.p c.requires.0 c.args.key _ c.in-Name.is (sym c.byte_at.ensures ∙ c.if-byte_at-ne1.false)
 
 pub returns-in-Ids : goal.returns-in-Ids
-returns-in-Ids c = c.is_of.ensures ∙ (rw (c.byte_at-in-Ids.ensures, c.id_at.ensures, c.id_at-in-Ids.ensures))
+returns-in-Ids c = c.has_ids.ensures
     ∙ has_ids c.args.t.now c.args.p c.requires.0 c.args.key _ _ _ c.in-Ids.is (subst (λ (z : Key). KeyIn c.args.t.now z) c.in-Ids.is c.requires.1)

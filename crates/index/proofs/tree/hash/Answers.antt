@@ -12,14 +12,13 @@ product b w h l = let x : b ≤ 255 = omega arith in let y : w ≤ 32748 = omega
 
 pub loop-i-init : goal.loop-i-init
 unfolding weight_of weighed_of
-loop-i-init c = (omega arith, refl, refl, omega arith, omega arith)
+loop-i-init c = (refl, refl, omega arith, omega arith)
 
 pub loop-i-preserved : goal.loop-i-preserved
 unfolding weight_of weighed_of
-loop-i-preserved c = let p = product c.wide.result c.loop-i.weight c.wide.ensures.1 c.loop-i.invariant.3 in (
-  omega arith,
-  rw (add-one, c.wide.ensures.0, c.byte_at.ensures, c.loop-i.invariant.1, c.loop-i.invariant.2),
-  rw (add-one, c.loop-i.invariant.2),
+loop-i-preserved c = let p = product c.byte_at.result c.loop-i.weight (omega arith) c.loop-i.invariant.2 in (
+  rw (add-one, c.byte_at.ensures, c.loop-i.invariant.0, c.loop-i.invariant.1),
+  rw (add-one, c.loop-i.invariant.1),
   omega arith,
   omega arith,
 )
@@ -28,6 +27,6 @@ pub returns : goal.returns
 unfolding hash_of
 returns c = let e : c.loop-i.i ≡ 24 = omega arith in (
   ap (λ (x : ℕ). x % 65536)
-      (c.loop-i.invariant.1 ∙ ap (λ (k : ℕ). weighed_of k c.args.name.now) e),
+      (c.loop-i.invariant.0 ∙ ap (λ (k : ℕ). weighed_of k c.args.name.now) e),
   omega arith,
 )

@@ -6,4 +6,4 @@ pub returns-then-kind-lt4 : goal.returns-then-kind-lt4
 returns-then-kind-lt4 c = (search chain depth 8, omega arith)
 
 pub returns : goal.returns
-returns c = (search chain depth 8, c.number.ensures.1)
+returns c = (search chain depth 8, omega arith)

@@ -3,4 +3,4 @@ use Rattle.index.proofs.list.ListCursor.new.Goals as goal
 
 pub returns : goal.returns
 unfolding list_start
-returns c = rw (c.entry_at.ensures, c.bucket_count.ensures.0, c.list_reduced-b.ensures.0, c.key_bucket.ensures.0)
+returns c = rw (c.entry_at.ensures, c.first_at.ensures, c.list_reduced-b.ensures.0, c.key_bucket.ensures.0)
