@@ -18,7 +18,8 @@ use Rattle.ty.specs.Choose.{choose}
 use Rattle.ty.specs.Kind.{error_kind}
 use Rattle.ty.specs.Name.{id_defined, first_table_id, all_defined}
 use Rattle.ty.specs.Read.{body_length, child_count, id_in, item_of, item_at, no_end, read_from, read_type, longest_type}
-use Rattle.ty.specs.declared.read.TypeRead.TheVariants.{Whole}
+use Rattle.ty.proofs.Reading.{whole_parts}
+use Rattle.ty.specs.Read.{whole_read}
 use Rattle.record.proofs.Accepts.{CleanFrom, accepted_clean, accepted_short}
 use Rattle.record.proofs.Agree.{same_malformed, same_top}
 use Rattle.record.proofs.Bounds.{head_bounded}
@@ -29,7 +30,7 @@ use Rattle.symbol.proofs.Names.{Distinct, names_distinct}
 use Rattle.record.proofs.Records.{records-here, records-end}
 use Rattle.record.proofs.RecordSizes.{head_by_lem}
 use Rattle.symbol.proofs.Wholes.{function-whole, field_whole}
-use Rattle.record.specs.Inside.Front.{plain_head, visibility_head, head_by, head_of}
+use Rattle.record.specs.Inside.Front.{plain_head, visibility_head, head_by, front_of}
 use Rattle.record.specs.Inside.Keyed.{is_of, records_with, type_length}
 use Rattle.symbol.specs.Inside.FoundSymbols.{params_from, overload_found, field_in, visibility_in}
 use Rattle.record.specs.Inside.FrontRecord.{count_of}
@@ -39,27 +40,26 @@ use Rattle.record.specs.TableRefused.{table_fault}
 use Rattle.record.specs.Table.{Record, records_of, of_kind, name_count, key_of, keyed}
 use Rattle.symbol.specs.Inside.ParamsRow.{TypeAt, ParamsAt}
 use Rattle.symbol.specs.Symbols.{Overload}
-use Rattle.record.specs.declared.front.Head.{Head}
+use Rattle.record.specs.Inside.Front.{Front}
 
 -- ---- types
 
 -- a type of an accepted table: whole, of at most 192 bytes, and without Error
 pub record TypeGood (ty : Ty) : Type 0 where
   pub top : ℕ
-  pub whole : read_type ty longest_type ≡ Whole (length ty) top false
+  pub whole : read_type ty longest_type ≡ whole_read (length ty) top false
   pub some : 1 ≤ length ty
   pub short : length ty ≤ longest_type
   pub kind : kind_of ty ≡ error_kind → ⊥
   pub error : ty ≡ plain_ty error_kind → ⊥
 
-no_error_lem : (s : List ℕ) (n top : ℕ) → read_type s longest_type ≡ Whole n top false → kind_of s ≡ error_kind → ⊥
+no_error_lem : (s : List ℕ) (n top : ℕ) → read_type s longest_type ≡ whole_read n top false → kind_of s ≡ error_kind → ⊥
 no_error_lem [] n top q e = omega (arith, whole [] longest_type n top false q)
 no_error_lem (b ∷ s) n top q e =
     let r = reads_alike (error_kind ∷ []) (b ∷ s) longest_type longest_type 1 0 true (ap (λ (x : ℕ). x ∷ []) e) (omega arith) error-read in
-    let z : false ≡ true = cc in
-    true≢false (sym z)
+    true≢false (sym (whole_parts n 1 top 0 false true (sym q ∙ r)).2)
   where
-    error-read : read_type (error_kind ∷ []) longest_type ≡ Whole 1 0 true
+    error-read : read_type (error_kind ∷ []) longest_type ≡ whole_read 1 0 true
     error-read = unfold choose body_length child_count id_in item_of item_at no_end read_from read_type in refl
 
 pub type_good : (s : List ℕ) (k : ℕ) → TypeAt s k → TypeGood (take (type_length (drop k s)) (drop k s))
@@ -97,7 +97,7 @@ unfolding params_from
 params_good zero s r = tt
 params_good (suc n) s r = (type_good s 3 r.0, params_good n (drop (3 + type_length (drop 3 s)) s) r.1)
 
-overload_good : (r : Record) → (head_of r).kind ≡ 4 → (head_of r).error ≡ false → (head_of r).repeated ≡ false → Own r
+overload_good : (r : Record) → (front_of r).kind ≡ 4 → (front_of r).error ≡ false → (front_of r).repeated ≡ false → Own r
     → FunctionGood (overload_found r)
 unfolding overload_found
 overload_good r k e d _ =
@@ -131,7 +131,7 @@ field_good t e owner name ty q =
     (with_every (λ r. TypeGood (drop 5 r)) 5 owner name field_of_lem [] (records_of t) (accepted_clean t e) (records-own (length t) t (omega arith)))
     (field_told t e owner name ∙ q)
   where
-    field_of_lem : (r : Record) → (head_of r).kind ≡ 5 → (head_of r).error ≡ false → (head_of r).repeated ≡ false → Own r → TypeGood (drop 5 r)
+    field_of_lem : (r : Record) → (front_of r).kind ≡ 5 → (front_of r).error ≡ false → (front_of r).repeated ≡ false → Own r → TypeGood (drop 5 r)
     field_of_lem r k e _ o =
         let f = field_whole r k e in
         let a : take (type_length (drop 5 r)) (drop 5 r) ≡ drop 5 r = take_all (type_length (drop 5 r)) (drop 5 r) (omega (arith, length-drop 5 r, f.len)) in
@@ -147,7 +147,7 @@ field_good t e owner name ty q =
 -- ---- visibilities
 
 -- a record with no type in it that has a kind is not bad
-record NotBad (bad : Bool) (h : Head) : Type 0 where
+record NotBad (bad : Bool) (h : Front) : Type 0 where
   is : 1 ≤ h.kind → bad ≡ false
 
 not_bad : (s : List ℕ) (n : ℕ) (bad : Bool) (kind one two top : ℕ) → NotBad bad (plain_head s n bad kind one two top)
@@ -156,11 +156,11 @@ not_bad s n bad kind one two top =
     by_choice (NotBad bad) (ltb (length s) n) (λ _. record { is = λ l. absurd (omega arith) }) λ _.
     by_choice (NotBad bad) bad (λ _. record { is = λ l. absurd (omega arith) }) (λ b. record { is = λ _. b })
 
-level_small : (s : List ℕ) → (head_of s).kind ≡ 6 → get_or s 5 0 ≤ 3
+level_small : (s : List ℕ) → (front_of s).kind ≡ 6 → get_or s 5 0 ≤ 3
 unfolding head_by visibility_head choose
 level_small s k =
-    let e : head_of s ≡ visibility_head s = head_by_lem s 6 (omega arith) k in
-    ltb-false 3 (get_or s 5 0) ((not_bad s 6 (ltb 3 (get_or s 5 0)) 6 (id_at s 1) (id_at s 3) (max (id_at s 1) (id_at s 3))).is (omega (arith, ap (λ (x : Head). x.kind) e)))
+    let e : front_of s ≡ visibility_head s = head_by_lem s 6 (omega arith) k in
+    ltb-false 3 (get_or s 5 0) ((not_bad s 6 (ltb 3 (get_or s 5 0)) 6 (id_at s 1) (id_at s 3) (max (id_at s 1) (id_at s 3))).is (omega (arith, ap (λ (x : Front). x.kind) e)))
 
 -- A MEMBER'S VISIBILITY of an accepted table is one of 0 to 3
 pub visibility_small : (t : List ℕ) → table_fault t ≡ 0 → (owner name v : ℕ) → (symbols_of t).visibility_of owner name ≡ some v → v ≤ 3
@@ -182,8 +182,8 @@ records_few (suc n) [] h = omega (arith, ap (λ (x : List Record). length x) (re
 records_few (suc n) (b ∷ bs) h =
     let o : 0 < length (b ∷ bs) = omega arith in
     let w = head_bounded (b ∷ bs) o in
-    let m = length-drop (head_of (b ∷ bs)).len (b ∷ bs) in
-    let i = records_few n (drop (head_of (b ∷ bs)).len (b ∷ bs)) (omega (arith, w.low)) in
+    let m = length-drop (front_of (b ∷ bs)).len (b ∷ bs) in
+    let i = records_few n (drop (front_of (b ∷ bs)).len (b ∷ bs)) (omega (arith, w.low)) in
     omega (arith, ap (λ (x : List Record). length x) (records-here (b ∷ bs) o), w.low, w.high)
 
 with_few : (k a b : ℕ) (rs : List Record) → length (records_with k a b rs) ≤ length rs
@@ -191,7 +191,7 @@ unfolding records_with
 with_few k a b [] = omega arith
 with_few k a b (r ∷ rs) =
     let i = with_few k a b rs in
-    by_choice (λ (x : List Record). length x ≤ length (r ∷ rs)) (is_of k a b (head_of r)) (λ _. omega arith) (λ _. omega arith)
+    by_choice (λ (x : List Record). length x ≤ length (r ∷ rs)) (is_of k a b (front_of r)) (λ _. omega arith) (λ _. omega arith)
 
 -- A FUNCTION LIST of an accepted table has at most 60,000 entries
 pub functions_few : (t : List ℕ) → table_fault t ≡ 0 → (owner name : ℕ) → length ((symbols_of t).functions_of owner name) ≤ 60000
@@ -226,9 +226,9 @@ ids-defined t e = go [] (records_of t) (accepted_clean t e) (name_count (records
     go : (earlier rs : List Record) → CleanFrom earlier rs → (n : ℕ) → count_of 1 earlier + count_of 1 rs ≤ n → Every (λ r. all_defined (ids_used r) n ≡ true) rs
     go earlier [] c n h = tt
     go earlier (r ∷ rs) c n h =
-        let d = ltb-true (head_of r).top (first_table_id + count_of 1 earlier) c.0.defined in
+        let d = ltb-true (front_of r).top (first_table_id + count_of 1 earlier) c.0.defined in
         let m = moved earlier r rs in
-        let k : id_defined (head_of r).top n ≡ true = lt-ltb (head_of r).top (first_table_id + n) (omega arith) in (
+        let k : id_defined (front_of r).top n ≡ true = lt-ltb (front_of r).top (first_table_id + n) (omega arith) in (
           sym (highest_defined n (ids_used r)) ∙ ap (λ (z : ℕ). id_defined z n) (sym (same_top r (sym (same_malformed r) ∙ c.0.whole))) ∙ k,
           go (r ∷ earlier) rs c.1 n (omega arith),
         )

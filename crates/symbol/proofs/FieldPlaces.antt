@@ -7,8 +7,8 @@ use mathlib.Core.Path.{◌≡◌, refl, sym, ap, ◌∙◌}
 use native.Mathlib.Omega.{arith}
 use Rattle.index.proofs.ListSearch.{place-fits, place_inside, place-part}
 use Rattle.index.specs.Inside.Found.{FoundIs}
-use Rattle.index.specs.declared.index.Found.TheVariants.{Nothing, Here}
-use Rattle.index.specs.declared.index.Found.{Found}
+use Rattle.std.specs.Prelude.{None, Some}
+use Rattle.index.specs.Inside.Found.{Found}
 use Rattle.record.proofs.Agree.{same_size}
 use Rattle.record.proofs.Records.{at_start}
 use Rattle.record.specs.Inside.Keyed.{records_with}
@@ -36,8 +36,8 @@ module _ (t : List ℕ) (clean : table_fault t ≡ 0) (owner name : ℕ) where
   field_searched f h = ap (field_part_at t) (found-place t clean 5 owner name (omega arith) 0 sits-start f h)
 
   part-found : (f : Found) → FoundIs t fields 5 owner name f → (part_of t (field_part_at t f) ≡ (symbols_of t).field_of owner name) × PartIn t (field_part_at t f)
-  part-found Nothing h = (sym (ap field_in h) ∙ field_told t clean owner name, tt)
-  part-found (Here p) h =
+  part-found None h = (sym (ap field_in h) ∙ field_told t clean owner name, tt)
+  part-found (Some p) h =
       let z = same_size (drop p.at t) in
       let l = (place-fits t fields 5 owner name p h).field refl in (
         ap (λ (n : ℕ). some (take (n - 5) (drop (p.at + 5) t))) (sym z)

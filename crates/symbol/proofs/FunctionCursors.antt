@@ -9,10 +9,10 @@ use Rattle.index.proofs.ListSearch.{next_first, next_all}
 use Rattle.index.proofs.ListWalks.{start_at, start_all}
 use Rattle.index.specs.Inside.Found.{FoundIs, FunctionAt, first_from, found_at}
 use Rattle.index.specs.Inside.IndexedTable.{IndexedTable}
-use Rattle.index.specs.Inside.ListWalk.{list_start, list_step, list_followed}
+use Rattle.index.specs.Inside.ListWalk.{list_start, list_step, list_followed, NextAsked}
 use Rattle.index.specs.Inside.Searched.{Searched, with_at}
-use Rattle.index.specs.declared.index.Found.TheVariants.{Nothing, Here}
-use Rattle.index.specs.declared.index.Found.{Found}
+use Rattle.std.specs.Prelude.{None, Some}
+use Rattle.index.specs.Inside.Found.{Found}
 use Rattle.index.specs.declared.index.Place.{Place}
 use Rattle.index.specs.declared.list.ListCursor.{ListCursor}
 use Rattle.record.specs.Table.{Record}
@@ -29,19 +29,14 @@ here_found zero = refl
 here_found (suc p) = refl
 
 found_here_lem : (f : Found) → found_at (here_of f) ≡ f
-found_here_lem Nothing = refl
-found_here_lem (Here p) = refl
+found_here_lem None = refl
+found_here_lem (Some p) = refl
 
 -- ---- what the code does
 module _ (t x : List ℕ) (ok : IndexedTable t x) where
   module _ (owner name : ℕ) where
     abbrev S : ListCursor
     S = list_start (length t) x owner name
-
-    -- what is followed from the start of the bucket
-    pub first_asked : (c : ListCursor) → c ≡ S → Searched t c.here c.owner c.name
-    unfolding list_start
-    first_asked c e = subst (λ (z : ListCursor). Searched t z.here z.owner z.name) (sym e) (start_at t x ok owner name)
 
     first_found : found_at (first_from t 4 owner name S.here) ≡ first_place (function_places t owner name)
     unfolding list_start
@@ -50,11 +45,11 @@ module _ (t x : List ℕ) (ok : IndexedTable t x) where
         (subst (λ (z : List Record). FoundIs t z 4 owner name (found_at (first_from t 4 owner name S.here))) (start_all t x ok owner name)
         (found_from t x ok owner name S.here (start_at t x ok owner name) (found_at (first_from t 4 owner name S.here)) refl))
 
-    pub first_is : (c r : ListCursor) → c ≡ S → r ≡ list_followed t c → record { list = r } ≡ functions_first t owner name
+    pub first_is : (r : ListCursor) → r ≡ list_followed t S → record { list = r } ≡ functions_first t owner name
     unfolding list_start list_followed functions_first
-    first_is c r e f =
+    first_is r f =
         let h = sym (here_found (first_from t 4 owner name S.here)) ∙ ap here_of first_found in
-        (λ i. record { list = (f ∙ ap (list_followed t) e) i }) ∙ (λ i. record { list = record { owner = owner; name = name; here = h i } })
+        (λ i. record { list = f i }) ∙ (λ i. record { list = record { owner = owner; name = name; here = h i } })
 
   module _ (c : Functions) (a : AtFunction t c) where
     abbrev N : ListCursor
@@ -64,9 +59,8 @@ module _ (t x : List ℕ) (ok : IndexedTable t x) where
     unfolding list_step
     next_searched_from = next_first t x ok (place_here c) a.function c.list.owner c.list.name a.owner a.name N.here refl
 
-    pub next_asked : (n : ListCursor) → n ≡ N → Searched t n.here n.owner n.name
-    unfolding list_step
-    next_asked n e = subst (λ (z : ListCursor). Searched t z.here z.owner z.name) (sym e) next_searched_from
+    pub next_asked : NextAsked t x c.list
+    next_asked = record { some = a.some; searched = next_searched_from }
 
     next_found : found_at (first_from t 4 c.list.owner c.list.name N.here) ≡ first_place (places_behind t (place_here c))
     unfolding list_step
@@ -77,12 +71,11 @@ module _ (t x : List ℕ) (ok : IndexedTable t x) where
         (found_at (first_from t 4 c.list.owner c.list.name N.here))
         (found_from t x ok c.list.owner c.list.name N.here next_searched_from (found_at (first_from t 4 c.list.owner c.list.name N.here)) refl)
 
-    pub next_is : (n r : ListCursor) → n ≡ N → r ≡ list_followed t n → record { list = r } ≡ functions_next t c
+    pub next_is : (r : ListCursor) → r ≡ list_followed t N → record { list = r } ≡ functions_next t c
     unfolding list_step list_followed functions_next
-    next_is n r e f =
+    next_is r f =
         let h = sym (here_found (first_from t 4 c.list.owner c.list.name N.here)) ∙ ap here_of next_found in
-        (λ i. record { list = (f ∙ ap (list_followed t) e) i })
-        ∙ (λ i. record { list = record { owner = c.list.owner; name = c.list.name; here = h i } })
+        (λ i. record { list = f i }) ∙ (λ i. record { list = record { owner = c.list.owner; name = c.list.name; here = h i } })
 
 -- ---- WHAT STANDS AT A CURSOR
 pub first-here : (t : List ℕ) (owner name : ℕ) (c : Functions) → c ≡ functions_first t owner name → found_here c ≡ first_place (function_places t owner name)
@@ -94,22 +87,22 @@ unfolding found_here functions_next
 next_here t c n e = ap (λ (z : Functions). found_at z.list.here) e ∙ found_here_lem (first_place (places_behind t (place_here c)))
 
 -- it is the place of a function that stands there
-here_is : (c : Functions) (r : Found) (p : Place) → r ≡ found_here c → r ≡ Here p → (0 < c.list.here) × (place_here c ≡ p)
+here_is : (c : Functions) (r : Found) (p : Place) → r ≡ found_here c → r ≡ Some p → (0 < c.list.here) × (place_here c ≡ p)
 unfolding found_here
 here_is c r p e f = go c.list.here (sym e ∙ f)
   where
-    go : (n : ℕ) → found_at n ≡ Here p → (0 < n) × (◌≡◌ {A = Place} (record { at = n - 1 }) p)
+    go : (n : ℕ) → found_at n ≡ Some p → (0 < n) × (◌≡◌ {A = Place} (record { at = n - 1 }) p)
     go zero q = absurd (let z : ◌≡◌ {A = ℕ} 0 (suc p.at) = ap here_of q in omega arith)
     go (suc k) q =
         let z : suc k ≡ suc p.at = ap here_of q in
         let w : suc k - 1 ≡ p.at = omega arith in
         (omega arith, λ i. record { at = w i })
 
-pub nothing_here : (c : Functions) (r : Found) → r ≡ found_here c → r ≡ Nothing → found_here c ≡ Nothing
+pub nothing_here : (c : Functions) (r : Found) → r ≡ found_here c → r ≡ None → found_here c ≡ None
 nothing_here c r e f = sym e ∙ f
 
-module _ (t : List ℕ) (c : Functions) (r : Found) (p : Place) (e : r ≡ found_here c) (f : r ≡ Here p) where
-  pub cursor_here : found_here c ≡ Here p
+module _ (t : List ℕ) (c : Functions) (r : Found) (p : Place) (e : r ≡ found_here c) (f : r ≡ Some p) where
+  pub cursor_here : found_here c ≡ Some p
   cursor_here = sym e ∙ f
 
   pub cursor_stands : Along t c → AtFunction t c
@@ -121,8 +114,8 @@ module _ (t : List ℕ) (c : Functions) (r : Found) (p : Place) (e : r ≡ found
 -- ---- THE CURSOR STAYS WITH ITS OWNER AND NAME
 module _ (t : List ℕ) (clean : table_fault t ≡ 0) where
   at_first : (owner name : ℕ) (f : Found) → f ≡ first_place (function_places t owner name) → 0 < here_of f → AtFunction t (cursor_at owner name f)
-  at_first owner name Nothing e h = absurd (omega arith)
-  at_first owner name (Here p) e h =
+  at_first owner name None e h = absurd (omega arith)
+  at_first owner name (Some p) e h =
       let k = first-keyed t clean owner name p (sym e) in
       let s : p.at ≡ suc p.at - 1 = omega arith in
       record {
@@ -140,8 +133,8 @@ module _ (t : List ℕ) (clean : table_fault t ≡ 0) where
 
   module _ (c : Functions) (a : AtFunction t c) where
     at_next : (f : Found) → f ≡ first_place (places_behind t (place_here c)) → 0 < here_of f → AtFunction t (cursor_at c.list.owner c.list.name f)
-    at_next Nothing e h = absurd (omega arith)
-    at_next (Here p) e h =
+    at_next None e h = absurd (omega arith)
+    at_next (Some p) e h =
         let k = next_keyed t clean (place_here c) a.function p (sym e) in
         let s : p.at ≡ suc p.at - 1 = omega arith in
         record {

@@ -6,8 +6,8 @@ use mathlib.Core.Path.{◌≡◌, refl, sym, ap, ◌∙◌, subst}
 use native.Mathlib.Omega.{arith}
 use Rattle.index.proofs.ListSearch.{function-keyed, place-one, place_key, sits_next}
 use Rattle.index.specs.Inside.Found.{HereIs, FoundIs, FunctionAt}
-use Rattle.index.specs.declared.index.Found.TheVariants.{Nothing, Here}
-use Rattle.index.specs.declared.index.Found.{Found}
+use Rattle.std.specs.Prelude.{None, Some}
+use Rattle.index.specs.Inside.Found.{Found}
 use Rattle.index.specs.declared.index.Place.{Place}
 use Rattle.record.proofs.Agree.{same_size, same_error}
 use Rattle.record.proofs.Laid.{same_kind, kind_byte}
@@ -42,8 +42,8 @@ function_at_lem t rs owner name p h =
 
 function-found : (t : List ℕ) (rs : List Record) (owner name : ℕ) (f : Found) → FoundIs t rs 4 owner name f → FunctionFound t (map overload_of rs) f
 unfolding overload_at functions_behind
-function-found t rs owner name Nothing h = ap (map overload_of) h
-function-found t rs owner name (Here p) h =
+function-found t rs owner name None h = ap (map overload_of) h
+function-found t rs owner name (Some p) h =
     let here : FunctionAt t p = function_at_lem t rs owner name p h in
     let rest = behind_it t p here owner name (place-one t rs 4 owner name p h (omega arith)) (place_key t rs 4 owner name p h (omega arith)) in
     record {
@@ -51,7 +51,7 @@ function-found t rs owner name (Here p) h =
       here = here;
     }
 
-found-keyed : (t : List ℕ) (rs : List Record) (owner name : ℕ) (p : Place) (f : Found) → FoundIs t rs 4 owner name f → f ≡ Here p
+found-keyed : (t : List ℕ) (rs : List Record) (owner name : ℕ) (p : Place) (f : Found) → FoundIs t rs 4 owner name f → f ≡ Some p
     → FunctionAt t p × (id_at t (p.at + 1) ≡ owner) × (id_at t (p.at + 3) ≡ name)
 found-keyed t rs owner name p f w e =
     let h : HereIs t rs 4 owner name p = subst (λ (z : Found). FoundIs t rs 4 owner name z) e w in
@@ -118,7 +118,7 @@ module _ (t : List ℕ) (clean : table_fault t ≡ 0) where
         (place_found owner name 0 from_start (places_from t 4 (owner ∷ name ∷ []) 0) refl)
 
     -- the first has the owner and the name
-    pub first-keyed : (p : Place) → first_place (function_places t owner name) ≡ Here p
+    pub first-keyed : (p : Place) → first_place (function_places t owner name) ≡ Some p
         → FunctionAt t p × (id_at t (p.at + 1) ≡ owner) × (id_at t (p.at + 3) ≡ name)
     unfolding function_places
     first-keyed p e = found-keyed t (records_with 4 owner name (records_of t)) owner name p (first_place (places_from t 4 (owner ∷ name ∷ []) 0)) from_start.found e
@@ -146,7 +146,7 @@ module _ (t : List ℕ) (clean : table_fault t ≡ 0) where
         subst (λ (z : Found). PlaceFound t (places_behind t p) z) (sym e)
         (place_found (one t p at) (two t p at) (behind t p.at) from-behind (places_behind t p) (places_behind_lem t p at))
 
-    pub next_keyed : (q : Place) → first_place (places_behind t p) ≡ Here q
+    pub next_keyed : (q : Place) → first_place (places_behind t p) ≡ Some q
         → FunctionAt t q × (id_at t (q.at + 1) ≡ one t p at) × (id_at t (q.at + 3) ≡ two t p at)
     next_keyed q e =
         found-keyed t (records_with 4 (one t p at) (two t p at) (records_of (drop (behind t p.at) t))) (one t p at) (two t p at) q

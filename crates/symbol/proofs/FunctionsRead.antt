@@ -13,7 +13,7 @@ use Rattle.record.proofs.RecordSizes.{head_fits}
 use Rattle.symbol.proofs.Wholes.{FunctionWhole, function-whole}
 use Rattle.symbol.specs.Inside.LookupAnswer.{overload_at, FunctionRead, params_row}
 use Rattle.index.specs.Inside.Found.{FunctionAt}
-use Rattle.record.specs.Inside.Front.{head_of}
+use Rattle.record.specs.Inside.Front.{front_of}
 use Rattle.record.specs.Inside.Keyed.{type_length}
 use Rattle.symbol.specs.Inside.FoundSymbols.{params_from, overload_found}
 use Rattle.record.specs.Inside.FrontRecord.{front_record}
@@ -22,7 +22,7 @@ use Rattle.symbol.specs.Inside.ParamsRow.{part, ParamsAt, no_params, ParamsAre}
 use Rattle.symbol.specs.Lookup.{overload_of}
 use Rattle.symbol.specs.Symbols.{Overload}
 use Rattle.record.specs.Inside.Walk.{behind}
-use Rattle.record.specs.declared.front.Head.{Head}
+use Rattle.record.specs.Inside.Front.{Front}
 use Rattle.symbol.specs.declared.functions.Function.{Function}
 use Rattle.symbol.specs.declared.functions.Params.{Params}
 use Rattle.index.specs.declared.index.Place.{Place}
@@ -37,16 +37,16 @@ module _ (t : List ℕ) (p : Place) (f : FunctionAt t p) (end : ℕ) (is-end : e
   pub function-inside : end ≤ length t
   function-inside = omega (arith, sits-inside t p.at f.sits f.some, is-end)
 
-  own : head_of (drop p.at t) ≡ head_of r
+  own : front_of (drop p.at t) ≡ front_of r
   own = sym (sits-own t p.at f.sits f.some)
 
   is_part : r ≡ part t p.at end
   is_part =
-      let e : (head_of (drop p.at t)).len ≡ end - p.at = omega (arith, is-end) in
+      let e : (front_of (drop p.at t)).len ≡ end - p.at = omega (arith, is-end) in
       ap (λ (n : ℕ). take n (drop p.at t)) e
 
   pub function_is : FunctionWhole r
-  function_is = function-whole r (ap (λ (x : Head). x.kind) (sym own) ∙ function_kind_lem t p f) (ap (λ (x : Head). x.error) (sym own) ∙ function-error t p f)
+  function_is = function-whole r (ap (λ (x : Front). x.kind) (sym own) ∙ function_kind_lem t p f) (ap (λ (x : Front). x.error) (sym own) ∙ function-error t p f)
 
   from : (k : ℕ) → part t (p.at + k) end ≡ drop k r
   from k = sym (ap (λ (x : List ℕ). drop k x) is_part ∙ part-from t p.at end k)
@@ -56,7 +56,7 @@ module _ (t : List ℕ) (p : Place) (f : FunctionAt t p) (end : ℕ) (is-end : e
 
   told : overload_found r ≡ overload_at t p
   unfolding overload_at
-  told = function_same r (ap (λ (x : Head). x.kind) (sym own) ∙ function_kind_lem t p f) (ap (λ (x : Head). x.error) (sym own) ∙ function-error t p f)
+  told = function_same r (ap (λ (x : Front). x.kind) (sym own) ∙ function_kind_lem t p f) (ap (λ (x : Front). x.error) (sym own) ∙ function-error t p f)
       ∙ ap (λ (n : ℕ). overload_of (take n (drop p.at t))) (same_size (drop p.at t))
 
   pub function_builtin : (b : ℕ) → b ≡ get_or t (p.at + 6) 0 → eqb b 1 ≡ (overload_at t p).builtin

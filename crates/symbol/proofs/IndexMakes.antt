@@ -14,7 +14,7 @@ use Rattle.record.proofs.Records.{here_cons, before_next, records-end}
 use Rattle.record.proofs.RecordSizes.{stands_own}
 use Rattle.record.specs.Inside.Walk.{start, CursorAt, StepIs, Stands, record_at, before}
 use Rattle.index.specs.Inside.Entered.{entered}
-use Rattle.record.specs.Inside.Front.{head_of}
+use Rattle.record.specs.Inside.Front.{front_of}
 use Rattle.record.specs.Inside.HeadFault.{head_fault}
 use Rattle.record.specs.Inside.FrontRecord.{count_of}
 use Rattle.record.specs.Table.{Record, records_of}
@@ -27,6 +27,7 @@ use Rattle.index.specs.Inside.Spot.{FreeIs}
 use Rattle.index.specs.Inside.SearchTree.{place_of, Led}
 use Rattle.symbol.specs.declared.checks.Entry.{Entry}
 use Rattle.symbol.specs.declared.checks.Entry.TheVariants as entry
+use Rattle.record.specs.Inside.Front.{Front}
 use Rattle.record.specs.declared.front.Head.{Head}
 use Rattle.index.specs.declared.tree.Key.{Key}
 use Rattle.record.specs.declared.walk.Cursor.{Cursor}
@@ -63,14 +64,14 @@ ends t x k a free b f y z =
 
 -- ---- what a record does in the index is what the definition says
 module _ (t x : List ℕ) (c : Cursor) (h : Head) (st : Stands t c h) where
-  own_kind : (head_of (record_at t c)).kind ≡ (head_of (drop c.at t)).kind
-  own_kind = ap (λ (z : Head). z.kind) (sym (stands_own t c h st) ∙ st.head)
+  own_kind : (front_of (record_at t c)).kind ≡ (front_of (drop c.at t)).kind
+  own_kind = ap (λ (z : Front). z.kind) (sym (stands_own t c h st) ∙ st.head)
 
   in_tree : (a : ℕ) → EntryTreeIs t x c a → a ≡ entry_of (length t) (record_at t c) x
   unfolding entry_of
   in_tree a i =
-      let p = own_path t c (head_of (drop c.at t)) (record { at = st.at; some = st.some; head = refl }) in
-      ends t x (key_at c (head_of (drop c.at t))) a i.free (tree_in (length t) (record_at t c)) (digit_of (record_at t c)) p.0 p.1
+      let p = own_path t c (front_of (drop c.at t)) (record { at = st.at; some = st.some; head = refl }) in
+      ends t x (key_at c (front_of (drop c.at t))) a i.free (tree_in (length t) (record_at t c)) (digit_of (record_at t c)) p.0 p.1
 
   pub placed-joined : (e : Entry) → taken_of e ≡ false → PlaceIs t x c e → index_joined (length t) c.at e x ≡ placed (length t) c.at (record_at t c) x
   unfolding placed
@@ -101,7 +102,7 @@ unfolding made_from
 made_stop n p earlier r rs x h = choose_no _ _ _ (ne_eqb _ _ h)
 
 made_on : (n p : ℕ) (earlier : List Record) (r : Record) (rs : List Record) (x : List ℕ) → head_fault earlier r (r ∷ rs) ≡ 0
-    → made_from n p earlier (r ∷ rs) x ≡ made_from n (p + (head_of r).len) (r ∷ earlier) rs (placed n p r x)
+    → made_from n p earlier (r ∷ rs) x ≡ made_from n (p + (front_of r).len) (r ∷ earlier) rs (placed n p r x)
 unfolding made_from
 made_on n p earlier r rs x h = choose_yes _ _ _ (eq-eqb _ _ h)
 
@@ -127,8 +128,8 @@ module _ (t x₀ x : List ℕ) (c : Cursor) (m : Making t x₀ x c) where
 
     pub making_next : f ≡ 0 → (y : List ℕ) → y ≡ placed (length t) c.at (record_at t c) x → Making t x₀ y p.next
     making_next z y e =
-        let q : p.next.at ≡ c.at + (head_of (record_at t c)).len = st.next ∙ ap (λ (h : Head). c.at + h.len) st.own in
+        let q : p.next.at ≡ c.at + (front_of (record_at t c)).len = st.next ∙ ap (λ (h : Front). c.at + h.len) (sym st.head ∙ st.own) in
         ap (λ (i : ℕ). made_from (length t) i (before p.next.index (records_of t)) (records_of (drop p.next.at t)) y) q
-        ∙ ap (λ (rs : List Record). made_from (length t) (c.at + (head_of (record_at t c)).len) rs (records_of (drop p.next.at t)) y) (before_next t c a p st)
-        ∙ ap (made_from (length t) (c.at + (head_of (record_at t c)).len) (record_at t c ∷ before c.index (records_of t)) (records_of (drop p.next.at t))) e
+        ∙ ap (λ (rs : List Record). made_from (length t) (c.at + (front_of (record_at t c)).len) rs (records_of (drop p.next.at t)) y) (before_next t c a p st)
+        ∙ ap (made_from (length t) (c.at + (front_of (record_at t c)).len) (record_at t c ∷ before c.index (records_of t)) (records_of (drop p.next.at t))) e
         ∙ sym (made_on (length t) c.at _ _ _ x (here ∙ z)) ∙ onward

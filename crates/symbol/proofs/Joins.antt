@@ -12,7 +12,7 @@ use Rattle.index.proofs.Paths.{own_path}
 use Rattle.index.proofs.SearchTrees.{Below, tree-function, tree-joined, spot, front, inside}
 use Rattle.index.specs.Inside.Bucket.{digit_of}
 use Rattle.index.specs.Inside.Entered.{Entered, entered}
-use Rattle.record.specs.Inside.Front.{head_of}
+use Rattle.record.specs.Inside.Front.{front_of}
 use Rattle.record.specs.Inside.FrontRecord.{front_record}
 use Rattle.index.specs.Inside.Index.{bucket_count, list_count, tree_in, list_in, root_at, first_at, last_at, child_at, next_at, ways_in}
 use Rattle.symbol.specs.Inside.Join.{taken_of, EntryTreeIs, EntryListIs, PlaceIs, JoinAsked, index_joined}
@@ -21,8 +21,15 @@ use Rattle.index.specs.Inside.SearchTree.{place_of, Led, TreeMember, ways_at, Tr
 use Rattle.record.specs.Inside.Walk.{Sits, Stands, record_at, behind}
 use Rattle.symbol.specs.declared.checks.Entry.{Entry}
 use Rattle.symbol.specs.declared.checks.Entry.TheVariants as entry
+use Rattle.record.specs.Inside.Front.{Front}
 use Rattle.record.specs.declared.front.Head.{Head}
 use Rattle.record.specs.declared.walk.Cursor.{Cursor}
+
+-- an entry of another sort
+pub not_taken : (e : Entry) → (e ≡ entry.Taken → ⊥) → taken_of e ≡ false
+not_taken entry.Taken n = absurd (n refl)
+not_taken (entry.Tree a) n = refl
+not_taken (entry.List b) n = refl
 
 -- what is asked, and what comes of it
 pub record Joining (t x : List ℕ) (p : ℕ) (e : Entry) : Type 0 where
@@ -31,8 +38,10 @@ pub record Joining (t x : List ℕ) (p : ℕ) (e : Entry) : Type 0 where
   pub lasts : Lasts t (index_joined (length t) p e x) (behind t p)
   pub tree : Tree t (index_joined (length t) p e x) (behind t p)
 
-module _ (t x : List ℕ) (c : Cursor) (h : Head) (st : Stands t c h) (g : Entered t x c.at) (l : Lasts t x c.at) (r : Tree t x c.at)
-    (whole : (head_of (drop c.at t)).malformed ≡ false) where
+module _ (t x : List ℕ) (c : Cursor) (h : Head) (st : Stands t c h) (g : Entered t x c.at) (l : Lasts t x c.at) (r : Tree t x c.at) where
+  whole : (front_of (drop c.at t)).malformed ≡ false
+  whole = sym (ap (λ (z : Front). z.malformed) st.head)
+
   abbrev p : ℕ
   p = c.at
 
@@ -62,8 +71,8 @@ module _ (t x : List ℕ) (c : Cursor) (h : Head) (st : Stands t c h) (g : Enter
         list_low : list_in (length t) (front_record (drop p t)) < list_count (length t)
         list_low = subst (λ (z : ℕ). z < list_count (length t)) i.bucket i.low
 
-        far : (s : ℕ) → Sits t s → s < p → (head_of (drop s t)).kind ≡ 4 → child_at (length t) q k ≡ next_at (length t) s → ⊥
-        far s v f k₂ d = apart_of t s q (g.whole s v f) v n.begun.whole n.begun.sits (λ z. n.other (subst (λ (j : ℕ). (head_of (drop j t)).kind ≡ 4) z k₂)) k low (sym d)
+        far : (s : ℕ) → Sits t s → s < p → (front_of (drop s t)).kind ≡ 4 → child_at (length t) q k ≡ next_at (length t) s → ⊥
+        far s v f k₂ d = apart_of t s q (g.whole s v f) v n.begun.whole n.begun.sits (λ z. n.other (subst (λ (j : ℕ). (front_of (drop j t)).kind ≡ 4) z k₂)) k low (sym d)
 
     list_joins : Joining t x p (entry.List b)
     list_joins =
@@ -76,8 +85,8 @@ module _ (t x : List ℕ) (c : Cursor) (h : Head) (st : Stands t c h) (g : Enter
 
   -- ---- another record
   module _ (a : ℕ) (i : EntryTreeIs t x c a) where
-    path : (tree_for t (key_at c (head_of (drop p t))) ≡ tree_in (length t) (record_at t c)) × (digit_for t (key_at c (head_of (drop p t))) ≡ digit_of (record_at t c))
-    path = own_path t c (head_of (drop p t)) (record { at = st.at; some = some; head = refl })
+    path : (tree_for t (key_at c (front_of (drop p t))) ≡ tree_in (length t) (record_at t c)) × (digit_for t (key_at c (front_of (drop p t))) ≡ digit_of (record_at t c))
+    path = own_path t c (front_of (drop p t)) (record { at = st.at; some = some; head = refl })
 
     -- the search's path is that of the record
     record OwnFree : Type 0 where
@@ -87,7 +96,7 @@ module _ (t x : List ℕ) (c : Cursor) (h : Head) (st : Stands t c h) (g : Enter
 
     own-free : OwnFree
     own-free =
-        moved (tree_for t (key_at c (head_of (drop p t)))) (digit_for t (key_at c (head_of (drop p t)))) i.free.depth i.free.led i.free.place
+        moved (tree_for t (key_at c (front_of (drop p t)))) (digit_for t (key_at c (front_of (drop p t)))) i.free.depth i.free.led i.free.place
         path.0 path.1
       where
         moved : (b : ℕ) (f : ℕ → ℕ) (d : ℕ) → Led x (length t) b f d → a ≡ place_of x (length t) b f d → b ≡ tree_in (length t) (front_record (drop p t))
@@ -112,12 +121,12 @@ module _ (t x : List ℕ) (c : Cursor) (h : Head) (st : Stands t c h) (g : Enter
         ⊎_elim (λ z. ((λ d. omega (arith, z, root_low, d)), (λ d. omega (arith, z, root_low, d))))
         (λ z. ((λ d. omega (arith, z.is, low, d)), (λ d. omega (arith, z.is, low, d)))) at_spot
 
-    away : (q : ℕ) → Sits t q → q < p → (head_of (drop q t)).kind ≡ 4 → next_at (length t) q ≡ a → ⊥
+    away : (q : ℕ) → Sits t q → q < p → (front_of (drop q t)).kind ≡ 4 → next_at (length t) q ≡ a → ⊥
     away q v f k d =
         ⊎_elim (λ z. omega (arith, z, root_low, d))
         (λ z.
         apart_of t q z.owner (g.whole q v f) v z.node.begun.whole z.node.begun.sits
-        (λ e. z.node.other (subst (λ (j : ℕ). (head_of (drop j t)).kind ≡ 4) e k)) z.which z.low (d ∙ z.is)) at_spot
+        (λ e. z.node.other (subst (λ (j : ℕ). (front_of (drop j t)).kind ≡ 4) e k)) z.which z.low (d ∙ z.is)) at_spot
 
     before : a < child_at (length t) p 0
     before = front t x p r g.end some whole i.other a own-free.depth own-free.led own-free.place i.free.empty l.blank l.long

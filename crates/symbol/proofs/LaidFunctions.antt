@@ -18,21 +18,24 @@ use Rattle.ty.specs.Bytes.{id_at}
 use Rattle.ty.specs.Choose.{choose}
 use Rattle.ty.specs.Ids.{ids_in}
 use Rattle.ty.specs.Read.{read_type, longest_type}
-use Rattle.ty.specs.declared.read.TypeRead.TheVariants.{Whole, Cut, Malformed, Endless}
+use Rattle.ty.specs.declared.read.TypeFault.TheVariants.{Cut, Malformed, Endless}
+use Rattle.ty.specs.declared.read.TypeFault.{TypeFault}
+use Rattle.ty.specs.Read.{whole_read}
+use Rattle.std.specs.Prelude.{Result, Ok, Err}
 use Rattle.ty.specs.declared.read.TypeRead.{TypeRead}
 
 -- a type's part has the type's length
-pub type_length_lem : (at : ℕ) (is : List ℕ) (r : TypeRead) → (type_read at is r).len ≡ whole_length r
-type_length_lem at is (Whole n top e) = refl
-type_length_lem at is Cut = refl
-type_length_lem at is Malformed = refl
-type_length_lem at is (Endless top e) = refl
+pub type_length_lem : (at : ℕ) (is : List ℕ) (r : Result TypeRead TypeFault) → (type_read at is r).len ≡ whole_length r
+type_length_lem at is (Ok t) = refl
+type_length_lem at is (Err Cut) = refl
+type_length_lem at is (Err Malformed) = refl
+type_length_lem at is (Err (Endless top e)) = refl
 
-pub type_place : (at : ℕ) (is : List ℕ) (r : TypeRead) → (type_read at is r).at ≡ at
-type_place at is (Whole n top e) = refl
-type_place at is Cut = refl
-type_place at is Malformed = refl
-type_place at is (Endless top e) = refl
+pub type_place : (at : ℕ) (is : List ℕ) (r : Result TypeRead TypeFault) → (type_read at is r).at ≡ at
+type_place at is (Ok t) = refl
+type_place at is (Err Cut) = refl
+type_place at is (Err Malformed) = refl
+type_place at is (Err (Endless top e)) = refl
 
 module _ (s : List ℕ) where
   id_drop : (k : ℕ) → id_at (drop k s) 0 ≡ id_at s k
@@ -65,34 +68,34 @@ module _ (s : List ℕ) where
       param_same n at (λ k q. params_same n k q) (ap (any_field (λ p. p.endless)) (sym (params_next s n at)) ∙ e) ∙ ap (params_by s) (sym (params_next s n at))
 
   -- behind a result that was read so
-  function_same : (is : List ℕ) (r : TypeRead) → read_type (drop 8 s) longest_type ≡ r → any_field (λ p. p.endless) (function_parts s is r) ≡ false
+  function_same : (is : List ℕ) (r : Result TypeRead TypeFault) → read_type (drop 8 s) longest_type ≡ r → any_field (λ p. p.endless) (function_parts s is r) ≡ false
       → overload_found s ≡ overload_from s (function_parts s is r)
   unfolding overload_found overload_from type_length any_field choose
-  function_same is (Whole n top e) q z =
-      let c = params_same (get_or s 7 0) (8 + n) z in
+  function_same is (Ok t) q z =
+      let c = params_same (get_or s 7 0) (8 + t.len) z in
       λ i. record {
         builtin = eqb (get_or s 6 0) 1;
         visibility = get_or s 5 0;
-        params = (ap (λ (x : TypeRead). params_from (get_or s 7 0) (drop (8 + whole_length x) s)) q ∙ c) i;
+        params = (ap (λ (x : Result TypeRead TypeFault). params_from (get_or s 7 0) (drop (8 + whole_length x) s)) q ∙ c) i;
         result = take (whole_length (q i)) (drop 8 s);
       }
-  function_same is Cut q z =
+  function_same is (Err Cut) q z =
       let c = params_same (get_or s 7 0) 8 z in
       λ i. record {
         builtin = eqb (get_or s 6 0) 1;
         visibility = get_or s 5 0;
-        params = (ap (λ (x : TypeRead). params_from (get_or s 7 0) (drop (8 + whole_length x) s)) q ∙ c) i;
+        params = (ap (λ (x : Result TypeRead TypeFault). params_from (get_or s 7 0) (drop (8 + whole_length x) s)) q ∙ c) i;
         result = take (whole_length (q i)) (drop 8 s);
       }
-  function_same is Malformed q z =
+  function_same is (Err Malformed) q z =
       let c = params_same (get_or s 7 0) 8 z in
       λ i. record {
         builtin = eqb (get_or s 6 0) 1;
         visibility = get_or s 5 0;
-        params = (ap (λ (x : TypeRead). params_from (get_or s 7 0) (drop (8 + whole_length x) s)) q ∙ c) i;
+        params = (ap (λ (x : Result TypeRead TypeFault). params_from (get_or s 7 0) (drop (8 + whole_length x) s)) q ∙ c) i;
         result = take (whole_length (q i)) (drop 8 s);
       }
-  function_same is (Endless top e) q z = absurd (true≢false z)
+  function_same is (Err (Endless top e)) q z = absurd (true≢false z)
 
 -- A FUNCTION by its fields
 pub same_function : (r : List ℕ) → get_or r 0 0 ≡ 4 → is_endless r ≡ false → overload_found r ≡ overload_of r

@@ -16,7 +16,7 @@ use Rattle.record.proofs.EveryRecord.{Every, Own, records-own, with_every}
 use Rattle.record.proofs.Laid.{kind_byte, same_kind, same_two, same_count, key_test}
 use Rattle.symbol.proofs.LaidFunctions.{type_length_lem, type_place, same_function}
 use Rattle.symbol.proofs.Wholes.{field_whole}
-use Rattle.record.specs.Inside.Front.{head_of}
+use Rattle.record.specs.Inside.Front.{front_of}
 use Rattle.record.specs.Inside.Keyed.{records_with, type_length}
 use Rattle.symbol.specs.Inside.FoundSymbols.{super_in, package_in, types_in, mask_in, field_in, visibility_in, any_in, overload_found}
 use Rattle.record.specs.Inside.FrontRecord.{count_of}
@@ -30,7 +30,10 @@ use Rattle.ty.specs.Choose.{choose}
 use Rattle.ty.specs.Ids.{ids_in}
 use Rattle.ty.specs.Read.{read_type, longest_type}
 use Rattle.ty.specs.Name.{no_id}
-use Rattle.ty.specs.declared.read.TypeRead.TheVariants.{Whole, Cut, Malformed, Endless}
+use Rattle.ty.specs.declared.read.TypeFault.TheVariants.{Cut, Malformed, Endless}
+use Rattle.ty.specs.declared.read.TypeFault.{TypeFault}
+use Rattle.ty.specs.Read.{whole_read}
+use Rattle.std.specs.Prelude.{Result, Ok, Err}
 use Rattle.ty.specs.declared.read.TypeRead.{TypeRead}
 
 -- ---- a record of a kind has that kind's fields
@@ -64,7 +67,7 @@ module _ {A : Type 0} (d : A) (f g : Record → A) (k : ℕ) (alike : (r : Recor
   first_same (r ∷ rs) e = alike r e.0
 
 -- ---- one kind after the other
-super_same : (r : Record) → record_kind r ≡ 2 → (head_of r).two ≡ value_in 1 r
+super_same : (r : Record) → record_kind r ≡ 2 → (front_of r).two ≡ value_in 1 r
 super_same r k = same_two r (omega arith)
 
 package_same : (r : Record) → record_kind r ≡ 2 → id_at r 5 ≡ value_in 2 r
@@ -75,14 +78,14 @@ types_same : (r : Record) → record_kind r ≡ 2 → eqb (get_or r 7 0) 1 ≡ e
 unfolding fields_of fields_from choose
 types_same r k = ap (λ (n : ℕ). eqb n 1) (sym (value_by 3 2 (omega arith) r k))
 
-mask_same : (r : Record) → record_kind r ≡ 3 → some (head_of r).two ≡ some (value_in 1 r)
+mask_same : (r : Record) → record_kind r ≡ 3 → some (front_of r).two ≡ some (value_in 1 r)
 mask_same r k = ap (λ (n : ℕ). some n) (same_two r (omega arith))
 
 visibility_same : (r : Record) → record_kind r ≡ 6 → some (get_or r 5 0) ≡ some (value_in 2 r)
 unfolding fields_of fields_from choose
 visibility_same r k = ap (λ (n : ℕ). some n) (sym (value_by 2 6 (omega arith) r k))
 
-field_same : (r : Record) → (head_of r).kind ≡ 5 → (head_of r).error ≡ false → (head_of r).repeated ≡ false → Own r → drop 5 r ≡ bytes_in 2 r
+field_same : (r : Record) → (front_of r).kind ≡ 5 → (front_of r).error ≡ false → (front_of r).repeated ≡ false → Own r → drop 5 r ≡ bytes_in 2 r
 unfolding fields_of fields_from choose bytes_in type_length
 field_same r k e _ o =
     let w = field_whole r k e in
@@ -101,11 +104,11 @@ field_ends (byte n) s at e = refl
 field_ends (mask n) s at e = refl
 field_ends type s at e = go (ids_in (drop at s) longest_type) (read_type (drop at s) longest_type) e
   where
-    go : (is : List ℕ) (r : TypeRead) → (type_read at is r).error ≡ false → (type_read at is r).endless ≡ false
-    go is (Whole n top e) q = refl
-    go is Cut q = refl
-    go is Malformed q = refl
-    go is (Endless top e) q = absurd (true≢false q)
+    go : (is : List ℕ) (r : Result TypeRead TypeFault) → (type_read at is r).error ≡ false → (type_read at is r).endless ≡ false
+    go is (Ok t) q = refl
+    go is (Err Cut) q = refl
+    go is (Err Malformed) q = refl
+    go is (Err (Endless top e)) q = absurd (true≢false q)
 field_ends unknown s at e = refl
 
 fields-end : (fs : List Field) (s : List ℕ) (at : ℕ) → any_field (λ p. p.error) (fields_from fs s at) ≡ false → any_field (λ p. p.endless) (fields_from fs s at) ≡ false
@@ -122,7 +125,7 @@ fields-end (f ∷ fs) s at e =
     go false q ps ih w = ih w
 
 -- ---- the functions
-pub function_same : (r : Record) → (head_of r).kind ≡ 4 → (head_of r).error ≡ false → overload_found r ≡ overload_of r
+pub function_same : (r : Record) → (front_of r).kind ≡ 4 → (front_of r).error ≡ false → overload_found r ≡ overload_of r
 function_same r k e =
     let q : record_kind r ≡ 4 = sym (same_kind r) ∙ k in
     let b = kind_byte r (omega arith) in
@@ -137,7 +140,7 @@ field_first [] e = refl
 field_first (r ∷ rs) e = ap (λ (x : Ty). some x) e.0
 
 -- ---- each lookup's own case distinction is `of_first`
-super_first : (rs : List Record) → super_in rs ≡ of_first no_id (λ r. (head_of r).two) rs
+super_first : (rs : List Record) → super_in rs ≡ of_first no_id (λ r. (front_of r).two) rs
 super_first [] = refl
 super_first (r ∷ rs) = refl
 
@@ -149,7 +152,7 @@ types_first : (rs : List Record) → types_in rs ≡ of_first false (λ r. eqb (
 types_first [] = refl
 types_first (r ∷ rs) = refl
 
-mask_first : (rs : List Record) → mask_in rs ≡ of_first none (λ r. some (head_of r).two) rs
+mask_first : (rs : List Record) → mask_in rs ≡ of_first none (λ r. some (front_of r).two) rs
 mask_first [] = refl
 mask_first (r ∷ rs) = refl
 
@@ -171,7 +174,7 @@ module _ (rs : List Record) where
   unfolding symbols_in choose
   super_told class =
       ap super_in (same_keyed 2 class 0 (omega arith) rs) ∙ super_first (keyed 2 (class ∷ []) rs)
-      ∙ first_same no_id (λ r. (head_of r).two) superclass_field 2 super_same (keyed 2 (class ∷ []) rs) (keyed_kind 2 (class ∷ []) rs)
+      ∙ first_same no_id (λ r. (front_of r).two) superclass_field 2 super_same (keyed 2 (class ∷ []) rs) (keyed_kind 2 (class ∷ []) rs)
 
   pub package_told : (class : ℕ) → package_in (records_with 2 class 0 rs) ≡ (symbols_in rs).package_of class
   unfolding symbols_in choose
@@ -189,7 +192,7 @@ module _ (rs : List Record) where
   unfolding symbols_in choose
   mask_told class =
       ap mask_in (same_keyed 3 class 0 (omega arith) rs) ∙ mask_first (keyed 3 (class ∷ []) rs)
-      ∙ first_same none (λ r. some (head_of r).two) (λ r. some (mask_field r)) 3 mask_same (keyed 3 (class ∷ []) rs) (keyed_kind 3 (class ∷ []) rs)
+      ∙ first_same none (λ r. some (front_of r).two) (λ r. some (mask_field r)) 3 mask_same (keyed 3 (class ∷ []) rs) (keyed_kind 3 (class ∷ []) rs)
 
   pub visibility_told : (owner n : ℕ) → visibility_in (records_with 6 owner n rs) ≡ (symbols_in rs).visibility_of owner n
   unfolding symbols_in choose

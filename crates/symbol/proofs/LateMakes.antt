@@ -9,11 +9,11 @@ use native.Mathlib.Omega.{arith}
 use Rattle.index.proofs.Aheads.{ahead_made}
 use Rattle.index.specs.Inside.Ahead.{marked_from, Looked}
 use Rattle.record.proofs.Records.{here_cons, before_next, records-end}
-use Rattle.record.specs.Inside.Front.{head_of}
+use Rattle.record.specs.Inside.Front.{front_of}
 use Rattle.record.specs.Inside.HeadFault.{super_missing, own_fault, key_fault}
 use Rattle.record.specs.Inside.Walk.{start, Sits, CursorAt, StepIs, record_at, before}
 use Rattle.record.specs.Table.{Record, records_of}
-use Rattle.record.specs.declared.front.Head.{Head}
+use Rattle.record.specs.Inside.Front.{Front}
 use Rattle.record.specs.declared.walk.Cursor.{Cursor}
 use Rattle.record.specs.declared.walk.Step.{Step}
 use Rattle.symbol.specs.Inside.LateMade.{late_looked, late_from, late_made}
@@ -93,7 +93,7 @@ module _ (t : List ℕ) (p : ℕ) (earlier : List Record) (r : Record) (rs : Lis
     late_key m h = choose_yes _ _ _ (eq-eqb _ _ own) ∙ choose_no _ _ _ m ∙ choose_no _ _ _ (ne_eqb _ _ h)
 
     late_on : super_missing earlier r ≡ false → key_fault earlier r (r ∷ rs) ≡ 0
-        → late_from t p earlier (r ∷ rs) late ≡ late_from t (p + (head_of r).len) (r ∷ earlier) rs late
+        → late_from t p earlier (r ∷ rs) late ≡ late_from t (p + (front_of r).len) (r ∷ earlier) rs late
     unfolding late_from
     late_on m h = choose_yes _ _ _ (eq-eqb _ _ own) ∙ choose_no _ _ _ m ∙ choose_yes _ _ _ (eq-eqb _ _ h)
 
@@ -150,9 +150,9 @@ module _ (t late₀ late : List ℕ) (c : Cursor) (looked : Bool) (m : Noting t 
             ∙ go looked m missing is
           where
             next : (l : List ℕ) → late_from t p.next.at (before p.next.index (records_of t)) (records_of (drop p.next.at t)) l
-                ≡ late_from t (c.at + (head_of (record_at t c)).len) (record_at t c ∷ before c.index (records_of t)) (records_of (drop p.next.at t)) l
+                ≡ late_from t (c.at + (front_of (record_at t c)).len) (record_at t c ∷ before c.index (records_of t)) (records_of (drop p.next.at t)) l
             next l =
-                let q : p.next.at ≡ c.at + (head_of (record_at t c)).len = st.next ∙ ap (λ (x : Head). c.at + x.len) st.own in
+                let q : p.next.at ≡ c.at + (front_of (record_at t c)).len = st.next ∙ ap (λ (x : Front). c.at + x.len) (sym st.head ∙ st.own) in
                 λ i. late_from t (q i) (before_next t c a p st i) (records_of (drop p.next.at t)) l
 
             go : (v : Bool) → choose v late (Left (records_of (drop c.at t))) ≡ late_made t late₀ → (w : Bool)

@@ -11,16 +11,19 @@ use native.Mathlib.Omega.{arith}
 use native.Mathlib.Numerals.{add-one}
 use Rattle.ty.specs.Bytes.{id_at}
 use Rattle.ty.specs.Read.{read_type, longest_type}
-use Rattle.ty.specs.declared.read.TypeRead.TheVariants.{Whole, Cut, Malformed, Endless}
+use Rattle.ty.specs.declared.read.TypeFault.TheVariants.{Cut, Malformed, Endless}
+use Rattle.ty.specs.declared.read.TypeFault.{TypeFault}
+use Rattle.ty.specs.Read.{whole_read}
+use Rattle.std.specs.Prelude.{Result, Ok, Err}
 use Rattle.ty.specs.declared.read.TypeRead.{TypeRead}
 use Rattle.record.proofs.NoFault.{or_false}
 use Rattle.record.proofs.ParamSteps.{param_onward, first-inside}
 use Rattle.symbol.proofs.Wholes.{FunctionWhole, ParamTo, step_to, step_behind}
-use Rattle.record.specs.Inside.Front.{among, param_step, run_params, result_with, first_reading, params_read, or_none, head_of}
+use Rattle.record.specs.Inside.Front.{among, param_step, run_params, result_with, first_reading, params_read, or_none, front_of}
 use Rattle.record.specs.Inside.Keyed.{type_length}
 use Rattle.symbol.specs.Inside.FoundSymbols.{params_from}
 use Rattle.symbol.specs.Symbols.{Param}
-use Rattle.record.specs.declared.params.Reading.{Reading}
+use Rattle.record.specs.Inside.Front.{Run}
 
 -- no parameter has the name id
 abbrev pub Absent : ℕ → List Param → Type 0
@@ -56,17 +59,17 @@ unmet_split n names x h (p ∷ ps) u =
     ((λ e. true≢false (sym (eq-eqb x p.name (sym e)) ∙ o.0), r.0), (o.1, r.1))
 
 -- where no name is repeated at the end, none was before
-step_once : (s : List ℕ) (c : Reading) (r : Reading) → ParamTo s c r → r.repeated ≡ false → (c.repeated ≡ false) × (among c.count c.names (id_at s c.len) ≡ false)
+step_once : (s : List ℕ) (c : Run) (r : Run) → ParamTo s c r → r.repeated ≡ false → (c.repeated ≡ false) × (among c.count c.names (id_at s c.len) ≡ false)
 step_once s c r w e = or_false c.repeated (among c.count c.names (id_at s c.len)) (sym w.repeated ∙ e)
 
-once_before : (n : ℕ) (s : List ℕ) (c : Reading) → c.len ≤ length s → (run_params n s c).state ≡ 0 → (run_params n s c).error ≡ false
+once_before : (n : ℕ) (s : List ℕ) (c : Run) → c.len ≤ length s → (run_params n s c).state ≡ 0 → (run_params n s c).error ≡ false
     → (run_params n s c).repeated ≡ false → c.repeated ≡ false
 unfolding run_params
 once_before zero s c h v e d = d
 once_before (suc n) s c h v e d =
     (step_once s c (param_step s c) (step_to n s c h v e) (once_before n s (param_step s c) (param_onward s c h).high v e d)).0
 
-names_run : (n : ℕ) (s : List ℕ) (c : Reading) → c.len ≤ length s → length c.names ≡ 16 → c.count + n ≤ 16 → (run_params n s c).state ≡ 0
+names_run : (n : ℕ) (s : List ℕ) (c : Run) → c.len ≤ length s → length c.names ≡ 16 → c.count + n ≤ 16 → (run_params n s c).state ≡ 0
     → (run_params n s c).error ≡ false → (run_params n s c).repeated ≡ false
     → Unmet c.count c.names (params_from n (drop c.len s)) × Distinct (params_from n (drop c.len s))
 unfolding run_params params_from
@@ -94,14 +97,14 @@ names_run (suc n) s c h l k v e d =
 first-names : (s : List ℕ) → length (first_reading s).names ≡ 16
 first-names s = go (read_type (drop 8 s) longest_type) (max (or_none (id_at s 1)) (id_at s 3))
   where
-    go : (r : TypeRead) (high : ℕ) → length (result_with high r).names ≡ 16
-    go (Whole n top e) high = refl
-    go Cut high = refl
-    go Malformed high = refl
-    go (Endless top e) high = refl
+    go : (r : Result TypeRead TypeFault) (high : ℕ) → length (result_with high r).names ≡ 16
+    go (Ok t) high = refl
+    go (Err Cut) high = refl
+    go (Err Malformed) high = refl
+    go (Err (Endless top e)) high = refl
 
 -- PARAMETER NAMES within one function are distinct
-pub names_distinct : (s : List ℕ) → FunctionWhole s → (head_of s).repeated ≡ false → Distinct (params_from (get_or s 7 0) (drop (8 + type_length (drop 8 s)) s))
+pub names_distinct : (s : List ℕ) → FunctionWhole s → (front_of s).repeated ≡ false → Distinct (params_from (get_or s 7 0) (drop (8 + type_length (drop 8 s)) s))
 unfolding params_read
 names_distinct s f d =
     let i = first-inside s f.fields.long in

@@ -8,6 +8,9 @@ use mathlib.Core.Bool.{Bool, true, false}
 use mathlib.Core.List.{List, [], ◌∷◌}
 use mathlib.Core.Path.{◌≡◌, refl, sym, ap, ◌∙◌, subst}
 use native.Mathlib.Omega.{arith}
+use Rattle.record.specs.declared.front.Head.{Head}
+use Rattle.record.specs.Inside.Front.{front_of_head}
+use Rattle.record.specs.RecordKind.{record_kind_number}
 use Rattle.ty.specs.Choose.{choose}
 use Rattle.ty.proofs.Choice.{by_choice, choose_no}
 use Rattle.ty.specs.Bytes.{id_at}
@@ -17,25 +20,25 @@ use Rattle.record.proofs.Own.{head_own}
 use Rattle.record.proofs.Records.{records-here, records-joined, records-end}
 use Rattle.record.proofs.RecordSizes.{head_fits, head_by_lem}
 use Rattle.index.specs.Inside.Ahead.{late_size}
-use Rattle.record.specs.Inside.Front.{broken_head, plain_head, or_none, class_head, head_by, head_of}
+use Rattle.record.specs.Inside.Front.{broken_head, plain_head, or_none, class_head, head_by, front_of}
 use Rattle.record.specs.Inside.FrontRecord.{front_record, count_of}
 use Rattle.record.specs.Table.{Record, records_of, joined}
 use Rattle.record.specs.Inside.Walk.{CursorAt, Stands, before}
-use Rattle.record.specs.declared.front.Head.{Head}
+use Rattle.record.specs.Inside.Front.{Front}
 use Rattle.record.specs.declared.walk.Cursor.{Cursor}
 
 -- each name among some records has 26 bytes
 abbrev Sized : List Record → Type 0
-Sized rs = (k : ℕ) → k < length rs → (head_of (get_or rs k [])).kind ≡ 1 → length (get_or rs k []) ≡ 26
+Sized rs = (k : ℕ) → k < length rs → (front_of (get_or rs k [])).kind ≡ 1 → length (get_or rs k []) ≡ 26
 
-sized_cons : (r : Record) (rs : List Record) → ((head_of r).kind ≡ 1 → length r ≡ 26) → Sized rs → Sized (r ∷ rs)
+sized_cons : (r : Record) (rs : List Record) → ((front_of r).kind ≡ 1 → length r ≡ 26) → Sized rs → Sized (r ∷ rs)
 sized_cons r rs h t zero l e = h e
 sized_cons r rs h t (suc k) l e = t k (omega arith) e
 
-front_sized : (s : List ℕ) → 0 < length s → (head_of (front_record s)).kind ≡ 1 → length (front_record s) ≡ 26
+front_sized : (s : List ℕ) → 0 < length s → (front_of (front_record s)).kind ≡ 1 → length (front_record s) ≡ 26
 front_sized s h q =
-    let o : (head_of (front_record s)).kind ≡ (head_of s).kind = ap (λ (x : Head). x.kind) (head_own s h) in
-    length-take-le (head_of s).len s (head_bounded s h).high ∙ (head_fits s).name (sym o ∙ q)
+    let o : (front_of (front_record s)).kind ≡ (front_of s).kind = ap (λ (x : Front). x.kind) (head_own s h) in
+    length-take-le (front_of s).len s (head_bounded s h).high ∙ (head_fits s).name (sym o ∙ q)
 
 records_sized : (n : ℕ) (s : List ℕ) → length s ≤ n → Sized (records_of s)
 records_sized zero s h = subst (λ (x : List Record). Sized x) (sym (records-end s 0 h)) (λ k l e. absurd (omega arith))
@@ -44,8 +47,8 @@ records_sized (suc n) (b ∷ bs) h =
     let s = b ∷ bs in
     let some : 0 < length s = omega arith in
     subst (λ (x : List Record). Sized x) (sym (records-here s some))
-    (sized_cons (front_record s) (records_of (drop (head_of s).len s)) (front_sized s some)
-    (records_sized n (drop (head_of s).len s) (omega (arith, length-drop (head_of s).len s, (head_bounded s some).low))))
+    (sized_cons (front_record s) (records_of (drop (front_of s).len s)) (front_sized s some)
+    (records_sized n (drop (front_of s).len s) (omega (arith, length-drop (front_of s).len s, (head_bounded s some).low))))
 
 -- the first n of some records, and the bytes of the others
 names-before : (rs : List Record) → Sized rs → (n : ℕ) → n ≤ length rs → 26 * count_of 1 (before n rs) + length (joined (drop n rs)) ≤ length (joined rs)
@@ -55,13 +58,13 @@ names-before rs z (suc n) h =
     let i = names-before rs z n (omega arith) in
     let d : length (joined (drop n rs)) ≡ length (get_or rs n []) + length (joined (drop (suc n) rs))
     = ap (λ (x : List Record). length (joined x)) (drop-cons rs n [] h) ∙ joined_length (get_or rs n []) (drop (suc n) rs) in
-    let m = name_most (eqb (head_of (get_or rs n [])).kind 1) refl in
+    let m = name_most (eqb (front_of (get_or rs n [])).kind 1) refl in
     omega arith
   where
     joined_length : (r : Record) (x : List Record) → length (joined (r ∷ x)) ≡ length r + length (joined x)
     joined_length r x = unfold joined in length-append r (joined x)
 
-    name_most : (b : Bool) → eqb (head_of (get_or rs n [])).kind 1 ≡ b → 26 * choose b 1 0 ≤ length (get_or rs n [])
+    name_most : (b : Bool) → eqb (front_of (get_or rs n [])).kind 1 ≡ b → 26 * choose b 1 0 ≤ length (get_or rs n [])
     name_most true e = unfold choose in omega (arith, z n h (eqb-true _ _ e))
     name_most false e = unfold choose in omega arith
 
@@ -82,7 +85,7 @@ module _ (t : List ℕ) (c : Cursor) (a : CursorAt t c) where
     id_low = omega (arith, below, names_fit, a.inside)
 
 -- ---- a superclass is among the ids that a class record examines
-record Examined (h : Head) : Type 0 where
+record Examined (h : Front) : Type 0 where
   two : h.kind ≡ 2 → (h.two ≡ no_id → ⊥) → h.two ≤ h.top
 
 class_examined : (s : List ℕ) → Examined (class_head s)
@@ -99,11 +102,11 @@ class_examined s =
         let e : or_none (id_at s 3) ≡ id_at s 3 = unfold or_none in choose_no (eqb (id_at s 3) no_id) 0 (id_at s 3) (ne_eqb _ _ n) in
         omega arith
 
-pub super_defined : (t : List ℕ) (c : Cursor) (h : Head) → Stands t c h → h.kind ≡ 2 → (h.two ≡ no_id → ⊥) → (names : ℕ) → id_defined h.top names ≡ true
+pub super_defined : (t : List ℕ) (c : Cursor) (h : Head) → Stands t c h → record_kind_number h.kind ≡ 2 → (h.two ≡ no_id → ⊥) → (names : ℕ) → id_defined h.top names ≡ true
     → id_defined h.two names ≡ true
 super_defined t c h st k n names d =
-    let e : h ≡ class_head (drop c.at t) = st.head ∙ head_by_lem (drop c.at t) 2 (omega arith) (sym (ap (λ (x : Head). x.kind) st.head) ∙ k) ∙ by_class (drop c.at t) in
-    let x : Examined h = subst Examined (sym e) (class_examined (drop c.at t)) in
+    let e : front_of_head h ≡ class_head (drop c.at t) = st.head ∙ head_by_lem (drop c.at t) 2 (omega arith) (sym (ap (λ (x : Front). x.kind) st.head) ∙ k) ∙ by_class (drop c.at t) in
+    let x : Examined (front_of_head h) = subst Examined (sym e) (class_examined (drop c.at t)) in
     lt-ltb h.two (first_table_id + names) (omega (arith, x.two k n, ltb-true h.top (first_table_id + names) d))
   where
     by_class : (s : List ℕ) → head_by 2 s ≡ class_head s

@@ -22,31 +22,27 @@ use Rattle.symbol.proofs.NamesFit.{id_low, super_defined}
 use Rattle.record.proofs.Records.{here_cons, at_next, before_next, records-end, at_new}
 use Rattle.index.proofs.SearchTrees.{tree_same, tree_start_lem}
 use Rattle.record.specs.Inside.Walk.{start, CursorAt, StepIs, Stands, record_at, before, behind}
-use Rattle.symbol.specs.Inside.Checked.{refusal, checked_of}
 use Rattle.index.specs.Inside.IndexedTable.{IndexRoom, IndexedTable}
 use Rattle.index.specs.Inside.Ahead.{late_size, LateRoom, Looked}
 use Rattle.symbol.specs.Inside.Asked.{Asked, Prepared}
 use Rattle.record.specs.Inside.HeadFault.{super_missing, own_fault, key_fault, has_key, last_kind, head_fault, found_from}
 use Rattle.index.specs.Inside.Entered.{Entered}
-use Rattle.record.specs.Inside.Front.{head_of}
+use Rattle.record.specs.Inside.Front.{front_of, front_of_head, front_at}
 use Rattle.record.specs.Inside.FrontRecord.{count_of}
 use Rattle.record.specs.TableRefused.{table_fault}
-use Rattle.record.specs.Table.{Record, records_of}
+use Rattle.record.specs.Table.{Record, records_of, name_count}
 use Rattle.index.specs.Inside.Index.{root_at, first_at, child_at, next_at}
 use Rattle.symbol.specs.Inside.Join.{EntryIs, KeyAsked, JoinAsked, index_joined}
 use Rattle.symbol.specs.Inside.IndexMade.{placed}
 use Rattle.symbol.specs.Inside.LateMade.{late_looked}
 use Rattle.index.specs.Inside.SearchTree.{Tree}
-use Rattle.symbol.specs.declared.checks.Checked.{Checked}
 use Rattle.symbol.specs.declared.checks.Entry.{Entry}
+use Rattle.record.specs.Inside.Front.{Front}
+use Rattle.record.specs.RecordKind.{record_kind_number}
 use Rattle.record.specs.declared.front.Head.{Head}
+use Rattle.std.specs.Prelude.{Option, Some, None}
 use Rattle.record.specs.declared.walk.Cursor.{Cursor}
 use Rattle.record.specs.declared.walk.Step.{Step}
-
--- ---- answers
-pub refused : (t : List ℕ) (n : ℕ) → table_fault t ≡ n → (n ≡ 0 → ⊥) → refusal n ≡ checked_of t
-unfolding checked_of
-refused t n e h = rw (← e) (passed (eqb (table_fault t) 0) _ _ _ (ne_eqb _ _ (λ z. h (sym e ∙ z))) refl)
 
 -- ---- how many of a kind
 pub count_split : (k n : ℕ) (rs : List Record) → n ≤ length rs → count_of k (before n rs) + count_of k (drop n rs) ≡ count_of k rs
@@ -54,7 +50,7 @@ unfolding before count_of
 count_split k zero rs h = omega arith
 count_split k (suc n) rs h =
     let i = count_split k n rs (omega arith) in
-    let d : count_of k (drop n rs) ≡ choose (eqb (head_of (get_or rs n [])).kind k) 1 0 + count_of k (drop (suc n) rs)
+    let d : count_of k (drop n rs) ≡ choose (eqb (front_of (get_or rs n [])).kind k) 1 0 + count_of k (drop (suc n) rs)
     = ap (count_of k) (drop-cons rs n [] h) in
     omega arith
 
@@ -87,9 +83,11 @@ module _ (t x late : List ℕ) (c : Cursor) (k n : ℕ) (looked : Bool) (g : Goi
         let e : count_of 1 (drop c.index (records_of t)) ≡ 0 = ap (count_of 1) (sym g.at.sits ∙ rest) in
         omega (arith, count_split 1 c.index (records_of t) g.at.count, g.names)
 
-    pub going_done : ◌≡◌ {A = Checked} (record { number = 0; names = n }) (checked_of t)
-    unfolding checked_of
-    going_done = chosen (eqb (table_fault t) 0) _ _ _ (eq-eqb _ _ clean) (λ i. record { number = 0; names = (all_names ∙ same_count 1 (records_of t)) i })
+    pub going_done : 0 ≡ table_fault t
+    going_done = sym clean
+
+    pub going_names : n ≡ name_count (records_of t)
+    going_names = all_names ∙ same_count 1 (records_of t)
 
     pub going_room : 0 < length x
     going_room = omega (arith, g.lasts.long)
@@ -117,12 +115,26 @@ module _ (t x late : List ℕ) (c : Cursor) (k n : ℕ) (looked : Bool) (g : Goi
 
   -- at a record
   module _ (p : Step) (st : StepIs t c p) (some : c.at < length t) where
-    stands : Stands t c p.head
-    stands = record { at = g.at; some = some; head = st.head }
+    -- a malformed record draws 2
+    pub going_broken : p.head ≡ None → 2 ≡ own_fault (before c.index (records_of t)) (record_at t c)
+    unfolding own_fault
+    going_broken m =
+        let w : (front_of (record_at t c)).malformed ≡ true
+        = sym (ap (λ (h : Front). h.malformed) st.own) ∙ ap (λ (z : Option Head). (front_at (drop c.at t) z).malformed) m in
+        chosen _ _ _ _ w refl
 
-    -- what the check of a record by itself is told
-    pub going_asked : Asked t c p.head k n
-    going_asked = record { stands = stands; kind = g.kind; names = g.names }
+    -- another one
+    module _ (h : Head) (read : p.head ≡ Some h) where
+      stands : Stands t c h
+      stands =
+          record { at = g.at; some = some; head = ap (front_at (drop c.at t)) (sym read) ∙ st.head }
+
+      own-front : front_of_head h ≡ front_of (record_at t c)
+      own-front = ap (front_at (drop c.at t)) (sym read) ∙ st.own
+
+      -- what the check of a record by itself is told
+      pub going_asked : Asked t c h k n
+      going_asked = record { stands = stands; kind = g.kind; names = g.names }
 
     -- a number
     module _ (f : ℕ) (fault : f ≡ head_fault (before c.index (records_of t)) (record_at t c) (records_of (drop c.at t))) where
@@ -143,25 +155,22 @@ module _ (t x late : List ℕ) (c : Cursor) (k n : ℕ) (looked : Bool) (g : Goi
       pub own_is : (f ≡ 0 → ⊥) → f ≡ head_fault (before c.index (records_of t)) (record_at t c) (records_of (drop c.at t))
       own_is h = own ∙ sym (own-number (before c.index (records_of t)) (record_at t c) (records_of (drop c.at t)) (λ z. h (own ∙ z)))
 
-      own_fault_lem : (f ≡ 0 → ⊥) → table_fault t ≡ f
-      own_fault_lem h = stopped f (own_is h) h
-
-      pub own-refused : (f ≡ 0 → ⊥) → refusal f ≡ checked_of t
-      own-refused h = refused t f (own_fault_lem h) h
+      pub own-refused : (f ≡ 0 → ⊥) → f ≡ table_fault t
+      own-refused h = sym (stopped f (own_is h) h)
 
       pub own-stopped : (f ≡ 0 → ⊥) → table_fault t ≡ 0 → ⊥
-      own-stopped h e = h (sym (own_fault_lem h) ∙ e)
+      own-stopped h e = h (own-refused h ∙ e)
 
-      module _ (zero : f ≡ 0) where
-        own_none : ((head_of (record_at t c)).malformed ≡ false) × (id_defined (head_of (record_at t c)).top (count_of 1 (before c.index (records_of t))) ≡ true)
+      module _ (zero : f ≡ 0) (h : Head) (read : p.head ≡ Some h) where
+        own_none : ((front_of (record_at t c)).malformed ≡ false) × (id_defined (front_of (record_at t c)).top (count_of 1 (before c.index (records_of t))) ≡ true)
         own_none = own-clean (before c.index (records_of t)) (record_at t c) (records_of (drop c.at t)) (sym own ∙ zero)
 
-        whole : p.head.malformed ≡ false
-        whole = ap (λ (h : Head). h.malformed) st.own ∙ own_none.0
+        own-head : front_of_head h ≡ front_of (record_at t c)
+        own-head = own-front h read
 
-        pub going_prepared : length t ≤ 60000 → Prepared t x c p.head
-        going_prepared h =
-            record { stands = stands; whole = whole; planted = record { short = h; entered = g.entered; tree = g.tree } }
+        pub going_prepared : length t ≤ 60000 → Prepared t x c h
+        going_prepared l =
+            record { stands = stands h read; planted = record { short = l; entered = g.entered; tree = g.tree } }
 
         -- beside the others
         module _ (late' : List ℕ) (more : length late' ≡ length late) (looked' missing : Bool) (turned : looked' ≡ (looked || missing))
@@ -172,32 +181,32 @@ module _ (t x late : List ℕ) (c : Cursor) (k n : ℕ) (looked : Bool) (g : Goi
           seen : missing ≡ true → looked' ≡ true
           seen = look_seen t c.at late (record { index = c.index; at = g.at }) missing looked g.ahead late' looked' turned made
 
-          pub going_key : KeyAsked t late' c p.head e missing
+          pub going_key : KeyAsked t late' c h e missing
           going_key =
               record {
-                stands = stands;
+                stands = stands h read;
                 key = entry.key;
                 is = is;
                 ahead = λ z. subst (λ (b : Bool). Looked t late' c.at b) (seen z) look;
                 low = λ z. low z;
               }
             where
-              low : missing ≡ true → p.head.two < length late'
+              low : missing ≡ true → h.two < length late'
               low z =
                   let m = missing_class (before c.index (records_of t)) (record_at t c) (sym is ∙ z) in
-                  let d = super_defined t c p.head stands (ap (λ (h : Head). h.kind) st.own ∙ m.0) (λ y. m.1 (sym (ap (λ (h : Head). h.two) st.own) ∙ y))
-                  (count_of 1 (before c.index (records_of t))) (ap (λ (h : Head). id_defined h.top (count_of 1 (before c.index (records_of t)))) st.own ∙ own_none.1) in
-                  omega (arith, id_low t c g.at p.head.two d, g.long, more)
+                  let d = super_defined t c h (stands h read) (ap (λ (z : Front). z.kind) own-head ∙ m.0) (λ y. m.1 (sym (ap (λ (z : Front). z.two) own-head) ∙ y))
+                  (count_of 1 (before c.index (records_of t))) (ap (λ (z : Front). id_defined z.top (count_of 1 (before c.index (records_of t)))) own-head ∙ own_none.1) in
+                  omega (arith, id_low t c g.at h.two d, g.long, more)
 
           module _ (f₂ : ℕ) (key : f₂ ≡ key_fault (before c.index (records_of t)) (record_at t c) (records_of (drop c.at t))) where
             pub both : f₂ ≡ head_fault (before c.index (records_of t)) (record_at t c) (records_of (drop c.at t))
             both = key ∙ sym (key_number (before c.index (records_of t)) (record_at t c) (records_of (drop c.at t)) (sym own ∙ zero))
 
-            pub key_refused : (f₂ ≡ 0 → ⊥) → refusal f₂ ≡ checked_of t
-            key_refused h = refused t f₂ (stopped f₂ both h) h
+            pub key_refused : (f₂ ≡ 0 → ⊥) → f₂ ≡ table_fault t
+            key_refused l = sym (stopped f₂ both l)
 
             pub key_stopped : (f₂ ≡ 0 → ⊥) → table_fault t ≡ 0 → ⊥
-            key_stopped h z = h (sym (stopped f₂ both h) ∙ z)
+            key_stopped l z = l (sym (stopped f₂ both l) ∙ z)
 
             module _ (zero₂ : f₂ ≡ 0) where
               fresh : has_key (record_at t c) (before c.index (records_of t)) ≡ false
@@ -205,31 +214,30 @@ module _ (t x late : List ℕ) (c : Cursor) (k n : ℕ) (looked : Bool) (g : Goi
 
               joins : Joining t x c.at e
               joins =
-                  joining t x c p.head stands g.entered g.lasts g.tree
-                  (sym (ap (λ (h : Head). h.malformed) st.head) ∙ whole) e (entry.key ∙ fresh) entry.place
+                  joining t x c h (stands h read) g.entered g.lasts g.tree e (entry.key ∙ fresh) entry.place
 
               pub going_placed : index_joined (length t) c.at e x ≡ placed (length t) c.at (record_at t c) x
-              going_placed = placed-joined t x c p.head stands e (entry.key ∙ fresh) entry.place
+              going_placed = placed-joined t x c h (stands h read) e (entry.key ∙ fresh) entry.place
 
               pub going_join : length t ≤ 60000 → JoinAsked x (length t) c.at e
-              going_join h = joins.asked h
+              going_join l = joins.asked l
 
-              next_kind : p.head.kind ≡ last_kind (before p.next.index (records_of t))
-              next_kind = ap (λ (h : Head). h.kind) st.own ∙ rw (before_next t c g.at p st)
+              next_kind : record_kind_number h.kind ≡ last_kind (before p.next.index (records_of t))
+              next_kind = ap (λ (z : Front). z.kind) own-head ∙ rw (before_next t c g.at p st)
 
-              next_names : (m : ℕ) → m ≡ choose (eqb p.head.kind 1) 1 0 → n + m ≡ count_of 1 (before p.next.index (records_of t))
+              next_names : (m : ℕ) → m ≡ choose (eqb (record_kind_number h.kind) 1) 1 0 → n + m ≡ count_of 1 (before p.next.index (records_of t))
               unfolding count_of
               next_names m z =
-                  let q : count_of 1 (before p.next.index (records_of t)) ≡ choose (eqb (head_of (record_at t c)).kind 1) 1 0 + count_of 1 (before c.index (records_of t))
+                  let q : count_of 1 (before p.next.index (records_of t)) ≡ choose (eqb (front_of (record_at t c)).kind 1) 1 0 + count_of 1 (before c.index (records_of t))
                   = ap (count_of 1) (before_next t c g.at p st) in
-                  let o : choose (eqb (head_of (record_at t c)).kind 1) 1 0 ≡ m = sym (z ∙ ap (λ (h : Head). choose (eqb h.kind 1) 1 0) st.own) in
+                  let o : choose (eqb (front_of (record_at t c)).kind 1) 1 0 ≡ m = sym (z ∙ ap (λ (z : Front). choose (eqb z.kind 1) 1 0) own-head) in
                   omega (arith, g.names)
 
               is_behind : p.next.at ≡ behind t c.at
-              is_behind = st.next ∙ ap (λ (h : Head). c.at + h.len) st.head
+              is_behind = st.next
 
-              pub going_next : (y : List ℕ) → y ≡ index_joined (length t) c.at e x → (m : ℕ) → m ≡ choose (eqb p.head.kind 1) 1 0 → m ≤ 1
-                  → Going t y late' p.next p.head.kind (n + m) looked'
+              pub going_next : (y : List ℕ) → y ≡ index_joined (length t) c.at e x → (m : ℕ) → m ≡ choose (eqb (record_kind_number h.kind) 1) 1 0 → m ≤ 1
+                  → Going t y late' p.next (record_kind_number h.kind) (n + m) looked'
               going_next y q m z l =
                   record {
                     at = at_next t c g.at p st;

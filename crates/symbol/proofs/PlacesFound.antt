@@ -10,20 +10,21 @@ use mathlib.Core.Path.{◌≡◌, refl, sym, ap, ◌∙◌, subst}
 use native.Mathlib.Omega.{arith, not-le}
 use Rattle.index.proofs.ListSearch.{sits_cons, sits-own, sits_later, sits-length, sits_at, sits_next, here_is}
 use Rattle.index.specs.Inside.Found.{HereIs, FoundIs}
-use Rattle.index.specs.declared.index.Found.TheVariants.{Nothing, Here}
-use Rattle.index.specs.declared.index.Found.{Found}
+use Rattle.std.specs.Prelude.{None, Some, is_some}
+use Rattle.symbol.specs.Inside.FoundSymbols.{any_in}
+use Rattle.index.specs.Inside.Found.{Found}
 use Rattle.index.specs.declared.index.Place.{Place}
 use Rattle.record.proofs.Accepts.{with_no}
 use Rattle.record.proofs.Laid.{key_test}
 use Rattle.record.proofs.Records.{records-end, records-joined}
-use Rattle.record.specs.Inside.Front.{head_of}
+use Rattle.record.specs.Inside.Front.{front_of}
 use Rattle.record.specs.Inside.FrontRecord.{front_record}
 use Rattle.record.specs.Inside.Keyed.{is_of, records_with}
 use Rattle.record.specs.Inside.Walk.{Sits, behind}
 use Rattle.record.specs.Layout.{record_kind}
 use Rattle.record.specs.Table.{Record, records_of, key_of, joined}
 use Rattle.record.specs.TableRefused.{table_fault}
-use Rattle.record.specs.declared.front.Head.{Head}
+use Rattle.record.specs.Inside.Front.{Front}
 use Rattle.symbol.specs.Inside.Places.{places_in, places_from, first_place}
 use Rattle.ty.proofs.Choice.{choose_yes, choose_no}
 use Rattle.ty.specs.Bytes.{same_bytes}
@@ -31,13 +32,13 @@ use Rattle.ty.specs.Choose.{choose}
 
 -- ---- how many records with a key there are behind some
 module _ (k a b : ℕ) where
-  with_yes : (r : Record) (rs : List Record) → is_of k a b (head_of r) ≡ true → records_with k a b (r ∷ rs) ≡ r ∷ records_with k a b rs
+  with_yes : (r : Record) (rs : List Record) → is_of k a b (front_of r) ≡ true → records_with k a b (r ∷ rs) ≡ r ∷ records_with k a b rs
   unfolding records_with
   with_yes r rs h = choose_yes _ _ _ h
 
   with_less : (r : Record) (rs : List Record) → length (records_with k a b rs) ≤ length (records_with k a b (r ∷ rs))
   unfolding records_with choose
-  with_less r rs = go (is_of k a b (head_of r))
+  with_less r rs = go (is_of k a b (front_of r))
     where
       go : (v : Bool) → length (records_with k a b rs) ≤ length (choose v (r ∷ records_with k a b rs) (records_with k a b rs))
       go true = omega arith
@@ -60,12 +61,12 @@ module _ (t : List ℕ) (all : List Record) (k a b : ℕ) (l : 4 ≤ k) where
   left i = length (records_with k a b (drop i (records_of t)))
 
   module _ (p : Place) (h : HereIs t all k a b p) where
-    is_here : is_of k a b (head_of (front_record (drop p.at t))) ≡ true
+    is_here : is_of k a b (front_of (front_record (drop p.at t))) ≡ true
     is_here =
         let o = sits-own t p.at h.sits h.some in
-        let e = eq-eqb (head_of (front_record (drop p.at t))).kind k (ap (λ (x : Head). x.kind) o ∙ h.kind) in
-        let f = eq-eqb (head_of (front_record (drop p.at t))).one a (ap (λ (x : Head). x.one) o ∙ h.one) in
-        let g = eq-eqb (head_of (front_record (drop p.at t))).two b (ap (λ (x : Head). x.two) o ∙ h.two l) in
+        let e = eq-eqb (front_of (front_record (drop p.at t))).kind k (ap (λ (x : Front). x.kind) o ∙ h.kind) in
+        let f = eq-eqb (front_of (front_record (drop p.at t))).one a (ap (λ (x : Front). x.one) o ∙ h.one) in
+        let g = eq-eqb (front_of (front_record (drop p.at t))).two b (ap (λ (x : Front). x.two) o ∙ h.two l) in
         rw (e, f, g, le-ltb k 4 l)
 
     behind_is : records_of (drop (behind t p.at) t) ≡ drop (h.sits.index + 1) (records_of t)
@@ -99,25 +100,30 @@ module _ (t : List ℕ) (all : List Record) (k a b : ℕ) (l : 4 ≤ k) where
       omega (arith, h.some, w.some, length-drop p.at t, length-drop q.at t, ap (λ (z : List ℕ). length z) d)
 
   pub found_same : (f g : Found) → FoundIs t all k a b f → FoundIs t all k a b g → f ≡ g
-  found_same Nothing Nothing h w = refl
-  found_same Nothing (Here q) h w = absurd (omega (arith, ap (λ (z : List Record). length z) (sym h ∙ w.first)))
-  found_same (Here p) Nothing h w = absurd (omega (arith, ap (λ (z : List Record). length z) (sym w ∙ h.first)))
-  found_same (Here p) (Here q) h w = let e = same_at p q h w in λ i. Here (record { at = e i })
+  found_same None None h w = refl
+  found_same None (Some q) h w = absurd (omega (arith, ap (λ (z : List Record). length z) (sym h ∙ w.first)))
+  found_same (Some p) None h w = absurd (omega (arith, ap (λ (z : List Record). length z) (sym w ∙ h.first)))
+  found_same (Some p) (Some q) h w = let e = same_at p q h w in λ i. Some (record { at = e i })
+
+-- whether there is one
+pub found_some : (t : List ℕ) (all : List Record) (k a b : ℕ) (f : Found) → FoundIs t all k a b f → is_some f ≡ any_in all
+found_some t all k a b None h = sym (ap any_in h)
+found_some t all k a b (Some p) h = sym (ap any_in h.first)
 
 -- ---- the places from a byte on
 module _ (t : List ℕ) (clean : table_fault t ≡ 0) (k a b : ℕ) (l : 4 ≤ k) where
-  test_same : (r : Record) → (eqb (record_kind r) k && same_bytes (key_of r) (a ∷ b ∷ [])) ≡ is_of k a b (head_of r)
+  test_same : (r : Record) → (eqb (record_kind r) k && same_bytes (key_of r) (a ∷ b ∷ [])) ≡ is_of k a b (front_of r)
   unfolding choose
   test_same r =
       let e : choose (ltb k 4) (a ∷ []) (a ∷ b ∷ []) ≡ a ∷ b ∷ [] = choose_no _ _ _ (le-ltb k 4 l) in
       sym (key_test k a b (omega arith) r ∙ ap (λ (z : List ℕ). eqb (record_kind r) k && same_bytes (key_of r) z) e)
 
-  places_yes : (p : ℕ) (r : Record) (rs : List Record) → is_of k a b (head_of r) ≡ true
+  places_yes : (p : ℕ) (r : Record) (rs : List Record) → is_of k a b (front_of r) ≡ true
       → places_in k (a ∷ b ∷ []) p (r ∷ rs) ≡ record { at = p } ∷ places_in k (a ∷ b ∷ []) (p + length r) rs
   unfolding places_in
   places_yes p r rs h = choose_yes _ _ _ (test_same r ∙ h)
 
-  places_no : (p : ℕ) (r : Record) (rs : List Record) → is_of k a b (head_of r) ≡ false
+  places_no : (p : ℕ) (r : Record) (rs : List Record) → is_of k a b (front_of r) ≡ false
       → places_in k (a ∷ b ∷ []) p (r ∷ rs) ≡ places_in k (a ∷ b ∷ []) (p + length r) rs
   unfolding places_in
   places_no p r rs h = choose_no _ _ _ (test_same r ∙ h)
@@ -148,7 +154,7 @@ module _ (t : List ℕ) (clean : table_fault t ≡ 0) (k a b : ℕ) (l : 4 ≤ k
       later : places_in k (a ∷ b ∷ []) (e + length (front_record (drop e t))) (records_of (drop (behind t e) t)) ≡ places_from t k (a ∷ b ∷ []) (behind t e)
       later = ap (λ (n : ℕ). places_in k (a ∷ b ∷ []) n (records_of (drop (behind t e) t))) (sits-length t e w some)
 
-      from-here : is_of k a b (head_of (front_record (drop e t))) ≡ true → PlacesFromIs (behind t e) → PlacesFromIs e
+      from-here : is_of k a b (front_of (front_record (drop e t))) ≡ true → PlacesFromIs (behind t e) → PlacesFromIs e
       unfolding first_place
       from-here u h =
           let c : places_from t k (a ∷ b ∷ []) e ≡ record { at = e } ∷ places_from t k (a ∷ b ∷ []) (behind t e)
@@ -166,7 +172,7 @@ module _ (t : List ℕ) (clean : table_fault t ≡ 0) (k a b : ℕ) (l : 4 ≤ k
                 tail-eq_of_cons-eq (sym d) ∙ ap (λ (z : Place). places_from t k (a ∷ b ∷ []) (behind t z.at)) (head-eq_of_cons-eq d);
           }
 
-      from_past : is_of k a b (head_of (front_record (drop e t))) ≡ false → PlacesFromIs (behind t e) → PlacesFromIs e
+      from_past : is_of k a b (front_of (front_record (drop e t))) ≡ false → PlacesFromIs (behind t e) → PlacesFromIs e
       from_past u h =
           let c : places_from t k (a ∷ b ∷ []) e ≡ places_from t k (a ∷ b ∷ []) (behind t e) = places_cons ∙ places_no e _ _ u ∙ later in
           let r = ap (records_with k a b) (sits_cons t e w some) ∙ with_no k a b _ _ u in
@@ -181,9 +187,9 @@ module _ (t : List ℕ) (clean : table_fault t ≡ 0) (k a b : ℕ) (l : 4 ≤ k
   from_on : (m e : ℕ) → length t - e ≤ m → Sits t e → PlacesFromIs e
   from_on zero e h w = from_end e w (omega arith)
   from_on (suc m) e h w =
-      go (ltb e (length t)) refl (is_of k a b (head_of (front_record (drop e t)))) refl (λ n some. from_on m (behind t e) n (sits_next t e w some))
+      go (ltb e (length t)) refl (is_of k a b (front_of (front_record (drop e t)))) refl (λ n some. from_on m (behind t e) n (sits_next t e w some))
     where
-      go : (v : Bool) → ltb e (length t) ≡ v → (y : Bool) → is_of k a b (head_of (front_record (drop e t))) ≡ y
+      go : (v : Bool) → ltb e (length t) ≡ v → (y : Bool) → is_of k a b (front_of (front_record (drop e t))) ≡ y
           → (length t - behind t e ≤ m → (some : e < length t) → PlacesFromIs (behind t e)) → PlacesFromIs e
       go false f y u ih = from_end e w (ltb-false e (length t) f)
       go true f true u ih = let some = ltb-true e (length t) f in from-here e w some u (ih (omega (arith, sits_later t e w some)) some)

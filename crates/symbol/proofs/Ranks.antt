@@ -9,7 +9,7 @@ use mathlib.Core.Path.{◌≡◌, refl, sym, ap, ◌∙◌}
 use native.Mathlib.Omega.{arith}
 use Rattle.symbol.proofs.LaidLookups.{classes_told, super_told}
 use Rattle.record.proofs.Accepts.{CleanFrom, accepted_clean}
-use Rattle.record.specs.Inside.Front.{head_of}
+use Rattle.record.specs.Inside.Front.{front_of}
 use Rattle.record.specs.Inside.Keyed.{is_of, records_with}
 use Rattle.symbol.specs.Inside.FoundSymbols.{super_in}
 use Rattle.record.specs.Inside.HeadFault.{is_class, has_class, super_late}
@@ -23,26 +23,26 @@ use Rattle.ty.specs.Name.{no_id}
 -- how many class records there are from that of c on
 unfoldable pub classes_from : ℕ → List Record → ℕ
 classes_from c [] = 0
-classes_from c (r ∷ rs) = choose (is_class c (head_of r)) (suc (count_of 2 rs)) (classes_from c rs)
+classes_from c (r ∷ rs) = choose (is_class c (front_of r)) (suc (count_of 2 rs)) (classes_from c rs)
 
 -- a class with a record has a rank from 1 on, the higher the later the record stands; others have 0
 unfoldable pub rank_in : List Record → ℕ → ℕ
 rank_in rs c = choose (has_class c rs) (suc (count_of 2 rs) - classes_from c rs) 0
 
 -- ---- small laws
-here : (c : ℕ) (r : Record) (rs : List Record) → is_class c (head_of r) ≡ true → classes_from c (r ∷ rs) ≡ suc (count_of 2 rs)
+here : (c : ℕ) (r : Record) (rs : List Record) → is_class c (front_of r) ≡ true → classes_from c (r ∷ rs) ≡ suc (count_of 2 rs)
 unfolding classes_from choose
 here c r rs e = rw e
 
-there : (c : ℕ) (r : Record) (rs : List Record) → is_class c (head_of r) ≡ false → classes_from c (r ∷ rs) ≡ classes_from c rs
+there : (c : ℕ) (r : Record) (rs : List Record) → is_class c (front_of r) ≡ false → classes_from c (r ∷ rs) ≡ classes_from c rs
 unfolding classes_from choose
 there c r rs e = rw e
 
-counted : (c : ℕ) (r : Record) (rs : List Record) → is_class c (head_of r) ≡ true → count_of 2 (r ∷ rs) ≡ suc (count_of 2 rs)
+counted : (c : ℕ) (r : Record) (rs : List Record) → is_class c (front_of r) ≡ true → count_of 2 (r ∷ rs) ≡ suc (count_of 2 rs)
 unfolding count_of choose
-counted c r rs e = go (eqb (head_of r).kind 2) e
+counted c r rs e = go (eqb (front_of r).kind 2) e
   where
-    go : (b : Bool) → b && eqb (head_of r).one c ≡ true → choose b 1 0 + count_of 2 rs ≡ suc (count_of 2 rs)
+    go : (b : Bool) → b && eqb (front_of r).one c ≡ true → choose b 1 0 + count_of 2 rs ≡ suc (count_of 2 rs)
     go true h = omega arith
     go false h = absurd (false≢true h)
 
@@ -53,44 +53,44 @@ more r rs = omega arith
 few : (c : ℕ) (rs : List Record) → classes_from c rs ≤ count_of 2 rs
 unfolding classes_from count_of
 few c [] = omega arith
-few c (r ∷ rs) = go (is_class c (head_of r)) refl (few c rs)
+few c (r ∷ rs) = go (is_class c (front_of r)) refl (few c rs)
   where
-    go : (b : Bool) → is_class c (head_of r) ≡ b → classes_from c rs ≤ count_of 2 rs → classes_from c (r ∷ rs) ≤ count_of 2 (r ∷ rs)
+    go : (b : Bool) → is_class c (front_of r) ≡ b → classes_from c rs ≤ count_of 2 rs → classes_from c (r ∷ rs) ≤ count_of 2 (r ∷ rs)
     go true e h = rw (here c r rs e, counted c r rs e) (omega arith)
     go false e h = rw (there c r rs e) (omega (arith, more r rs))
 
 some : (c : ℕ) (rs : List Record) → has_class c rs ≡ true → 0 < classes_from c rs
 unfolding has_class
 some c [] e = absurd (false≢true e)
-some c (r ∷ rs) e = go (is_class c (head_of r)) refl e (some c rs)
+some c (r ∷ rs) e = go (is_class c (front_of r)) refl e (some c rs)
   where
-    go : (b : Bool) → is_class c (head_of r) ≡ b → b || has_class c rs ≡ true → (has_class c rs ≡ true → 0 < classes_from c rs) → 0 < classes_from c (r ∷ rs)
+    go : (b : Bool) → is_class c (front_of r) ≡ b → b || has_class c rs ≡ true → (has_class c rs ≡ true → 0 < classes_from c rs) → 0 < classes_from c (r ∷ rs)
     go true i h k = rw (here c r rs i) (omega arith)
     go false i h k = rw (there c r rs i) (k h)
 
 -- the record of a class is the first that a lookup finds
-is_class_lem : (c : ℕ) (r : Record) → is_of 2 c 0 (head_of r) ≡ is_class c (head_of r)
-is_class_lem c r = go (eqb (head_of r).kind 2) (eqb (head_of r).one c)
+is_class_lem : (c : ℕ) (r : Record) → is_of 2 c 0 (front_of r) ≡ is_class c (front_of r)
+is_class_lem c r = go (eqb (front_of r).kind 2) (eqb (front_of r).one c)
   where
     go : (a b : Bool) → a && (b && true) ≡ a && b
     go true true = refl
     go true false = refl
     go false b = refl
 
-with_here : (c : ℕ) (r : Record) (rs : List Record) → is_class c (head_of r) ≡ true → records_with 2 c 0 (r ∷ rs) ≡ r ∷ records_with 2 c 0 rs
+with_here : (c : ℕ) (r : Record) (rs : List Record) → is_class c (front_of r) ≡ true → records_with 2 c 0 (r ∷ rs) ≡ r ∷ records_with 2 c 0 rs
 unfolding records_with choose
 with_here c r rs e = rw (is_class_lem c r ∙ e)
 
-with_there : (c : ℕ) (r : Record) (rs : List Record) → is_class c (head_of r) ≡ false → records_with 2 c 0 (r ∷ rs) ≡ records_with 2 c 0 rs
+with_there : (c : ℕ) (r : Record) (rs : List Record) → is_class c (front_of r) ≡ false → records_with 2 c 0 (r ∷ rs) ≡ records_with 2 c 0 rs
 unfolding records_with choose
 with_there c r rs e = rw (is_class_lem c r ∙ e)
 
 no_record : (c : ℕ) (rs : List Record) → has_class c rs ≡ false → records_with 2 c 0 rs ≡ []
 unfolding has_class records_with
 no_record c [] e = refl
-no_record c (r ∷ rs) e = go (is_class c (head_of r)) refl e (no_record c rs)
+no_record c (r ∷ rs) e = go (is_class c (front_of r)) refl e (no_record c rs)
   where
-    go : (b : Bool) → is_class c (head_of r) ≡ b → b || has_class c rs ≡ false → (has_class c rs ≡ false → records_with 2 c 0 rs ≡ []) → records_with 2 c 0 (r ∷ rs) ≡ []
+    go : (b : Bool) → is_class c (front_of r) ≡ b → b || has_class c rs ≡ false → (has_class c rs ≡ false → records_with 2 c 0 rs ≡ []) → records_with 2 c 0 (r ∷ rs) ≡ []
     go true i h k = absurd (true≢false h)
     go false i h k = with_there c r rs i ∙ k h
 
@@ -101,25 +101,25 @@ earlier_or_none true o false false b i m h = inr h
 earlier_or_none true o true false b i m h = absurd (true≢false m)
 earlier_or_none false o n a b i m h = absurd (false≢true i)
 
-super_stands : (earlier : List Record) (c : ℕ) (r : Record) (rest : List Record) → super_late earlier r rest ≡ false → is_class c (head_of r) ≡ true
-    → ((head_of r).two ≡ no_id → ⊥) → (has_class (head_of r).two earlier ≡ true) ⊎ (has_class (head_of r).two rest ≡ false)
+super_stands : (earlier : List Record) (c : ℕ) (r : Record) (rest : List Record) → super_late earlier r rest ≡ false → is_class c (front_of r) ≡ true
+    → ((front_of r).two ≡ no_id → ⊥) → (has_class (front_of r).two earlier ≡ true) ⊎ (has_class (front_of r).two rest ≡ false)
 unfolding super_late
-super_stands earlier c r rest l i n = earlier_or_none (eqb (head_of r).kind 2) (eqb (head_of r).one c) (eqb (head_of r).two no_id) _ _ i (ne_eqb _ _ n) l
+super_stands earlier c r rest l i n = earlier_or_none (eqb (front_of r).kind 2) (eqb (front_of r).one c) (eqb (front_of r).two no_id) _ _ i (ne_eqb _ _ n) l
 
 -- the superclass s of the class c, of which the record stands in rest: it stands before rest, it does not stand in rest, or it stands before c
 abbrev Stands : List Record → ℕ → ℕ → List Record → Type 0
 Stands earlier c s rest = (has_class s earlier ≡ true) ⊎ ((has_class s rest ≡ false) ⊎ (classes_from c rest < classes_from s rest))
 
 -- s stands at the front
-at_front : (earlier : List Record) (c s : ℕ) (r : Record) (rs : List Record) → is_class c (head_of r) ≡ false → is_class s (head_of r) ≡ true → Stands earlier c s (r ∷ rs)
+at_front : (earlier : List Record) (c s : ℕ) (r : Record) (rs : List Record) → is_class c (front_of r) ≡ false → is_class s (front_of r) ≡ true → Stands earlier c s (r ∷ rs)
 at_front earlier c s r rs i j = inr (inr (rw (here s r rs j, there c r rs i) (omega (arith, few c rs))))
 
 -- one record further, which is not c's
-back : (earlier : List Record) (c s : ℕ) (r : Record) (rs : List Record) → is_class c (head_of r) ≡ false → Stands (r ∷ earlier) c s rs → Stands earlier c s (r ∷ rs)
+back : (earlier : List Record) (c s : ℕ) (r : Record) (rs : List Record) → is_class c (front_of r) ≡ false → Stands (r ∷ earlier) c s rs → Stands earlier c s (r ∷ rs)
 unfolding has_class
-back earlier c s r rs i h = go (is_class s (head_of r)) refl
+back earlier c s r rs i h = go (is_class s (front_of r)) refl
   where
-    go : (b : Bool) → is_class s (head_of r) ≡ b → Stands earlier c s (r ∷ rs)
+    go : (b : Bool) → is_class s (front_of r) ≡ b → Stands earlier c s (r ∷ rs)
     go true j = at_front earlier c s r rs i j
     go false j =
         ⊎_elim (λ a. inl (sym (ap (λ (b : Bool). b || has_class s earlier) j) ∙ a))
@@ -129,9 +129,9 @@ stands : (earlier : List Record) (c : ℕ) (rest : List Record) → CleanFrom ea
     → Stands earlier c (super_in (records_with 2 c 0 rest)) rest
 unfolding records_with
 stands earlier c [] e n = absurd (n refl)
-stands earlier c (r ∷ rs) e n = go (is_class c (head_of r)) refl (stands (r ∷ earlier) c rs e.1)
+stands earlier c (r ∷ rs) e n = go (is_class c (front_of r)) refl (stands (r ∷ earlier) c rs e.1)
   where
-    go : (b : Bool) → is_class c (head_of r) ≡ b
+    go : (b : Bool) → is_class c (front_of r) ≡ b
         → ((super_in (records_with 2 c 0 rs) ≡ no_id → ⊥) → Stands (r ∷ earlier) c (super_in (records_with 2 c 0 rs)) rs)
         → Stands earlier c (super_in (records_with 2 c 0 (r ∷ rs))) (r ∷ rs)
     go true i k =

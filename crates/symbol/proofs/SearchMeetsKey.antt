@@ -14,8 +14,10 @@ use Rattle.index.proofs.ListSearch.{sits-own}
 use Rattle.index.proofs.Paths.{and_true, id_bucket, not-met, passes_key, own_key_in}
 use Rattle.record.proofs.SameKeys.{same_kind, function_fresh}
 use Rattle.record.proofs.RecordSizes.{stands_own}
+use Rattle.record.specs.declared.front.Head.{Head}
+use Rattle.index.proofs.Standing.{Standing, standing}
 use Rattle.symbol.specs.Inside.Asked.{Planted, Prepared}
-use Rattle.record.specs.Inside.Front.{head_of}
+use Rattle.record.specs.Inside.Front.{front_of, front_of_head}
 use Rattle.record.specs.Inside.HeadFault.{same_key, has_key, is_class, has_class}
 use Rattle.record.specs.Inside.FrontRecord.{front_record}
 use Rattle.record.specs.Table.{Record, records_of}
@@ -25,7 +27,7 @@ use Rattle.index.specs.Inside.SearchKey.{key_matches, KeyIn, key_at}
 use Rattle.index.specs.Inside.Spot.{Open, TakenIs, FreeIs}
 use Rattle.index.specs.Inside.SearchTree.{TreeMember}
 use Rattle.record.specs.Inside.Walk.{CursorAt, Sits, record_at, before}
-use Rattle.record.specs.declared.front.Head.{Head}
+use Rattle.record.specs.Inside.Front.{Front}
 use Rattle.index.specs.declared.index.Place.{Place}
 use Rattle.index.specs.declared.tree.Key.{Key}
 use Rattle.index.specs.declared.tree.Key.TheVariants.{Ids}
@@ -39,7 +41,7 @@ module _ (t x : List ℕ) (c : Cursor) (a : CursorAt t c) (g : Planted t x c.at)
   planted_open = record { short = g.short; end = c.at; inside = a.inside; tree = g.tree }
 
   -- a key and its test
-  module _ (k : Key) (i : KeyIn t k) (f : Record → Bool) (same : (r : Record) → key_matches t k r ≡ f r) (other : (r : Record) → f r ≡ true → (head_of r).kind ≡ 4 → ⊥) where
+  module _ (k : Key) (i : KeyIn t k) (f : Record → Bool) (same : (r : Record) → key_matches t k r ≡ f r) (other : (r : Record) → f r ≡ true → (front_of r).kind ≡ 4 → ⊥) where
     taken-before : (p : Place) → TakenIs t c.at k p → any_of f (before c.index (records_of t)) ≡ true
     taken-before p h = passed_before t f c.at sits p.at h.node.begun.sits h.node.low (sym (same (front_record (drop p.at t))) ∙ h.has)
 
@@ -57,7 +59,7 @@ module _ (t x : List ℕ) (c : Cursor) (a : CursorAt t c) (g : Planted t x c.at)
                 record {
                   begun = record { sits = v; some = some; whole = g.entered.whole q v l };
                   low = l;
-                  other = λ d. other (front_record (drop q t)) z (ap (λ (h : Head). h.kind) (sits-own t q v some) ∙ d);
+                  other = λ d. other (front_record (drop q t)) z (ap (λ (h : Front). h.kind) (sits-own t q v some) ∙ d);
                 }
 
             go : (u : Bool) → f (front_record (drop q t)) ≡ u → f (front_record (drop q t)) ≡ false
@@ -66,54 +68,60 @@ module _ (t x : List ℕ) (c : Cursor) (a : CursorAt t c) (g : Planted t x c.at)
 
   -- ---- a class
   module _ (id : ℕ) where
-    class_same : (r : Record) → key_matches t (Ids 2 id 0) r ≡ is_class id (head_of r)
-    class_same r = ap (λ (v : Bool). eqb (head_of r).kind 2 && v) (and_true (eqb (head_of r).one id))
+    class_same : (r : Record) → key_matches t (Ids 2 id 0) r ≡ is_class id (front_of r)
+    class_same r = ap (λ (v : Bool). eqb (front_of r).kind 2 && v) (and_true (eqb (front_of r).one id))
 
-    class_other : (r : Record) → is_class id (head_of r) ≡ true → (head_of r).kind ≡ 4 → ⊥
-    class_other r e d = omega (arith, eqb-true (head_of r).kind 2 (and_left (eqb (head_of r).kind 2) (eqb (head_of r).one id) e), d)
+    class_other : (r : Record) → is_class id (front_of r) ≡ true → (front_of r).kind ≡ 4 → ⊥
+    class_other r e d = omega (arith, eqb-true (front_of r).kind 2 (and_left (eqb (front_of r).kind 2) (eqb (front_of r).one id) e), d)
 
     pub class-taken : (p : Place) → TakenIs t c.at (Ids 2 id 0) p → true ≡ has_class id (before c.index (records_of t))
-    class-taken p h = sym (taken-before (Ids 2 id 0) (omega arith) (λ r. is_class id (head_of r)) class_same class_other p h) ∙ any-class id (before c.index (records_of t))
+    class-taken p h = sym (taken-before (Ids 2 id 0) (omega arith) (λ r. is_class id (front_of r)) class_same class_other p h) ∙ any-class id (before c.index (records_of t))
 
     pub class-free : (s : ℕ) → FreeIs t x (Ids 2 id 0) s → false ≡ has_class id (before c.index (records_of t))
-    class-free s h = sym (free-before (Ids 2 id 0) (omega arith) (λ r. is_class id (head_of r)) class_same class_other s h) ∙ any-class id (before c.index (records_of t))
+    class-free s h = sym (free-before (Ids 2 id 0) (omega arith) (λ r. is_class id (front_of r)) class_same class_other s h) ∙ any-class id (before c.index (records_of t))
 
 -- ---- the key of a record
 module _ (t x : List ℕ) (c : Cursor) (h : Head) (p : Prepared t x c h) where
-  own : h ≡ head_of (record_at t c)
+  abbrev f : Front
+  f = front_of_head h
+
+  stands : Standing t c f
+  stands = standing t c h p.stands
+
+  own : f ≡ front_of (record_at t c)
   own = stands_own t c h p.stands
 
-  pub own_in : KeyIn t (key_at c h)
-  own_in = own_key_in t c h p.stands p.whole
+  pub own_in : KeyIn t (key_at c f)
+  own_in = own_key_in t c f stands refl
 
   pub own_open : Open t x
   own_open = planted_open t x c p.stands.at p.planted
 
   -- a function
-  module _ (k : h.kind ≡ 4) where
-    is_function : (head_of (record_at t c)).kind ≡ 4
-    is_function = sym (ap (λ (z : Head). z.kind) own) ∙ k
+  module _ (k : f.kind ≡ 4) where
+    is_function : (front_of (record_at t c)).kind ≡ 4
+    is_function = sym (ap (λ (z : Front). z.kind) own) ∙ k
 
     pub list_fresh : false ≡ has_key (record_at t c) (before c.index (records_of t))
     list_fresh = sym (function_fresh (record_at t c) (before c.index (records_of t)) is_function)
 
     pub list-bucket : key_bucket 4 h.one h.two % list_count (length t) ≡ list_in (length t) (record_at t c)
     list-bucket =
-        ap (λ (z : Head). key_bucket 4 z.one z.two % list_count (length t)) own
-        ∙ ap (λ (z : ℕ). z % list_count (length t)) (sym (ap (λ (z : ℕ). key_bucket z (head_of (record_at t c)).one (head_of (record_at t c)).two) is_function) ∙ sym (id_bucket (record_at t c) (λ z. omega (arith, is_function, z))))
+        ap (λ (z : Front). key_bucket 4 z.one z.two % list_count (length t)) own
+        ∙ ap (λ (z : ℕ). z % list_count (length t)) (sym (ap (λ (z : ℕ). key_bucket z (front_of (record_at t c)).one (front_of (record_at t c)).two) is_function) ∙ sym (id_bucket (record_at t c) (λ z. omega (arith, is_function, z))))
         ∙ sym (list-function (length t) (record_at t c) is_function)
 
   -- another record
-  module _ (k : h.kind ≡ 4 → ⊥) where
-    not-function : (r : Record) → same_key r (record_at t c) ≡ true → (head_of r).kind ≡ 4 → ⊥
-    not-function r e d = k (ap (λ (z : Head). z.kind) own ∙ sym (same_kind r (record_at t c) e) ∙ d)
+  module _ (k : f.kind ≡ 4 → ⊥) where
+    not-function : (r : Record) → same_key r (record_at t c) ≡ true → (front_of r).kind ≡ 4 → ⊥
+    not-function r e d = k (ap (λ (z : Front). z.kind) own ∙ sym (same_kind r (record_at t c) e) ∙ d)
 
-    pub key_taken : (q : Place) → TakenIs t c.at (key_at c h) q → true ≡ has_key (record_at t c) (before c.index (records_of t))
+    pub key_taken : (q : Place) → TakenIs t c.at (key_at c f) q → true ≡ has_key (record_at t c) (before c.index (records_of t))
     key_taken q e =
-        sym (taken-before t x c p.stands.at p.planted (key_at c h) own_in (λ r. same_key r (record_at t c)) (passes_key t c h p.stands k) not-function q e)
+        sym (taken-before t x c p.stands.at p.planted (key_at c f) own_in (λ r. same_key r (record_at t c)) (passes_key t c f stands k) not-function q e)
         ∙ any_key (record_at t c) (before c.index (records_of t))
 
-    pub key_free : (s : ℕ) → FreeIs t x (key_at c h) s → false ≡ has_key (record_at t c) (before c.index (records_of t))
+    pub key_free : (s : ℕ) → FreeIs t x (key_at c f) s → false ≡ has_key (record_at t c) (before c.index (records_of t))
     key_free s e =
-        sym (free-before t x c p.stands.at p.planted (key_at c h) own_in (λ r. same_key r (record_at t c)) (passes_key t c h p.stands k) not-function s e)
+        sym (free-before t x c p.stands.at p.planted (key_at c f) own_in (λ r. same_key r (record_at t c)) (passes_key t c f stands k) not-function s e)
         ∙ any_key (record_at t c) (before c.index (records_of t))

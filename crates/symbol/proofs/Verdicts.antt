@@ -1,33 +1,64 @@
 -- What the answer of `check_table` says.
-use Prim.Native.Nat.{ℕ}
-use borrow.Author.Tests.{eqb-true}
+use Prim.Native.Nat.{ℕ, ◌≤◌}
+use denote.Enum.Bare.{sameb}
 use lib.Dec.{eqb}
 use mathlib.Core.Bool.{Bool, true, false}
+use mir.Val.{bool_byte}
 use mathlib.Core.List.{List}
-use mathlib.Core.Path.{◌≡◌, refl, sym, ap, ◌∙◌}
+use mathlib.Core.Path.{◌≡◌, refl, sym, ap, ◌∙◌, subst}
+use native.Mathlib.Omega.{arith}
+use Rattle.std.specs.Prelude.{Result, Ok, Err, IfOk, IsErr, IsErrAnd}
+use Rattle.index.proofs.KindTests.{kinds_tested}
+use Rattle.record.specs.RecordKind.{record_kind_number}
+use Rattle.record.specs.contracts.front.RecordKind.{the_type}
+use Rattle.record.specs.declared.front.RecordKind.TheVariants.{Name}
+use Rattle.record.specs.declared.front.RecordKind.{RecordKind}
 use Rattle.ty.specs.Choose.{choose}
 use Rattle.record.specs.TableRefused.{table_fault}
 use Rattle.record.specs.Table.{records_of, name_count}
-use Rattle.symbol.specs.Inside.Checked.{acceptance, checked_of}
-use Rattle.symbol.specs.declared.checks.Checked.{Checked}
+use Rattle.symbol.specs.Inside.Checked.{checked_number}
+use Rattle.symbol.specs.TableFault.{table_fault_number}
+use Rattle.symbol.specs.declared.checks.TableFault.{TableFault}
+use Rattle.symbol.specs.declared.checks.TableFault.TheVariants.{TooLong, Malformed, KindFalls, UndefinedId, KeyRepeated, SuperclassLate, HasError}
 
--- the number is the table's
-pub checked-number : (t : List ℕ) → (checked_of t).number ≡ table_fault t
-unfolding checked_of choose
-checked-number t = go (eqb (table_fault t) 0) refl
+-- a refusal has a number
+pub fault_some : (f : TableFault) → table_fault_number f ≡ 0 → ⊥
+fault_some TooLong e = omega arith
+fault_some Malformed e = omega arith
+fault_some KindFalls e = omega arith
+fault_some UndefinedId e = omega arith
+fault_some KeyRepeated e = omega arith
+fault_some SuperclassLate e = omega arith
+fault_some HasError e = omega arith
+
+-- AN ANSWER WITH NAMES accepts the table, and has its names
+module _ (t : List ℕ) (r : Result ℕ TableFault) (e : checked_number r ≡ table_fault t) where
+  pub checked-clean : (n : ℕ) → r ≡ Ok n → table_fault t ≡ 0
+  checked-clean n q = sym e ∙ ap checked_number q
+
+  pub checked-names : (n : ℕ) → r ≡ Ok n → IfOk r (λ (m : ℕ). m ≡ name_count (records_of t)) → n ≡ name_count (records_of t)
+  checked-names n q h = subst (λ (z : Result ℕ TableFault). IfOk z (λ (m : ℕ). m ≡ name_count (records_of t))) q h
+
+  -- another answer is the table's number, which is none of an accepted one
+  pub checked-refused : (f : TableFault) → r ≡ Err f → (table_fault t ≡ table_fault_number f) × (table_fault t ≡ 0 → ⊥)
+  checked-refused f q =
+      let n : table_fault t ≡ table_fault_number f = sym e ∙ ap checked_number q in
+      (n, λ z. fault_some f (sym n ∙ z))
+
+-- a refusal that a callee gave is passed on
+pub passed_on : (r : Result ℕ TableFault) (f : TableFault) → IsErr r → IsErrAnd r (λ (g : TableFault). g ≡ f) → checked_number r ≡ table_fault_number f
+passed_on (Ok n) f i h = absurd h
+passed_on (Err g) f i h = ap table_fault_number h
+
+-- a name counts one
+pub counted : (k : RecordKind) (v : Bool) → v ≡ sameb the_type k Name → bool_byte v ≡ choose (eqb (record_kind_number k) 1) 1 0
+unfolding choose
+counted k v e = ap bool_byte (e ∙ kinds_tested k Name) ∙ go (eqb (record_kind_number k) 1)
   where
-    go : (v : Bool) → eqb (table_fault t) 0 ≡ v → (checked_of t).number ≡ table_fault t
-    go true q = rw q (sym (eqb-true (table_fault t) 0 q))
-    go false q = rw q
+    go : (u : Bool) → bool_byte u ≡ choose u 1 0
+    go true = refl
+    go false = refl
 
--- AN ANSWER WITHOUT A NUMBER accepts the table, and has its names
-module _ (t : List ℕ) (r : Checked) (e : r ≡ checked_of t) (z : r.number ≡ 0) where
-  pub checked-clean : table_fault t ≡ 0
-  checked-clean = sym (ap (λ (x : Checked). x.number) e ∙ checked-number t) ∙ z
-
-  accepts : r ≡ acceptance (records_of t)
-  unfolding checked_of choose
-  accepts = e ∙ rw checked-clean
-
-  pub checked-names : r.names ≡ name_count (records_of t)
-  checked-names = ap (λ (x : Checked). x.names) accepts
+pub counted_few : (v : Bool) → bool_byte v ≤ 1
+counted_few true = omega arith
+counted_few false = omega arith

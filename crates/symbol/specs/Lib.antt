@@ -1,4 +1,5 @@
 pub mod Symbols
+pub mod TableFault
 pub mod Lookup
 pub mod Subclass
 pub mod Inside

@@ -9,8 +9,8 @@ ghost use Rattle.record.specs.Inside.Walk.{behind};
 
 use index::index::Place;
 use record::front::{LONGEST, read_record};
-use ty::read::read_type;
-use ty::{TypeRead, byte_at, id_at, tail};
+use ty::read::{TypeFault, read_type};
+use ty::{TypeRead, byte_at, id_at};
 
 // The parameters of a function: how many, and of each its name, whether it has a default and is vararg, and where its type lies in the table.
 #[derive(Clone, Copy)]
@@ -80,18 +80,12 @@ impl Params {
 }
 
 // How long a type is that was read so.
-fn whole_length(read: TypeRead) -> usize
+fn whole_length(read: Result<TypeRead, TypeFault>) -> usize
     ensures { result ≡ whole_length read }
 {
     match read {
-        TypeRead::Whole {
-            len,
-            top: _,
-            error: _,
-        } => len,
-        TypeRead::Cut => 0,
-        TypeRead::Malformed => 0,
-        TypeRead::Endless { top: _, error: _ } => 0,
+        Ok(found) => found.len,
+        Err(_) => 0,
     }
 }
 
@@ -138,14 +132,24 @@ fn read_whole(t: &[u8], p: Place, end: usize) -> Function
     }
 }
 
+// Where the record at a place ends.
+pub(crate) fn end_of(t: &[u8], p: Place) -> usize
+    requires { p.at < length t.now }
+    ensures { result ≡ behind t.now p.at }
+{
+    let at = p.at;
+    match read_record(&t[at..]) {
+        Some(h) => at + h.len,
+        None => t.len(),
+    }
+}
+
 // The function at a place.
 pub fn read_function(t: &[u8], p: Place) -> Function
     requires { FunctionAt t.now p }
     ensures { result ≡ function_at t.now p }
 {
-    let at = p.at;
-    let h = read_record(tail(t, at));
-    read_whole(t, p, at + h.len)
+    read_whole(t, p, end_of(t, p))
 }
 
 // Whether the function at a place is a builtin.

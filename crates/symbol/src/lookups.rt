@@ -1,16 +1,20 @@
 // Lookups in an accepted table.
 ghost use Rattle.std.specs.Prelude.{◌≡◌};
+ghost use Rattle.index.specs.Inside.Found.{FoundIs};
 ghost use Rattle.index.specs.Inside.IndexedTable.{IndexedTable};
+ghost use Rattle.index.specs.Inside.SearchKey.{Single};
+ghost use Rattle.record.specs.Inside.Keyed.{records_with};
+ghost use Rattle.record.specs.Table.{records_of};
 ghost use Rattle.symbol.specs.Inside.LookupAnswer.{mask_of, visibility_of};
 ghost use Rattle.symbol.specs.Inside.Places.{first_place, function_places, field_part};
 ghost use Rattle.symbol.specs.Inside.FunctionCursor.{functions_first, found_here, functions_next, AtFunction};
 ghost use Rattle.symbol.specs.Lookup.{symbols_of};
 
-use index::index::{Found, entry_at};
+use crate::functions::end_of;
+use index::index::{Place, entry_at};
 use index::list::ListCursor;
 use index::tree::seek;
-use record::front::read_record;
-use ty::{NameId, byte_at, id_at, tail};
+use ty::{NameId, byte_at, id_at};
 
 // A part of the table.
 #[derive(Clone, Copy)]
@@ -33,15 +37,22 @@ pub enum Visibility {
     Is(u8),
 }
 
+// The only record of a kind, from 2 on and not 4, with a key.
+fn place_of(t: &[u8], x: &[u16], kind: u8, one: u16, two: u16) -> Option<Place>
+    requires { IndexedTable t.now x.now × Single kind }
+    ensures { FoundIs t.now (records_with kind one two (records_of t.now)) kind one two result }
+{
+    seek(t, x, kind, one, two)
+}
+
 // The superclass of a class, NameId::NONE where it has none or there is no such class.
 pub fn superclass_of(t: &[u8], x: &[u16], class: u16) -> u16
     requires { IndexedTable t.now x.now }
     ensures { result ≡ (symbols_of t.now).super_of class }
 {
-    let f = seek(t, x, 2, class, 0);
-    match f {
-        Found::Here(p) => id_at(t, p.at + 3),
-        Found::Nothing => NameId::NONE,
+    match place_of(t, x, 2, class, 0) {
+        Some(p) => id_at(t, p.at + 3),
+        None => NameId::NONE,
     }
 }
 
@@ -50,10 +61,9 @@ pub fn package_of(t: &[u8], x: &[u16], class: u16) -> u16
     requires { IndexedTable t.now x.now }
     ensures { result ≡ (symbols_of t.now).package_of class }
 {
-    let f = seek(t, x, 2, class, 0);
-    match f {
-        Found::Here(p) => id_at(t, p.at + 5),
-        Found::Nothing => NameId::NONE,
+    match place_of(t, x, 2, class, 0) {
+        Some(p) => id_at(t, p.at + 5),
+        None => NameId::NONE,
     }
 }
 
@@ -62,10 +72,9 @@ pub fn in_types(t: &[u8], x: &[u16], class: u16) -> bool
     requires { IndexedTable t.now x.now }
     ensures { result ≡ (symbols_of t.now).in_types class }
 {
-    let f = seek(t, x, 2, class, 0);
-    match f {
-        Found::Here(p) => byte_at(t, p.at + 7) == 1,
-        Found::Nothing => false,
+    match place_of(t, x, 2, class, 0) {
+        Some(p) => byte_at(t, p.at + 7) == 1,
+        None => false,
     }
 }
 
@@ -74,10 +83,9 @@ pub fn operators_of(t: &[u8], x: &[u16], class: u16) -> Mask
     requires { IndexedTable t.now x.now }
     ensures { mask_of result ≡ (symbols_of t.now).operators_of class }
 {
-    let f = seek(t, x, 3, class, 0);
-    match f {
-        Found::Here(p) => Mask::Is(id_at(t, p.at + 3)),
-        Found::Nothing => Mask::Nothing,
+    match place_of(t, x, 3, class, 0) {
+        Some(p) => Mask::Is(id_at(t, p.at + 3)),
+        None => Mask::Nothing,
     }
 }
 
@@ -86,16 +94,15 @@ pub fn field_of(t: &[u8], x: &[u16], owner: u16, name: u16) -> Part
     requires { IndexedTable t.now x.now }
     ensures { result ≡ field_part t.now owner name }
 {
-    let f = seek(t, x, 5, owner, name);
-    match f {
-        Found::Here(p) => {
-            let h = read_record(tail(t, p.at));
+    match place_of(t, x, 5, owner, name) {
+        Some(p) => {
+            let start = p.at + 5;
             Part::At {
-                start: p.at + 5,
-                len: h.len - 5,
+                start,
+                len: end_of(t, p) - start,
             }
         }
-        Found::Nothing => Part::Nothing,
+        None => Part::Nothing,
     }
 }
 
@@ -104,10 +111,9 @@ pub fn visibility_of(t: &[u8], x: &[u16], owner: u16, name: u16) -> Visibility
     requires { IndexedTable t.now x.now }
     ensures { visibility_of result ≡ (symbols_of t.now).visibility_of owner name }
 {
-    let f = seek(t, x, 6, owner, name);
-    match f {
-        Found::Here(p) => Visibility::Is(byte_at(t, p.at + 5)),
-        Found::Nothing => Visibility::Nothing,
+    match place_of(t, x, 6, owner, name) {
+        Some(p) => Visibility::Is(byte_at(t, p.at + 5)),
+        None => Visibility::Nothing,
     }
 }
 
@@ -116,11 +122,7 @@ pub fn is_suspend(t: &[u8], x: &[u16], owner: u16, name: u16) -> bool
     requires { IndexedTable t.now x.now }
     ensures { result ≡ (symbols_of t.now).is_suspend owner name }
 {
-    let f = seek(t, x, 7, owner, name);
-    match f {
-        Found::Here(_) => true,
-        Found::Nothing => false,
-    }
+    place_of(t, x, 7, owner, name).is_some()
 }
 
 // Whether there is such an enum variant.
@@ -128,11 +130,7 @@ pub fn is_variant(t: &[u8], x: &[u16], owner: u16, name: u16) -> bool
     requires { IndexedTable t.now x.now }
     ensures { result ≡ (symbols_of t.now).is_variant owner name }
 {
-    let f = seek(t, x, 8, owner, name);
-    match f {
-        Found::Here(_) => true,
-        Found::Nothing => false,
-    }
+    place_of(t, x, 8, owner, name).is_some()
 }
 
 // A place in the list of functions of an owner, which may be NameId::NONE, and a name: at one of them, or at the list's end.
@@ -147,9 +145,9 @@ impl Functions {
         requires { IndexedTable t.now x.now }
         ensures { result ≡ functions_first t.now owner name }
     {
-        let start = ListCursor::new(t, x, owner, name);
-        let list = start.follow(t, x);
-        Functions { list }
+        Functions {
+            list: ListCursor::first(t, x, owner, name),
+        }
     }
 
     // At the next of them.
@@ -157,13 +155,13 @@ impl Functions {
         requires { IndexedTable t.now x.now × AtFunction t.now self }
         ensures { result ≡ functions_next t.now self }
     {
-        let step = self.list.step(t, x);
-        let list = step.follow(t, x);
-        Functions { list }
+        Functions {
+            list: self.list.next(t, x),
+        }
     }
 
     // The function here.
-    pub fn found(self) -> Found
+    pub fn found(self) -> Option<Place>
         ensures { result ≡ found_here self }
     {
         self.list.found()
@@ -171,7 +169,7 @@ impl Functions {
 }
 
 // The first function of an owner, which may be NameId::NONE, and a name.
-pub fn first_function(t: &[u8], x: &[u16], owner: u16, name: u16) -> Found
+pub fn first_function(t: &[u8], x: &[u16], owner: u16, name: u16) -> Option<Place>
     requires { IndexedTable t.now x.now }
     ensures { result ≡ first_place (function_places t.now owner name) }
 {

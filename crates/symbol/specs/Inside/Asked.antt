@@ -9,7 +9,7 @@ use Rattle.record.specs.Inside.Walk.{Stands, record_at, before}
 use Rattle.record.specs.declared.front.Head.{Head}
 use Rattle.record.specs.declared.walk.Cursor.{Cursor}
 
--- The record h stands at c; k is the kind before it, and n how many names are before it.
+-- The whole record h stands at c; k is the kind before it, and n how many names are before it.
 pub record Asked (t : List ℕ) (c : Cursor) (h : Head) (k n : ℕ) : Type 0 where
   pub stands : Stands t c h
   pub kind : k ≡ last_kind (before c.index (records_of t))
@@ -24,7 +24,6 @@ pub record Planted (t x : List ℕ) (e : ℕ) : Type 0 where
 -- The whole record h stands at c, and the index has the records before it.
 pub record Prepared (t x : List ℕ) (c : Cursor) (h : Head) : Type 0 where
   pub stands : Stands t c h
-  pub whole : h.malformed ≡ false
   pub planted : Planted t x c.at
 
 -- the same of the record at c, beside those before it

@@ -5,14 +5,14 @@ use Rattle.std.proofs.Math.Option.{Option, none, some}
 use Rattle.ty.specs.Name.{no_id}
 use Rattle.ty.specs.Bytes.{Ty, id_at}
 use Rattle.symbol.specs.Symbols.{Param, Overload}
-use Rattle.record.specs.Inside.Front.{head_of}
+use Rattle.record.specs.Inside.Front.{front_of}
 use Rattle.record.specs.Table.{Record}
 use Rattle.record.specs.Inside.Keyed.{type_length}
 
 -- ---- of a class record: superclass, package, in `types`; none has neither
 abbrev pub super_in : List Record → ℕ
 super_in [] = no_id
-super_in (r ∷ rs) = (head_of r).two
+super_in (r ∷ rs) = (front_of r).two
 
 abbrev pub package_in : List Record → ℕ
 package_in [] = no_id
@@ -25,7 +25,7 @@ types_in (r ∷ rs) = eqb (get_or r 7 0) 1
 -- ---- the mask of an operator set, the type of a field, a member's visibility
 abbrev pub mask_in : List Record → Option ℕ
 mask_in [] = none
-mask_in (r ∷ rs) = some (head_of r).two
+mask_in (r ∷ rs) = some (front_of r).two
 
 abbrev pub field_in : List Record → Option Ty
 field_in [] = none

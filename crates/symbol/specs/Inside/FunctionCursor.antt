@@ -1,8 +1,7 @@
 -- The cursor along the functions of an owner and a name.
-use Rattle.std.specs.Prelude.{ℕ, suc, ◌+◌, ◌-◌, ◌<◌, List, ◌≡◌}
+use Rattle.std.specs.Prelude.{None, Some, ℕ, suc, ◌+◌, ◌-◌, ◌<◌, List, ◌≡◌}
 use Rattle.index.specs.Inside.Found.{FunctionAt, found_at}
-use Rattle.index.specs.declared.index.Found.TheVariants as found
-use Rattle.index.specs.declared.index.Found.{Found}
+use Rattle.index.specs.Inside.Found.{Found}
 use Rattle.index.specs.declared.index.Place.{Place}
 use Rattle.symbol.specs.Inside.Places.{first_place, function_places, places_behind}
 use Rattle.symbol.specs.declared.lookups.Functions.{Functions}
@@ -10,8 +9,8 @@ use Rattle.ty.specs.Bytes.{id_at}
 
 -- a place that was found, by its first byte counted from 1; 0 is none
 abbrev pub here_of : Found → ℕ
-here_of found.Nothing = 0
-here_of (found.Here p) = suc p.at
+here_of None = 0
+here_of (Some p) = suc p.at
 
 -- the cursor of an owner and a name at a place that was found
 abbrev pub cursor_at : ℕ → ℕ → Found → Functions

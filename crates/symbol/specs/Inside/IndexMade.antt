@@ -4,7 +4,7 @@ use Rattle.std.specs.Prelude.{ℕ, zero, suc, ◌+◌, ◌-◌, ltb, eqb, length
 use Rattle.ty.specs.Choose.{choose}
 use Rattle.index.specs.Inside.Bucket.{digit_of}
 use Rattle.index.specs.Inside.Entered.{entered}
-use Rattle.record.specs.Inside.Front.{head_of}
+use Rattle.record.specs.Inside.Front.{front_of}
 use Rattle.record.specs.Inside.HeadFault.{head_fault}
 use Rattle.record.specs.Inside.FrontRecord.{count_of}
 use Rattle.record.specs.Table.{Record, records_of}
@@ -21,13 +21,13 @@ entry_of n r x = end_from (2 + n) x n (digit_of r) 0 (root_at (tree_in n r))
 
 -- the record r at byte p comes into the index: a function behind the last one of its bucket, another record in its tree
 unfoldable pub placed : ℕ → ℕ → Record → List ℕ → List ℕ
-placed n p r x = choose (eqb (head_of r).kind 4) (entered n (list_in n r) p x) (set x (entry_of n r x) (suc p))
+placed n p r x = choose (eqb (front_of r).kind 4) (entered n (list_in n r) p x) (set x (entry_of n r x) (suc p))
 
 -- some records, of which the first begins at byte p, behind some earlier ones
 unfoldable pub made_from : ℕ → ℕ → List Record → List Record → List ℕ → List ℕ
 made_from n p earlier [] x = set x 0 (count_of 1 earlier)
 made_from n p earlier (r ∷ rs) x =
-    choose (eqb (head_fault earlier r (r ∷ rs)) 0) (made_from n (p + (head_of r).len) (r ∷ earlier) rs (placed n p r x)) x
+    choose (eqb (head_fault earlier r (r ∷ rs)) 0) (made_from n (p + (front_of r).len) (r ∷ earlier) rs (placed n p r x)) x
 
 -- a table that is too long changes nothing
 unfoldable pub index_made : List ℕ → List ℕ → List ℕ

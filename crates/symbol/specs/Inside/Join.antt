@@ -1,7 +1,7 @@
 -- What the check of a table does with a record in the index.
 use Rattle.std.specs.Prelude.{ℕ, suc, ◌<◌, Bool, true, false, ◌≡◌, List, length, set, drop}
 use Rattle.index.specs.Inside.Entered.{EntryAsked, entered}
-use Rattle.record.specs.Inside.Front.{head_of}
+use Rattle.record.specs.Inside.Front.{front_of}
 use Rattle.record.specs.Inside.HeadFault.{has_key, super_missing}
 use Rattle.record.specs.Table.{records_of}
 use Rattle.index.specs.Inside.Index.{list_count, list_in}
@@ -22,11 +22,11 @@ taken_of (entry.List b) = false
 
 -- the empty entry where a search for its key ends, or the bucket of its list
 pub record EntryTreeIs (t x : List ℕ) (c : Cursor) (a : ℕ) : Type 0 where
-  pub other : (head_of (drop c.at t)).kind ≡ 4 → ⊥
-  pub free : FreeIs t x (key_at c (head_of (drop c.at t))) a
+  pub other : (front_of (drop c.at t)).kind ≡ 4 → ⊥
+  pub free : FreeIs t x (key_at c (front_of (drop c.at t))) a
 
 pub record EntryListIs (t : List ℕ) (c : Cursor) (b : ℕ) : Type 0 where
-  pub function : (head_of (drop c.at t)).kind ≡ 4
+  pub function : (front_of (drop c.at t)).kind ≡ 4
   pub bucket : b ≡ list_in (length t) (record_at t c)
   pub low : b < list_count (length t)
 

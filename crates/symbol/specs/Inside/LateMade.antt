@@ -2,7 +2,7 @@
 use Rattle.std.specs.Prelude.{ℕ, ◌+◌, eqb, Bool, List, [], ◌∷◌}
 use Rattle.ty.specs.Choose.{choose}
 use Rattle.index.specs.Inside.Ahead.{marked_from}
-use Rattle.record.specs.Inside.Front.{head_of}
+use Rattle.record.specs.Inside.Front.{front_of}
 use Rattle.record.specs.Inside.HeadFault.{super_missing, own_fault, key_fault}
 use Rattle.record.specs.Table.{Record, records_of}
 
@@ -16,7 +16,7 @@ late_from t p earlier [] late = late
 late_from t p earlier (r ∷ rs) late =
     choose (eqb (own_fault earlier r) 0)
     (choose (super_missing earlier r) (marked_from t p late)
-    (choose (eqb (key_fault earlier r (r ∷ rs)) 0) (late_from t (p + (head_of r).len) (r ∷ earlier) rs late) late))
+    (choose (eqb (key_fault earlier r (r ∷ rs)) 0) (late_from t (p + (front_of r).len) (r ∷ earlier) rs late) late))
     late
 
 unfoldable pub late_made : List ℕ → List ℕ → List ℕ

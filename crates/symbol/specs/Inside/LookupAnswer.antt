@@ -1,10 +1,9 @@
 -- What the lookups answer.
-use Rattle.std.specs.Prelude.{ℕ, zero, suc, ◌+◌, ◌≤◌, ◌<◌, ◌≡◌, false, List, [], ◌∷◌, map, length, get_or, drop, take}
+use Rattle.std.specs.Prelude.{None, Some, ℕ, zero, suc, ◌+◌, ◌≤◌, ◌<◌, ◌≡◌, false, List, [], ◌∷◌, map, length, get_or, drop, take}
 use Rattle.std.proofs.Math.Option.{Option, none, some}
 use Rattle.ty.specs.Bytes.{Ty}
 use Rattle.index.specs.declared.index.Place.{Place}
-use Rattle.index.specs.declared.index.Found.{Found}
-use Rattle.index.specs.declared.index.Found.TheVariants as found
+use Rattle.index.specs.Inside.Found.{Found}
 use Rattle.symbol.specs.declared.lookups.Part.{Part}
 use Rattle.symbol.specs.declared.lookups.Part.TheVariants as part
 use Rattle.symbol.specs.declared.lookups.Mask.{Mask}
@@ -56,8 +55,8 @@ pub record FunctionIs (t : List ℕ) (all : List Overload) (p : Place) : Type 0 
   pub here : FunctionAt t p
 
 abbrev pub FunctionFound : List ℕ → List Overload → Found → Type 0
-FunctionFound t all found.Nothing = all ≡ []
-FunctionFound t all (found.Here p) = FunctionIs t all p
+FunctionFound t all None = all ≡ []
+FunctionFound t all (Some p) = FunctionIs t all p
 
 -- ---- a function that was read: its types are parts of the table
 abbrev pub param_at : List ℕ → Params → ℕ → Param

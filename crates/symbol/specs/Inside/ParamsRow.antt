@@ -1,7 +1,7 @@
 -- A function record whose types are whole, as an accepted table has them.
 use Rattle.std.specs.Prelude.{ℕ, zero, suc, ◌+◌, ◌-◌, ◌≤◌, ◌<◌, Bool, false, List, ◌≡◌, length, get_or, drop, take, set, replicate}
 use Rattle.ty.specs.Read.{read_type, longest_type}
-use Rattle.ty.specs.declared.read.TypeRead.TheVariants.{Whole}
+use Rattle.ty.specs.Read.{whole_read}
 use Rattle.symbol.specs.Inside.LookupAnswer.{params_row}
 use Rattle.record.specs.Inside.Keyed.{type_length}
 use Rattle.symbol.specs.Symbols.{Param}
@@ -14,7 +14,7 @@ part t a e = take (e - a) (drop a t)
 -- a whole type without Error stands at byte n of s
 pub record TypeAt (s : List ℕ) (n : ℕ) : Type 0 where
   pub top : ℕ
-  pub whole : read_type (drop n s) longest_type ≡ Whole (type_length (drop n s)) top false
+  pub whole : read_type (drop n s) longest_type ≡ whole_read (type_length (drop n s)) top false
   pub inside : n + type_length (drop n s) ≤ length s
 
 -- n parameters stand at the front of s

@@ -1,13 +1,12 @@
 -- Where the records of a table with a key stand, and what is read there.
-use Rattle.std.specs.Prelude.{ℕ, ◌+◌, ◌-◌, ◌&&◌, ◌≡◌, List, [], ◌∷◌, eqb, length, drop}
+use Rattle.std.specs.Prelude.{None, Some, ℕ, ◌+◌, ◌-◌, ◌&&◌, ◌≡◌, List, [], ◌∷◌, eqb, length, drop}
 use Rattle.ty.specs.Bytes.{same_bytes}
 use Rattle.ty.specs.Choose.{choose}
 use Rattle.record.specs.Layout.{record_kind, record_size}
 use Rattle.record.specs.Table.{Record, first_record, records_of, key_of}
 use Rattle.index.specs.Inside.Found.{FunctionAt}
 use Rattle.index.specs.declared.index.Place.{Place}
-use Rattle.index.specs.declared.index.Found.{Found}
-use Rattle.index.specs.declared.index.Found.TheVariants as found
+use Rattle.index.specs.Inside.Found.{Found}
 use Rattle.symbol.specs.declared.lookups.Part.{Part}
 use Rattle.symbol.specs.declared.lookups.Part.TheVariants as part
 
@@ -24,8 +23,8 @@ places_from t kind key p = places_in kind key p (records_of (drop p t))
 
 -- the first of some places
 unfoldable pub first_place : List Place → Found
-first_place [] = found.Nothing
-first_place (p ∷ ps) = found.Here p
+first_place [] = None
+first_place (p ∷ ps) = Some p
 
 -- ---- functions
 
@@ -43,15 +42,15 @@ pub record FirstPlaceIs (t : List ℕ) (all : List Place) (p : Place) : Type 0 w
   pub here : FunctionAt t p
 
 abbrev pub PlaceFound : List ℕ → List Place → Found → Type 0
-PlaceFound t all found.Nothing = all ≡ []
-PlaceFound t all (found.Here p) = FirstPlaceIs t all p
+PlaceFound t all None = all ≡ []
+PlaceFound t all (Some p) = FirstPlaceIs t all p
 
 -- ---- fields
 
 -- the type of a field record, behind its kind, owner and name
 abbrev pub field_part_at : List ℕ → Found → Part
-field_part_at t found.Nothing = part.Nothing
-field_part_at t (found.Here p) = part.At (p.at + 5) (record_size (drop p.at t) - 5)
+field_part_at t None = part.Nothing
+field_part_at t (Some p) = part.At (p.at + 5) (record_size (drop p.at t) - 5)
 
 -- the type of the field of an owner and a name
 unfoldable pub field_part : List ℕ → ℕ → ℕ → Part

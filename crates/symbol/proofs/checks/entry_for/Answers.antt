@@ -9,17 +9,20 @@ use Rattle.index.specs.Inside.Spot.{SpotIs, FreeIs}
 use Rattle.index.specs.Inside.TreeWalk.{search_of}
 use Rattle.index.specs.declared.tree.Key.{Key}
 use Rattle.index.specs.declared.tree.Spot.{Spot}
-use Rattle.record.specs.declared.front.Head.{Head}
+use Rattle.record.specs.Inside.Front.{Front}
 use Rattle.symbol.proofs.SearchMeetsKey.{own_in, own_open, list_fresh, list-bucket, key_taken, key_free}
+use Rattle.record.specs.declared.front.RecordKind.TheVariants.{Function}
+use Rattle.index.proofs.KindTests.{kinds_same, kinds_apart}
+use Rattle.record.specs.Inside.Front.{front_of_head}
 use Rattle.symbol.proofs.checks.entry_for.Goals as goal
 
-pub returns-then-h-eq4 : goal.returns-then-h-eq4
-returns-then-h-eq4 c = let k = c.if-h-eq4.true in
+pub returns-then-eq : goal.returns-then-eq
+returns-then-eq c = let k = (kinds_same c.args.h.kind Function c.eq.result c.eq.ensures c.if-eq.true) in
     record {
       key = list_fresh c.args.t.now c.args.x.now c.args.me c.args.h c.requires k;
       place =
           record {
-            function = ap (λ (z : Head). z.kind) (sym c.requires.stands.head) ∙ k;
+            function = ap (λ (z : Front). z.kind) (sym c.requires.stands.head) ∙ k;
             bucket = c.list_reduced.ensures.0 ∙ ap (λ (z : ℕ). z % list_count (length c.args.t.now)) c.key_bucket.ensures.0
                 ∙ list-bucket c.args.t.now c.args.x.now c.args.me c.args.h c.requires k;
             low = c.list_reduced.ensures.1;
@@ -31,19 +34,19 @@ tree_of-b-requires c = subst (λ (z : Key). KeyIn c.args.t.now z) (sym c.key_of-
     (own_in c.args.t.now c.args.x.now c.args.me c.args.h c.requires)
 
 pub returns-then-entry_at-eq0 : goal.returns-then-entry_at-eq0
-returns-then-entry_at-eq0 c = let f = root_free c.args.t.now c.args.x.now (key_at c.args.me c.args.h) c.tree_of-b.result c.entry_at.result
+returns-then-entry_at-eq0 c = let f = root_free c.args.t.now c.args.x.now (key_at c.args.me (front_of_head c.args.h)) c.tree_of-b.result c.entry_at.result
     (c.tree_of-b.ensures.0 ∙ ap (tree_for c.args.t.now) c.key_of-key.ensures) c.entry_at.ensures c.if-entry_at-eq0.true in
     record {
-      key = key_free c.args.t.now c.args.x.now c.args.me c.args.h c.requires c.if-h-eq4.false (1 + c.tree_of-b.result) f;
+      key = key_free c.args.t.now c.args.x.now c.args.me c.args.h c.requires (kinds_apart c.args.h.kind Function c.eq.result c.eq.ensures c.if-eq.false) (1 + c.tree_of-b.result) f;
       place =
           record {
-            other = λ z. c.if-h-eq4.false (ap (λ (y : Head). y.kind) c.requires.stands.head ∙ z);
-            free = subst (λ (z : Head). FreeIs c.args.t.now c.args.x.now (key_at c.args.me z) (1 + c.tree_of-b.result)) c.requires.stands.head f;
+            other = λ z. (kinds_apart c.args.h.kind Function c.eq.result c.eq.ensures c.if-eq.false) (ap (λ (y : Front). y.kind) c.requires.stands.head ∙ z);
+            free = subst (λ (z : Front). FreeIs c.args.t.now c.args.x.now (key_at c.args.me z) (1 + c.tree_of-b.result)) c.requires.stands.head f;
           };
     }
 
-pub search-spot-requires : goal.search-spot-requires
-search-spot-requires c = (
+pub search-requires : goal.search-requires
+search-requires c = (
   own_open c.args.t.now c.args.x.now c.args.me c.args.h c.requires,
   subst (λ (z : Key). KeyIn c.args.t.now z) (sym c.key_of-key.ensures) (own_in c.args.t.now c.args.x.now c.args.me c.args.h c.requires),
   c.tree_of-b.ensures.0,
@@ -51,24 +54,24 @@ search-spot-requires c = (
 
 pub returns-in-Taken : goal.returns-in-Taken
 returns-in-Taken c = record {
-  key = key_taken c.args.t.now c.args.x.now c.args.me c.args.h c.requires c.if-h-eq4.false _
-      (subst (λ (z : Spot). SpotIs c.args.t.now c.args.x.now c.args.me.at (key_at c.args.me c.args.h) z) c.in-Taken.is
-      (search_spot c.args.t.now c.args.x.now (key_at c.args.me c.args.h) (own_open c.args.t.now c.args.x.now c.args.me c.args.h c.requires)
-      c.search-spot.result (c.search-spot.ensures ∙ ap (search_of c.args.t.now c.args.x.now) c.key_of-key.ensures) c.args.me.at
+  key = key_taken c.args.t.now c.args.x.now c.args.me c.args.h c.requires (kinds_apart c.args.h.kind Function c.eq.result c.eq.ensures c.if-eq.false) _
+      (subst (λ (z : Spot). SpotIs c.args.t.now c.args.x.now c.args.me.at (key_at c.args.me (front_of_head c.args.h)) z) c.in-Taken.is
+      (search_spot c.args.t.now c.args.x.now (key_at c.args.me (front_of_head c.args.h)) (own_open c.args.t.now c.args.x.now c.args.me c.args.h c.requires)
+      c.search.result (c.search.ensures ∙ ap (search_of c.args.t.now c.args.x.now) c.key_of-key.ensures) c.args.me.at
       c.requires.planted.tree));
   place = tt;
 }
 
 pub returns-in-Free : goal.returns-in-Free
-returns-in-Free c = let f = subst (λ (z : Spot). SpotIs c.args.t.now c.args.x.now c.args.me.at (key_at c.args.me c.args.h) z) c.in-Free.is
-    (search_spot c.args.t.now c.args.x.now (key_at c.args.me c.args.h) (own_open c.args.t.now c.args.x.now c.args.me c.args.h c.requires)
-    c.search-spot.result (c.search-spot.ensures ∙ ap (search_of c.args.t.now c.args.x.now) c.key_of-key.ensures) c.args.me.at c.requires.planted.tree)
+returns-in-Free c = let f = subst (λ (z : Spot). SpotIs c.args.t.now c.args.x.now c.args.me.at (key_at c.args.me (front_of_head c.args.h)) z) c.in-Free.is
+    (search_spot c.args.t.now c.args.x.now (key_at c.args.me (front_of_head c.args.h)) (own_open c.args.t.now c.args.x.now c.args.me c.args.h c.requires)
+    c.search.result (c.search.ensures ∙ ap (search_of c.args.t.now c.args.x.now) c.key_of-key.ensures) c.args.me.at c.requires.planted.tree)
     in
     record {
-      key = key_free c.args.t.now c.args.x.now c.args.me c.args.h c.requires c.if-h-eq4.false _ f;
+      key = key_free c.args.t.now c.args.x.now c.args.me c.args.h c.requires (kinds_apart c.args.h.kind Function c.eq.result c.eq.ensures c.if-eq.false) _ f;
       place =
           record {
-            other = λ z. c.if-h-eq4.false (ap (λ (y : Head). y.kind) c.requires.stands.head ∙ z);
-            free = subst (λ (z : Head). FreeIs c.args.t.now c.args.x.now (key_at c.args.me z) c.in-Free.at) c.requires.stands.head f;
+            other = λ z. (kinds_apart c.args.h.kind Function c.eq.result c.eq.ensures c.if-eq.false) (ap (λ (y : Front). y.kind) c.requires.stands.head ∙ z);
+            free = subst (λ (z : Front). FreeIs c.args.t.now c.args.x.now (key_at c.args.me z) c.in-Free.at) c.requires.stands.head f;
           };
     }

@@ -1,12 +1,9 @@
-use Rattle.index.proofs.Firsts.{found_first}
-use Rattle.symbol.proofs.LaidLookups.{suspend_told}
+use mathlib.Core.Path.{◌∙◌}
 use Rattle.record.specs.Table.{records_of}
+use Rattle.symbol.proofs.LaidLookups.{suspend_told}
+use Rattle.symbol.proofs.PlacesFound.{found_some}
 use Rattle.symbol.proofs.lookups.is_suspend.Goals as goal
 
-pub returns-in-Here : goal.returns-in-Here
-returns-in-Here c = let h = rw c.in-Here.is at (found_first c.args.t.now c.requires.clean 7 c.args.owner c.args.name c.seek-f.result c.seek-f.ensures)
-    in rw (← suspend_told (records_of c.args.t.now) c.args.owner c.args.name, h.first)
-
-pub returns-in-Nothing : goal.returns-in-Nothing
-returns-in-Nothing c = let e = rw c.in-Nothing.is at (found_first c.args.t.now c.requires.clean 7 c.args.owner c.args.name c.seek-f.result
-    c.seek-f.ensures) in rw (← suspend_told (records_of c.args.t.now) c.args.owner c.args.name, e)
+pub returns : goal.returns
+returns c = c.is_some.ensures ∙ found_some c.args.t.now _ 7 c.args.owner c.args.name c.place_of.result c.place_of.ensures
+    ∙ suspend_told (records_of c.args.t.now) c.args.owner c.args.name

@@ -1,23 +1,15 @@
 use native.Mathlib.Omega.{arith}
-use Rattle.index.proofs.Firsts.{found_first}
 use Rattle.index.proofs.ListSearch.{place-two}
 use Rattle.symbol.proofs.LaidLookups.{super_told}
 use Rattle.record.specs.Table.{records_of}
 use Rattle.symbol.proofs.lookups.superclass_of.Goals as goal
 
 pub overflow_add-p : goal.overflow_add-p
-overflow_add-p c = let h = rw c.in-Here.is at (found_first c.args.t.now c.requires.clean 2 c.args.class 0 c.seek-f.result c.seek-f.ensures) in
-    omega (arith, h.some)
+overflow_add-p c = let h = c.in-Some.ensures in omega (arith, h.some)
 
-pub returns-in-Here : goal.returns-in-Here
-returns-in-Here c = let h = rw c.in-Here.is at (found_first c.args.t.now c.requires.clean 2 c.args.class 0 c.seek-f.result c.seek-f.ensures) in
-    rw (
-      ← super_told (records_of c.args.t.now) c.args.class,
-      h.first,
-      place-two c.args.t.now _ 2 c.args.class 0 c.in-Here.p h (omega arith),
-      c.id_at.ensures,
-    )
+pub returns-in-Some : goal.returns-in-Some
+returns-in-Some c = let h = c.in-Some.ensures in
+    rw (← super_told (records_of c.args.t.now) c.args.class, h.first, place-two c.args.t.now _ 2 c.args.class 0 c.in-Some.p h (omega arith), c.id_at.ensures)
 
-pub returns-in-Nothing : goal.returns-in-Nothing
-returns-in-Nothing c = let e = rw c.in-Nothing.is at (found_first c.args.t.now c.requires.clean 2 c.args.class 0 c.seek-f.result c.seek-f.ensures) in
-    rw (← super_told (records_of c.args.t.now) c.args.class, e)
+pub returns-in-None : goal.returns-in-None
+returns-in-None c = rw (← super_told (records_of c.args.t.now) c.args.class, c.in-None.ensures)

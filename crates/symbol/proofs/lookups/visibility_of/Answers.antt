@@ -1,25 +1,23 @@
 use mathlib.Core.Path.{refl}
 use native.Mathlib.Omega.{arith}
-use Rattle.index.proofs.Firsts.{found_first}
 use Rattle.index.proofs.ListSearch.{place-fits, place_inside, place_byte}
 use Rattle.symbol.proofs.LaidLookups.{visibility_told}
 use Rattle.record.specs.Table.{records_of}
 use Rattle.symbol.proofs.lookups.visibility_of.Goals as goal
 
 pub overflow_add-p : goal.overflow_add-p
-overflow_add-p c = let h = rw c.in-Here.is at (found_first c.args.t.now c.requires.clean 6 c.args.owner c.args.name c.seek-f.result c.seek-f.ensures)
-    in omega (arith, place_inside c.args.t.now _ 6 c.args.owner c.args.name c.in-Here.p h)
+overflow_add-p c = let h = c.in-Some.ensures
+    in omega (arith, place_inside c.args.t.now _ 6 c.args.owner c.args.name c.in-Some.p h)
 
-pub returns-in-Here : goal.returns-in-Here
-returns-in-Here c = let h = rw c.in-Here.is at (found_first c.args.t.now c.requires.clean 6 c.args.owner c.args.name c.seek-f.result c.seek-f.ensures)
-    in let n = (place-fits c.args.t.now _ 6 c.args.owner c.args.name c.in-Here.p h).visibility refl in
+pub returns-in-Some : goal.returns-in-Some
+returns-in-Some c = let h = c.in-Some.ensures
+    in let n = (place-fits c.args.t.now _ 6 c.args.owner c.args.name c.in-Some.p h).visibility refl in
     rw (
       ← visibility_told (records_of c.args.t.now) c.args.owner c.args.name,
       h.first,
-      place_byte c.args.t.now _ 6 c.args.owner c.args.name c.in-Here.p h 5 (omega arith),
+      place_byte c.args.t.now _ 6 c.args.owner c.args.name c.in-Some.p h 5 (omega arith),
       c.byte_at.ensures,
     )
 
-pub returns-in-Nothing : goal.returns-in-Nothing
-returns-in-Nothing c = let e = rw c.in-Nothing.is at (found_first c.args.t.now c.requires.clean 6 c.args.owner c.args.name c.seek-f.result
-    c.seek-f.ensures) in rw (← visibility_told (records_of c.args.t.now) c.args.owner c.args.name, e)
+pub returns-in-None : goal.returns-in-None
+returns-in-None c = let e = c.in-None.ensures in rw (← visibility_told (records_of c.args.t.now) c.args.owner c.args.name, e)
