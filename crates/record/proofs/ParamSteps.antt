@@ -2,10 +2,11 @@
 use Prim.Native.Nat.{ℕ, zero, suc, ◌+◌, ◌-◌, ◌≤◌, ◌<◌, max}
 use borrow.Author.Tests.{eqb-true, ltb-false}
 use lib.Dec.{eqb, ltb}
-use lib.ListN.{length, get_or, drop}
-use mathlib.Core.Bool.{Bool, true, false, not}
+use lib.ListN.{length, get_or, take, drop}
+use mathlib.Core.Bool.{Bool, true, false, not, ◌||◌}
 use mathlib.Core.List.{List}
 use mathlib.Core.Path.{◌≡◌, refl, sym, ap, ◌∙◌}
+use native.Mathlib.Numerals.{add-one}
 use native.Mathlib.Omega.{arith}
 use Rattle.ty.proofs.Choice.{by_choice}
 use Rattle.ty.specs.Bytes.{id_at}
@@ -13,13 +14,16 @@ use Rattle.ty.specs.Read.{read_type, longest_type}
 use Rattle.ty.specs.declared.read.TypeFault.TheVariants.{Cut, Malformed, Endless}
 use Rattle.ty.specs.declared.read.TypeFault.{TypeFault}
 use Rattle.ty.specs.declared.read.TypeRead.{TypeRead}
+use Rattle.std.specs.List.{list_any}
+use Rattle.std.proofs.lemmas.List.Folds.{list_any_more}
+use Rattle.record.proofs.RecordParts.{or_true}
 use Rattle.record.proofs.Types.{ends_in}
 use Rattle.record.specs.Inside.Front.{param_step, param_with, run_params, result_with, first_reading, or_none, stopped, params_read}
 use Rattle.record.specs.Inside.Walk.{EndsIn}
-use Rattle.record.specs.Inside.Front.{Front, Run, run_of, fault_of, reading_answer, broken_head, function_read, function_answer, function_with}
+use Rattle.record.specs.Inside.Front.{Front, Run, run_of, reading_answer, unread, param_named, type_passed, typed_answer, among, broken_head, function_read, function_with, field_with}
 use Rattle.record.specs.declared.params.Reading.{Reading}
 use Rattle.record.specs.declared.params.ReadFault.{ReadFault}
-use Rattle.record.specs.declared.params.ReadFault.TheVariants.{Broken}
+use Rattle.record.specs.declared.params.ReadFault.TheVariants.{Broken, Endless as without_end}
 use Rattle.std.proofs.Common.{Result, Ok, Err}
 use Rattle.ty.specs.Choose.{choose}
 
@@ -40,7 +44,7 @@ answer_ok c r = go (eqb c.state 0) (eqb c.state 2) refl
     reading : Reading
     reading = record { len = c.len; top = c.top; repeated = c.repeated; error = c.error; count = c.count; names = c.names }
 
-    go : (t u : Bool) → eqb c.state 0 ≡ t → choose t (Ok reading) (choose u (Err (fault_of c)) (Err Broken)) ≡ Ok r → run_of r ≡ c
+    go : (t u : Bool) → eqb c.state 0 ≡ t → choose t (Ok reading) (choose u (Err (without_end c.top c.repeated)) (Err Broken)) ≡ Ok r → run_of r ≡ c
     go true u q e =
         let h : reading ≡ r = cc in
         let z = eqb-true c.state 0 q in
@@ -55,13 +59,46 @@ answer_err c f = go (eqb c.state 0)
     reading : Reading
     reading = record { len = c.len; top = c.top; repeated = c.repeated; error = c.error; count = c.count; names = c.names }
 
-    go : (t : Bool) → choose t (Ok reading) (choose (eqb c.state 2) (Err (fault_of c)) (Err Broken)) ≡ Err f → t ≡ false
+    go : (t : Bool) → choose t (Ok reading) (choose (eqb c.state 2) (Err (without_end c.top c.repeated)) (Err Broken)) ≡ Err f → t ≡ false
     go true e = cc
     go false e = refl
 
-pub answer_function : (s : List ℕ) (c : Run) → function_answer s (reading_answer c) ≡ function_with s c
+-- a parameter's name and its type are the parameter
+pub answer_param : (c : Run) (id : ℕ) (r : Result TypeRead TypeFault)
+    → reading_answer (type_passed (param_named c id) (c.len + 3) r) ≡ reading_answer (param_with c id r)
+unfolding reading_answer choose
+answer_param c id (Ok found) = refl
+answer_param c id (Err Cut) = refl
+answer_param c id (Err Malformed) = refl
+answer_param c id (Err (Endless top e)) = refl
+
+pub answer_result : (high : ℕ) (r : Result TypeRead TypeFault) → reading_answer (type_passed (unread high) 8 r) ≡ reading_answer (result_with high r)
+unfolding reading_answer choose
+answer_result high (Ok found) = refl
+answer_result high (Err Cut) = refl
+answer_result high (Err Malformed) = refl
+answer_result high (Err (Endless top e)) = refl
+
+pub answer_first : (s : List ℕ) (c : Reading) (high : ℕ) → run_of c ≡ unread high → high ≡ max (or_none (id_at s 1)) (id_at s 3)
+    → reading_answer (type_passed (run_of c) 8 (read_type (drop 8 s) longest_type)) ≡ reading_answer (first_reading s)
+answer_first s c high e h = rw (e, h) (answer_result (max (or_none (id_at s 1)) (id_at s 3)) (read_type (drop 8 s) longest_type))
+
+-- a record with types by what the code answers for them
+pub answer_field : (s : List ℕ) (r : Result TypeRead TypeFault)
+    → typed_answer s 5 (reading_answer (type_passed (unread (max (id_at s 1) (id_at s 3))) 5 r)) ≡ field_with s (id_at s 1) (id_at s 3) r
+unfolding reading_answer choose
+answer_field s (Ok found) = refl
+answer_field s (Err Cut) = refl
+answer_field s (Err Malformed) = refl
+answer_field s (Err (Endless top e)) = refl
+
+-- a type without end is an error
+abbrev pub Endlessly : Run → Type 0
+Endlessly c = c.state ≡ 2 → c.error ≡ true
+
+pub answer_function : (s : List ℕ) (c : Run) → Endlessly c → typed_answer s 4 (reading_answer c) ≡ function_with s c
 unfolding function_with reading_answer choose
-answer_function s c = go (eqb c.state 0) (eqb c.state 2)
+answer_function s c h = go (eqb c.state 0) (eqb c.state 2) refl
   where
     reading : Reading
     reading = record { len = c.len; top = c.top; repeated = c.repeated; error = c.error; count = c.count; names = c.names }
@@ -69,10 +106,57 @@ answer_function s c = go (eqb c.state 0) (eqb c.state 2)
     read : ℕ → Front
     read len = function_read (id_at s 1) (id_at s 3) len c.top c.repeated c.error
 
-    go : (t u : Bool) → function_answer s (choose t (Ok reading) (choose u (Err (fault_of c)) (Err Broken))) ≡ choose t (read c.len) (choose u (read (length s)) (broken_head s))
-    go true u = refl
-    go false true = refl
-    go false false = refl
+    go : (t u : Bool) → eqb c.state 2 ≡ u
+        → typed_answer s 4 (choose t (Ok reading) (choose u (Err (without_end c.top c.repeated)) (Err Broken))) ≡ choose t (read c.len) (choose u (read (length s)) (broken_head s))
+    go true u q = refl
+    go false true q = let e = h (eqb-true c.state 2 q) in rw e
+    go false false q = refl
+
+first_endless : (s : List ℕ) → Endlessly (first_reading s)
+first_endless s = go (max (or_none (id_at s 1)) (id_at s 3)) (read_type (drop 8 s) longest_type)
+  where
+    go : (high : ℕ) (r : Result TypeRead TypeFault) → Endlessly (result_with high r)
+    go high (Ok found) q = absurd (omega arith)
+    go high (Err Cut) q = absurd (omega arith)
+    go high (Err Malformed) q = absurd (omega arith)
+    go high (Err (Endless top e)) q = refl
+
+step_endless : (s : List ℕ) (c : Run) → Endlessly c → Endlessly (param_step s c)
+unfolding param_step
+step_endless s c h =
+    by_choice Endlessly (not (eqb c.state 0)) (λ _. h) λ _.
+    by_choice Endlessly (ltb (length s - c.len) 3) (λ _ q. absurd (omega arith)) λ _.
+    by_choice Endlessly (ltb 3 (get_or s (c.len + 2) 0)) (λ _ q. absurd (omega arith)) λ _.
+    go (read_type (drop (c.len + 3) s) longest_type)
+  where
+    go : (r : Result TypeRead TypeFault) → Endlessly (param_with c (id_at s c.len) r)
+    go (Ok found) q = absurd (omega arith)
+    go (Err Cut) q = absurd (omega arith)
+    go (Err Malformed) q = absurd (omega arith)
+    go (Err (Endless top e)) q = or_true c.error
+
+run_endless : (n : ℕ) (s : List ℕ) (c : Run) → Endlessly c → Endlessly (run_params n s c)
+unfolding run_params
+run_endless zero s c h = h
+run_endless (suc n) s c h = run_endless n s (param_step s c) (step_endless s c h)
+
+pub read_endless : (s : List ℕ) → Endlessly (params_read s)
+unfolding params_read
+read_endless s = run_endless (get_or s 7 0) s (first_reading s) (first_endless s)
+
+-- ---- the names met so far
+or_turned : (a b : Bool) → a || b ≡ b || a
+or_turned true true = refl
+or_turned true false = refl
+or_turned false true = refl
+or_turned false false = refl
+
+pub among_any : (n : ℕ) (names : List ℕ) (id : ℕ) → n ≤ length names → list_any (λ y. eqb y id) (take n names) ≡ among n names id
+unfolding among
+among_any zero names id h = refl
+among_any (suc n) names id h =
+    rw (← add-one n) (list_any_more (λ y. eqb y id) names n 0 h) ∙ ap (λ (t : Bool). t || eqb (get_or names n 0) id) (among_any n names id (omega arith))
+    ∙ or_turned (among n names id) (eqb (get_or names n 0) id)
 
 -- after one step from c the reading stands at or behind c, in s, with at most one parameter more
 pub record Onward (s : List ℕ) (c r : Run) : Type 0 where

@@ -1,14 +1,11 @@
 // Reading one record from the front of a slice.
 ghost use Rattle.std.specs.Prelude.{◌≡◌, ◌<◌, length};
 ghost use Rattle.record.specs.RecordKind.{record_kind_number, RecordKindIs};
-ghost use Rattle.record.specs.Inside.Front.{front_at, plain_head, or_none, good_byte, good_bytes, head_by, name_head, class_head, operators_head};
-ghost use Rattle.record.specs.Inside.Front.{field_with};
-ghost use Rattle.record.specs.Inside.Front.{field_head, visibility_head, suspend_head, variant_head};
-ghost use Rattle.record.specs.Inside.Walk.{HeadIs, EndsIn};
+ghost use Rattle.record.specs.Inside.Front.{front_at, plain_head, or_none, good_byte, good_bytes, name_head, field_head, head_by};
+ghost use Rattle.record.specs.Inside.Walk.{HeadIs};
 
-use crate::params;
-use ty::read::read_type;
-use ty::{NameId, TypeFault, TypeRead, byte_at, id_at, tail};
+use crate::params::{Reading, read_function_head, typed_record};
+use ty::{NameId, byte_at, id_at};
 
 // The longest type in a table.
 pub const LONGEST: u16 = 192;
@@ -141,110 +138,7 @@ fn read_name(s: &[u8]) -> Option<Head>
     }
     let n = byte_at(s, 1);
     let good = good_bytes(s, n as usize);
-    plain(
-        s,
-        26,
-        (n < 1) | ((24 < n) | (!good)),
-        RecordKind::Name,
-        0,
-        0,
-        0,
-    )
-}
-
-fn read_class(s: &[u8]) -> Option<Head>
-    ensures { front_at s.now result ≡ class_head s.now }
-{
-    let name = id_at(s, 1);
-    let over = id_at(s, 3);
-    let top = name.max(or_none(over).max(or_none(id_at(s, 5))));
-    plain(s, 8, 1 < byte_at(s, 7), RecordKind::Class, name, over, top)
-}
-
-fn read_operators(s: &[u8]) -> Option<Head>
-    ensures { front_at s.now result ≡ operators_head s.now }
-{
-    let class = id_at(s, 1);
-    let mask = id_at(s, 3);
-    plain(s, 5, 2047 < mask, RecordKind::Operators, class, mask, class)
-}
-
-fn read_visibility(s: &[u8]) -> Option<Head>
-    ensures { front_at s.now result ≡ visibility_head s.now }
-{
-    let owner = id_at(s, 1);
-    let name = id_at(s, 3);
-    plain(
-        s,
-        6,
-        3 < byte_at(s, 5),
-        RecordKind::Visibility,
-        owner,
-        name,
-        owner.max(name),
-    )
-}
-
-fn read_suspend(s: &[u8]) -> Option<Head>
-    ensures { front_at s.now result ≡ suspend_head s.now }
-{
-    let owner = id_at(s, 1);
-    let name = id_at(s, 3);
-    plain(
-        s,
-        5,
-        false,
-        RecordKind::Suspend,
-        owner,
-        name,
-        or_none(owner).max(name),
-    )
-}
-
-fn read_variant(s: &[u8]) -> Option<Head>
-    ensures { front_at s.now result ≡ variant_head s.now }
-{
-    let owner = id_at(s, 1);
-    let name = id_at(s, 3);
-    plain(
-        s,
-        5,
-        false,
-        RecordKind::Variant,
-        owner,
-        name,
-        owner.max(name),
-    )
-}
-
-// A field whose type was read so.
-fn field_with(s: &[u8], one: u16, two: u16, read: Result<TypeRead, TypeFault>) -> Option<Head>
-    requires { EndsIn 5 s.now read }
-    ensures { front_at s.now result ≡ field_with s.now one two read }
-{
-    let high = one.max(two);
-    match read {
-        Ok(found) => Some(Head {
-            kind: RecordKind::Field,
-            one,
-            two,
-            len: 5 + found.len,
-            top: high.max(found.top),
-            repeated: false,
-            error: found.error,
-        }),
-        Err(TypeFault::Endless { top, error: _ }) => Some(Head {
-            kind: RecordKind::Field,
-            one,
-            two,
-            len: s.len(),
-            top: high.max(top),
-            repeated: false,
-            error: true,
-        }),
-        Err(TypeFault::Cut) => None,
-        Err(TypeFault::Malformed) => None,
-    }
+    plain(s, 26, (n < 1) | ((24 < n) | (!good)), RecordKind::Name, 0, 0, 0)
 }
 
 fn read_field(s: &[u8]) -> Option<Head>
@@ -253,7 +147,8 @@ fn read_field(s: &[u8]) -> Option<Head>
     if s.len() < 5 {
         return None;
     }
-    field_with(s, id_at(s, 1), id_at(s, 3), read_type(tail(s, 5), LONGEST))
+    let high = id_at(s, 1).max(id_at(s, 3));
+    typed_record(s, RecordKind::Field, Reading::new(high).typed(s, 5))
 }
 
 // The record at the front of s, and none where it is malformed or cut.
@@ -270,14 +165,19 @@ pub fn read_record(s: &[u8]) -> Option<Head>
 fn read_kind(s: &[u8], kind: RecordKind) -> Option<Head>
     ensures { front_at s.now result ≡ head_by (record_kind_number kind) s.now }
 {
+    let one = id_at(s, 1);
+    let two = id_at(s, 3);
     match kind {
         RecordKind::Name => read_name(s),
-        RecordKind::Class => read_class(s),
-        RecordKind::Operators => read_operators(s),
-        RecordKind::Function => params::read_function_head(s),
+        RecordKind::Class => {
+            let top = one.max(or_none(two).max(or_none(id_at(s, 5))));
+            plain(s, 8, 1 < byte_at(s, 7), kind, one, two, top)
+        }
+        RecordKind::Operators => plain(s, 5, 2047 < two, kind, one, two, one),
+        RecordKind::Function => read_function_head(s),
         RecordKind::Field => read_field(s),
-        RecordKind::Visibility => read_visibility(s),
-        RecordKind::Suspend => read_suspend(s),
-        RecordKind::Variant => read_variant(s),
+        RecordKind::Visibility => plain(s, 6, 3 < byte_at(s, 5), kind, one, two, one.max(two)),
+        RecordKind::Suspend => plain(s, 5, false, kind, one, two, or_none(one).max(two)),
+        RecordKind::Variant => plain(s, 5, false, kind, one, two, one.max(two)),
     }
 }

@@ -1,12 +1,13 @@
-// Reading a function record.
-ghost use Rattle.std.specs.Prelude.{◌≡◌, ◌+◌, ◌≤◌, ◌<◌, length, get_or};
-ghost use Rattle.record.specs.Inside.Front.{front_at, among as among_of, run_of, fault_of, reading_answer, param_read, param_with, param_step};
-ghost use Rattle.record.specs.Inside.Front.{front_of_head, result_read, result_with, first_reading, params_read, function_answer, function_read, function_head};
-ghost use Rattle.record.specs.Inside.Walk.{EndsIn};
+// Reading the types of a record, and the parameters of a function record.
+ghost use Rattle.std.specs.Prelude.{◌≡◌, ◌≤◌, ◌<◌, length, get_or, drop};
+ghost use Rattle.ty.specs.Read.{read_type, longest_type};
+ghost use Rattle.record.specs.RecordKind.{record_kind_number};
+ghost use Rattle.record.specs.Inside.Front.{front_at, run_of, reading_answer, unread, param_named, type_passed, param_step};
+ghost use Rattle.record.specs.Inside.Front.{first_reading, params_read, typed_answer, function_head};
 
 use crate::front::{Head, LONGEST, RecordKind, or_none};
 use ty::read::read_type;
-use ty::{TypeFault, TypeRead, byte_at, id_at, tail};
+use ty::{TypeFault, byte_at, id_at, tail};
 
 // The result and the parameters read so far: the bytes passed, the highest id, whether a name was repeated, whether Error was met, how many parameters there
 // are, and their names.
@@ -25,77 +26,61 @@ pub struct Reading {
 pub enum ReadFault {
     // Malformed or cut.
     Broken,
-    // A type without end: the highest id, whether a name was repeated and whether Error was met until there.
-    Endless {
-        top: u16,
-        repeated: bool,
-        error: bool,
-    },
-}
-
-// One of the first n ids is id.
-fn among(n: usize, ids: [u16; 16], id: u16) -> bool
-    requires { n ≤ 16 }
-    ensures { result ≡ among_of n ids id }
-{
-    let mut found = false;
-    let mut i: usize = 0;
-    while i < n {
-        found = (ids[i] == id) | found;
-        i += 1;
-    }
-    found
+    // A type without end: the highest id, and whether a name was repeated until there.
+    Endless { top: u16, repeated: bool },
 }
 
 impl Reading {
-    // One parameter more.
-    fn add(self, id: u16, len: usize, top: u16, error: bool) -> Reading
-        requires { self.count < 16 }
-        ensures { run_of result ≡ param_read (run_of self) id len top error 0 }
+    // Before a type, in a record whose owner and name have the highest id.
+    pub fn new(top: u16) -> Reading
+        ensures { run_of result ≡ unread top }
     {
-        let count = self.count;
-        let mut names = self.names;
-        let repeated = self.repeated | among(count, names, id);
-        let high = self.top.max(id).max(top);
-        names[count] = id;
         Reading {
-            len,
-            top: high,
-            repeated,
-            error: self.error | error,
-            count: count + 1,
-            names,
+            len: 0,
+            top,
+            repeated: false,
+            error: false,
+            count: 0,
+            names: [0u16; 16],
         }
     }
 
-    // One parameter more, whose type was read so.
-    fn add_read(
-        self,
-        s: &[u8],
-        id: u16,
-        read: Result<TypeRead, TypeFault>,
-    ) -> Result<Reading, ReadFault>
-        requires { (self.count < 16) × EndsIn (self.len + 3) s.now read }
-        ensures { result ≡ reading_answer (param_with (run_of self) id read) }
+    // Behind the type at byte `at`.
+    pub fn typed(self, s: &[u8], at: usize) -> Result<Reading, ReadFault>
+        requires { at ≤ length s.now }
+        ensures { result ≡ reading_answer (type_passed (run_of self) at (read_type (drop at s.now) longest_type)) }
     {
-        match read {
-            Ok(found) => Ok(self.add(id, self.len + 3 + found.len, found.top, found.error)),
-            Err(TypeFault::Endless { top, error: _ }) => Err(
-                self.add(id, self.len, top, true).endless(),
-            ),
+        match read_type(tail(s, at), LONGEST) {
+            Ok(found) => Ok(Reading {
+                len: at + found.len,
+                top: self.top.max(found.top),
+                error: self.error | found.error,
+                ..self
+            }),
+            Err(TypeFault::Endless { top, error: _ }) => Err(ReadFault::Endless {
+                top: self.top.max(top),
+                repeated: self.repeated,
+            }),
             Err(TypeFault::Cut) => Err(ReadFault::Broken),
             Err(TypeFault::Malformed) => Err(ReadFault::Broken),
         }
     }
 
-    // The reading ends at a type without end.
-    fn endless(self) -> ReadFault
-        ensures { result ≡ fault_of (run_of self) }
+    // One parameter's name more.
+    fn named(self, id: u16) -> Reading
+        requires { self.count < 16 }
+        ensures { run_of result ≡ param_named (run_of self) id }
     {
-        ReadFault::Endless {
-            top: self.top,
-            repeated: self.repeated,
-            error: self.error,
+        let count = self.count;
+        let mut names = self.names;
+        let repeated = self.repeated | names[..count].contains(&id);
+        names[count] = id;
+        Reading {
+            top: self.top.max(id),
+            repeated,
+            count: count + 1,
+            names,
+            ..self
         }
     }
 
@@ -111,88 +96,40 @@ impl Reading {
         if 3 < byte_at(s, at + 2) {
             return Err(ReadFault::Broken);
         }
-        self.add_read(s, id_at(s, at), read_type(tail(s, at + 3), LONGEST))
+        self.named(id_at(s, at)).typed(s, at + 3)
     }
-}
-
-// Behind the result type.
-fn result_read(high: u16, len: usize, top: u16, error: bool) -> Reading
-    ensures { run_of result ≡ result_read high len top error 0 }
-{
-    Reading {
-        len,
-        top: high.max(top),
-        repeated: false,
-        error,
-        count: 0,
-        names: [0u16; 16],
-    }
-}
-
-// Behind the result type, which was read so.
-fn result_with(s: &[u8], high: u16, read: Result<TypeRead, TypeFault>) -> Result<Reading, ReadFault>
-    requires { EndsIn 8 s.now read }
-    ensures { result ≡ reading_answer (result_with high read) }
-{
-    match read {
-        Ok(found) => Ok(result_read(high, 8 + found.len, found.top, found.error)),
-        Err(TypeFault::Endless { top, error: _ }) => Err(result_read(high, 8, top, true).endless()),
-        Err(TypeFault::Cut) => Err(ReadFault::Broken),
-        Err(TypeFault::Malformed) => Err(ReadFault::Broken),
-    }
-}
-
-fn read_result(s: &[u8]) -> Result<Reading, ReadFault>
-    requires { 8 ≤ length s.now }
-    ensures { result ≡ reading_answer (first_reading s.now) }
-{
-    let high = or_none(id_at(s, 1)).max(id_at(s, 3));
-    result_with(s, high, read_type(tail(s, 8), LONGEST))
 }
 
 fn read_params(s: &[u8], count: usize) -> Result<Reading, ReadFault>
     requires { (8 ≤ length s.now) × (count ≤ 16) × (count ≡ get_or s.now 7 0) }
     ensures { result ≡ reading_answer (params_read s.now) }
 {
-    let mut c = read_result(s)?;
+    let high = or_none(id_at(s, 1)).max(id_at(s, 3));
+    let mut c = Reading::new(high).typed(s, 8)?;
     for n in 0..count {
         c = c.step(s)?;
     }
     Ok(c)
 }
 
-// The head of a function record.
-fn function_read(one: u16, two: u16, len: usize, top: u16, repeated: bool, error: bool) -> Head
-    ensures { front_of_head result ≡ function_read one two len top repeated error }
+// A record whose types were read so.
+pub fn typed_record(s: &[u8], kind: RecordKind, read: Result<Reading, ReadFault>) -> Option<Head>
+    ensures { front_at s.now result ≡ typed_answer s.now (record_kind_number kind) read }
 {
-    Head {
-        kind: RecordKind::Function,
-        one,
-        two,
+    let (len, top, repeated, error) = match read {
+        Ok(c) => (c.len, c.top, c.repeated, c.error),
+        Err(ReadFault::Endless { top, repeated }) => (s.len(), top, repeated, true),
+        Err(ReadFault::Broken) => return None,
+    };
+    Some(Head {
+        kind,
+        one: id_at(s, 1),
+        two: id_at(s, 3),
         len,
         top,
         repeated,
         error,
-    }
-}
-
-// A function record whose parameters were read so.
-fn function_with(s: &[u8], read: Result<Reading, ReadFault>) -> Option<Head>
-    ensures { front_at s.now result ≡ function_answer s.now read }
-{
-    let owner = id_at(s, 1);
-    let name = id_at(s, 3);
-    match read {
-        Ok(c) => Some(function_read(owner, name, c.len, c.top, c.repeated, c.error)),
-        Err(
-            ReadFault::Endless {
-                top,
-                repeated,
-                error,
-            },
-        ) => Some(function_read(owner, name, s.len(), top, repeated, error)),
-        Err(ReadFault::Broken) => None,
-    }
+    })
 }
 
 pub fn read_function_head(s: &[u8]) -> Option<Head>
@@ -211,5 +148,5 @@ pub fn read_function_head(s: &[u8]) -> Option<Head>
     if 16 < count {
         return None;
     }
-    function_with(s, read_params(s, count as usize))
+    typed_record(s, RecordKind::Function, read_params(s, count as usize))
 }

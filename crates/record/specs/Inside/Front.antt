@@ -105,15 +105,11 @@ pub record Run : Type 0 where
 abbrev pub run_of : Reading → Run
 run_of c = record { len = c.len; top = c.top; repeated = c.repeated; error = c.error; state = 0; count = c.count; names = c.names }
 
--- where it meets a type without end
-abbrev pub fault_of : Run → ReadFault
-fault_of c = without_end c.top c.repeated c.error
-
 -- what it answers
 unfoldable pub reading_answer : Run → Result Reading ReadFault
 reading_answer c =
     choose (eqb c.state 0) (Ok (record { len = c.len; top = c.top; repeated = c.repeated; error = c.error; count = c.count; names = c.names }))
-    (choose (eqb c.state 2) (Err (fault_of c)) (Err Broken))
+    (choose (eqb c.state 2) (Err (without_end c.top c.repeated)) (Err Broken))
 
 -- a reading that meets malformed or cut bytes
 abbrev pub stopped : Run → Run
@@ -131,6 +127,40 @@ param_read c id len top error state =
       count = c.count + 1;
       names = set c.names c.count id;
     }
+
+-- the same in two parts: before a type in a record whose ids so far have the highest id top,
+abbrev pub unread : ℕ → Run
+unread top = record { len = 0; top = top; repeated = false; error = false; state = 0; count = 0; names = replicate 16 0 }
+
+-- one parameter's name more,
+abbrev pub param_named : Run → ℕ → Run
+param_named c id =
+    record {
+      len = c.len;
+      top = max c.top id;
+      repeated = c.repeated || among c.count c.names id;
+      error = c.error;
+      state = c.state;
+      count = c.count + 1;
+      names = set c.names c.count id;
+    }
+
+-- and behind a type that begins at byte `at` and was read so
+abbrev pub type_passed : Run → ℕ → Result TypeRead TypeFault → Run
+type_passed c at (Ok found) =
+    record {
+      len = at + found.len;
+      top = max c.top found.top;
+      repeated = c.repeated;
+      error = c.error || found.error;
+      state = 0;
+      count = c.count;
+      names = c.names;
+    }
+type_passed c at (Err Cut) = stopped c
+type_passed c at (Err Malformed) = stopped c
+type_passed c at (Err (Endless top e)) =
+    record { len = c.len; top = max c.top top; repeated = c.repeated; error = true; state = 2; count = c.count; names = c.names }
 
 -- the name of a parameter whose type has no end counts, and so do the ids that were examined
 abbrev pub param_with : Run → ℕ → Result TypeRead TypeFault → Run
@@ -177,11 +207,13 @@ function_with s c =
     choose (eqb c.state 0) (function_read (id_at s 1) (id_at s 3) c.len c.top c.repeated c.error)
     (choose (eqb c.state 2) (function_read (id_at s 1) (id_at s 3) (length s) c.top c.repeated c.error) (broken_head s))
 
--- the same from what the code answers for that
-abbrev pub function_answer : List ℕ → Result Reading ReadFault → Front
-function_answer s (Ok c) = function_read (id_at s 1) (id_at s 3) c.len c.top c.repeated c.error
-function_answer s (Err (without_end top repeated error)) = function_read (id_at s 1) (id_at s 3) (length s) top repeated error
-function_answer s (Err Broken) = broken_head s
+-- a record of a kind with types, from what the code answers for them
+abbrev pub typed_answer : List ℕ → ℕ → Result Reading ReadFault → Front
+typed_answer s kind (Ok c) =
+    record { kind = kind; one = id_at s 1; two = id_at s 3; len = c.len; top = c.top; malformed = false; repeated = c.repeated; error = c.error }
+typed_answer s kind (Err (without_end top repeated)) =
+    record { kind = kind; one = id_at s 1; two = id_at s 3; len = length s; top = top; malformed = false; repeated = repeated; error = true }
+typed_answer s kind (Err Broken) = broken_head s
 
 unfoldable pub function_head : List ℕ → Front
 function_head s =

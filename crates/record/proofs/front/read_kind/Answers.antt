@@ -1,4 +1,5 @@
-use Rattle.record.specs.Inside.Front.{head_by}
+use mathlib.Core.Path.{◌∙◌}
+use Rattle.record.specs.Inside.Front.{class_head, operators_head, visibility_head, suspend_head, variant_head, head_by}
 use Rattle.ty.specs.Choose.{choose}
 use Rattle.record.proofs.front.read_kind.Goals as goal
 
@@ -7,12 +8,12 @@ unfolding head_by choose
 returns-in-Name c = rw c.in-Name.is c.read_name.ensures
 
 pub returns-in-Class : goal.returns-in-Class
-unfolding head_by choose
-returns-in-Class c = rw c.in-Class.is c.read_class.ensures
+unfolding head_by class_head choose
+returns-in-Class c = c.plain.ensures ∙ rw c.in-Class.is (cc)
 
 pub returns-in-Operators : goal.returns-in-Operators
-unfolding head_by choose
-returns-in-Operators c = rw c.in-Operators.is c.read_operators.ensures
+unfolding head_by operators_head choose
+returns-in-Operators c = c.plain-in-Operators.ensures ∙ rw c.in-Operators.is (cc)
 
 pub returns-in-Function : goal.returns-in-Function
 unfolding head_by choose
@@ -23,13 +24,13 @@ unfolding head_by choose
 returns-in-Field c = rw c.in-Field.is c.read_field.ensures
 
 pub returns-in-Visibility : goal.returns-in-Visibility
-unfolding head_by choose
-returns-in-Visibility c = rw c.in-Visibility.is c.read_visibility.ensures
+unfolding head_by visibility_head choose
+returns-in-Visibility c = c.plain-in-Visibility.ensures ∙ rw c.in-Visibility.is (cc)
 
 pub returns-in-Suspend : goal.returns-in-Suspend
-unfolding head_by choose
-returns-in-Suspend c = rw c.in-Suspend.is c.read_suspend.ensures
+unfolding head_by suspend_head choose
+returns-in-Suspend c = c.plain-in-Suspend.ensures ∙ rw c.in-Suspend.is (cc)
 
 pub returns-in-Variant : goal.returns-in-Variant
-unfolding head_by choose
-returns-in-Variant c = rw c.in-Variant.is c.read_variant.ensures
+unfolding head_by variant_head choose
+returns-in-Variant c = c.plain-in-Variant.ensures ∙ rw c.in-Variant.is (cc)

@@ -1,4 +1,4 @@
-use Rattle.record.proofs.ParamSteps.{answer_function}
+use Rattle.record.proofs.ParamSteps.{answer_function, read_endless}
 use Rattle.record.specs.Inside.Front.{function_head, params_read}
 use Rattle.ty.proofs.Choice.{chain}
 use Rattle.record.proofs.params.read_function_head.Goals as goal
@@ -22,5 +22,5 @@ returns-then-count-gt16 c = rw (← c.byte_at.ensures, ← c.byte_at-2.ensures, 
 
 pub returns : goal.returns
 unfolding function_head
-returns c = rw (c.function_with.ensures, c.read_params.ensures, answer_function c.args.s.now (params_read c.args.s.now), ← c.byte_at.ensures, ← c.byte_at-2.ensures, ← c.byte_at-count.ensures)
+returns c = rw (c.typed_record.ensures, c.read_params.ensures, answer_function c.args.s.now (params_read c.args.s.now) (read_endless c.args.s.now), ← c.byte_at.ensures, ← c.byte_at-2.ensures, ← c.byte_at-count.ensures)
     (search chain depth 14)

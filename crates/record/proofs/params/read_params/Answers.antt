@@ -6,7 +6,7 @@ use native.Mathlib.Omega.{arith}
 use Rattle.std.proofs.Common.{Err}
 use Rattle.std.proofs.lemmas.Result.{err_from_is_err_and}
 use Rattle.record.proofs.Own.{run_ended}
-use Rattle.record.proofs.ParamSteps.{answer_whole, answer_ok, answer_err, param_onward, first-inside, run_step, run_last}
+use Rattle.record.proofs.ParamSteps.{answer_whole, answer_first, answer_ok, answer_err, param_onward, first-inside, run_step, run_last}
 use Rattle.record.specs.Inside.Front.{Run, run_of, reading_answer, param_step, run_params, first_reading, params_read}
 use Rattle.record.specs.declared.params.ReadFault.{ReadFault}
 use Rattle.record.proofs.params.read_params.Goals as goal
@@ -18,13 +18,15 @@ ended n s c f e = e ∙ ap reading_answer (sym (run_ended n s c (answer_err c f 
 pub returns-in_err-c : goal.returns-in_err-c
 unfolding params_read
 returns-in_err-c c =
+    let f = answer_first c.args.s.now c.new.result c.max-high.result c.new.ensures (c.max-high.ensures ∙ rw (c.or_none.ensures, c.id_at.ensures, c.id_at-2.ensures)) in
     let p = err_from_is_err_and c.from_residual.result c.from_residual.ensures.1 in
-    rw (p.1, p.2) (ended _ c.args.s.now (first_reading c.args.s.now) c.in_err-c.field-0.0 c.in_err-c.ensures)
+    rw (p.1, p.2) (ended _ c.args.s.now (first_reading c.args.s.now) c.in_err-c.field-0.0 (c.in_err-c.ensures ∙ f))
 
 pub loop-n-init : goal.loop-n-init
 unfolding params_read
 loop-n-init c =
-    let e = answer_ok (first_reading c.args.s.now) c.in_ok-c.c (sym c.in_ok-c.ensures) in
+    let f = answer_first c.args.s.now c.new.result c.max-high.result c.new.ensures (c.max-high.ensures ∙ rw (c.or_none.ensures, c.id_at.ensures, c.id_at-2.ensures)) in
+    let e = answer_ok (first_reading c.args.s.now) c.in_ok-c.c (sym (c.in_ok-c.ensures ∙ f)) in
     let f = rw (← e) at (first-inside c.args.s.now c.requires.0) in (
       ap₂ (λ (k : ℕ) (z : Run). run_params k c.args.s.now z) (sub-zero c.args.count ∙ c.requires.2) e,
       f.high,
