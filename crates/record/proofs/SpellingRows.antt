@@ -1,41 +1,23 @@
 -- A search among the built-in spellings.
-use Prim.Native.Nat.{ℕ, suc, ◌+◌, ◌-◌, ◌*◌, ◌≤◌, ◌<◌}
-use lib.ListN.{take, drop}
-use lib.Seq.{drop-drop}
-use mathlib.Core.Bool.{Bool, true, false, not, ◌&&◌, false≢true}
+use Prim.Native.Nat.{ℕ}
+use lib.Dec.{eqb}
+use lib.Pointwise.{pointwise}
+use mathlib.Core.Bool.{Bool, true, false, not, ◌&&◌, ◌||◌, false≢true}
 use mathlib.Core.List.{List, [], ◌∷◌}
 use mathlib.Core.Path.{◌≡◌, refl, sym, ap, ◌∙◌}
 use native.Mathlib.Omega.{arith}
+use Rattle.std.specs.List.{list_any}
 use Rattle.ty.proofs.Choice.{and_left, and_right, or_cases}
-use Rattle.ty.proofs.Same.{same_eq}
+use Rattle.ty.proofs.Same.{same_eq, pointwise_same}
 use Rattle.ty.specs.Bytes.{same_bytes}
 use Rattle.record.specs.Inside.Sieve.{mix_of, bit_of, may_be_builtin}
-use Rattle.record.specs.Spelling.{builtin_names, rows_of, spelled}
+use Rattle.record.specs.Spelling.{builtin_names, spelled}
 
-module _ (name rows : List ℕ) (i : ℕ) where
-  abbrev from : List ℕ
-  from = drop (24 * i) rows
-
-  module _ (more : i < 40) (r : Bool) (e : r ≡ same_bytes name (take (24 * i + 24 - 24 * i) from)) where
-    row : same_bytes name (take 24 from) ≡ r
-    row = let n : 24 * i + 24 - 24 * i ≡ 24 = omega arith in sym (e ∙ ap (λ (k : ℕ). same_bytes name (take k from)) n)
-
-    rows_step : rows_of (40 - i) from ≡ rows_of (suc (40 - (i + 1))) from
-    rows_step = let n : 40 - i ≡ suc (40 - (i + 1)) = omega arith in ap (λ (k : ℕ). rows_of k from) n
-
-    pub rows_found : r ≡ true → spelled name (rows_of (40 - i) from) ≡ true
-    unfolding rows_of spelled
-    rows_found h = ap (spelled name) rows_step ∙ rw (row, h)
-
-    pub rows_past : r ≡ false → spelled name (rows_of (40 - i) from) ≡ spelled name (rows_of (40 - (i + 1)) (drop (24 * (i + 1)) rows))
-    unfolding rows_of spelled
-    rows_past h =
-        let n : 24 * i + 24 ≡ 24 * (i + 1) = omega arith in
-        ap (spelled name) rows_step ∙ rw (row, h, drop-drop 24 (24 * i) rows, n)
-
-  pub rows_end : 40 ≤ i → spelled name (rows_of (40 - i) from) ≡ false
-  unfolding rows_of spelled
-  rows_end h = let n : 40 - i ≡ 0 = omega arith in rw n
+-- to be among some is to be one of them
+pub spelled_any : (name : List ℕ) (xs : List (List ℕ)) → list_any (λ x. pointwise eqb name x) xs ≡ spelled name xs
+unfolding spelled
+spelled_any name [] = refl
+spelled_any name (x ∷ xs) = λ i. pointwise_same name x i || spelled_any name xs i
 
 -- ---- the test before the search
 

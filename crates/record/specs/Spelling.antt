@@ -1,5 +1,5 @@
 -- The spellings of the built-in names, in the order of their ids. Document 01, "Types as bytes": the built-in names have fixed numbers.
-use Rattle.std.specs.Prelude.{ℕ, zero, suc, Bool, false, ◌||◌, List, [], ◌∷◌, ◌++◌, take, drop, replicate}
+use Rattle.std.specs.Prelude.{ℕ, Bool, false, ◌||◌, List, [], ◌∷◌, ◌++◌, take, replicate}
 use Rattle.ty.specs.Bytes.{same_bytes}
 
 -- a name as a record has it: 24 bytes, zero-padded
@@ -51,11 +51,6 @@ builtin_names =
     in_twenty_four (117 ∷ 112 ∷ 112 ∷ 101 ∷ 114 ∷ 99 ∷ 97 ∷ 115 ∷ 101 ∷ []) ∷
     in_twenty_four (107 ∷ 101 ∷ 121 ∷ 115 ∷ []) ∷
     []
-
--- so many names of 24 bytes each, one behind the other
-unfoldable pub rows_of : ℕ → List ℕ → List (List ℕ)
-rows_of zero s = []
-rows_of (suc n) s = take 24 s ∷ rows_of n (drop 24 s)
 
 -- a name's 24 bytes are among some
 unfoldable pub spelled : List ℕ → List (List ℕ) → Bool

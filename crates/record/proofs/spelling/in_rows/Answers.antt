@@ -1,18 +1,19 @@
-use mathlib.Core.Path.{sym, ◌∙◌}
-use native.Mathlib.Omega.{arith}
-use Rattle.record.proofs.SpellingRows.{rows_found, rows_past, rows_end}
+use lib.Seq.{take_all}
+use mathlib.Core.List.{[]}
+use mathlib.Core.Path.{sym, ap, ◌∙◌}
+use Rattle.std.proofs.lemmas.List.Folds.{list_any_at, list_any_more}
+use Rattle.record.proofs.SpellingRows.{spelled_any}
 use Rattle.record.proofs.spelling.in_rows.Goals as goal
 
-pub returns-then-same_bytes : goal.returns-then-same_bytes
-returns-then-same_bytes c = sym (c.loop-i.invariant.1 ∙ rows_found c.args.name.now c.args.rows.now c.loop-i.i c.loop-i-test.true c.same_bytes.result
-    c.same_bytes.ensures c.if-same_bytes.true)
+pub returns-then-eq : goal.returns-then-eq
+returns-then-eq c =
+    let e = rw c.as_slice.ensures at c.if-eq.ensures in
+    sym (list_any_at _ c.args.rows.now c.loop-row.row-index [] c.loop-row-test.true (sym e)) ∙ spelled_any c.args.name.now c.args.rows.now
 
-pub loop-i-preserved : goal.loop-i-preserved
-loop-i-preserved c = (
-  omega arith,
-  c.loop-i.invariant.1 ∙ rows_past c.args.name.now c.args.rows.now c.loop-i.i c.loop-i-test.true c.same_bytes.result
-      c.same_bytes.ensures c.if-same_bytes.false,
-)
+pub loop-row-preserved : goal.loop-row-preserved
+loop-row-preserved c =
+    let e = rw c.as_slice.ensures at c.if-eq.ensures in
+    list_any_more _ c.args.rows.now c.loop-row.row-index [] c.loop-row-test.true ∙ rw (c.loop-row.invariant, ← e)
 
 pub returns : goal.returns
-returns c = sym (c.loop-i.invariant.1 ∙ rows_end c.args.name.now c.args.rows.now c.loop-i.i c.loop-i-test.false)
+returns c = sym c.loop-row.invariant ∙ rw (take_all c.loop-row.row-index c.args.rows.now c.loop-row-test.false) (spelled_any c.args.name.now c.args.rows.now)

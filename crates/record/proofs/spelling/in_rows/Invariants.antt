@@ -1,11 +1,13 @@
-use Prim.Native.Nat.{◌-◌, ◌*◌, ◌≤◌}
-use lib.ListN.{drop}
+use Prim.Native.Nat.{ℕ}
+use lib.Dec.{eqb}
+use lib.ListN.{take}
+use lib.Pointwise.{pointwise}
+use mathlib.Core.Bool.{false}
+use mathlib.Core.List.{List}
 use mathlib.Core.Path.{◌≡◌}
-use Rattle.record.specs.Spelling.{rows_of, spelled}
+use Rattle.std.specs.List.{list_any}
 use Rattle.record.proofs.spelling.in_rows.Given as goal
 
-abbrev pub invariant-loop-i : goal.invariant-loop-i
-invariant-loop-i l = (l.i ≤ 40) × (spelled l.name (rows_of 40 l.rows) ≡ spelled l.name (rows_of (40 - l.i) (drop (24 * l.i) l.rows)))
-
-abbrev pub decreases-loop-i : goal.decreases-loop-i
-decreases-loop-i l = 40 - l.i
+-- none of the rows so far is the name
+abbrev pub invariant-loop-row : goal.invariant-loop-row
+invariant-loop-row l = list_any (λ (x : List ℕ). pointwise eqb l.name x) (take l.row-index l.rows) ≡ false
