@@ -30,8 +30,10 @@ pub enum ReadFault {
     Endless { top: u16, repeated: bool },
 }
 
+// Inlined: a reading that is copied from function to function was measured to be 20 to 30 % slower.
 impl Reading {
     // Before a type, in a record whose owner and name have the highest id.
+    #[inline(always)]
     pub fn new(top: u16) -> Reading
         ensures { run_of result ≡ unread top }
     {
@@ -46,6 +48,7 @@ impl Reading {
     }
 
     // Behind the type at byte `at`.
+    #[inline(always)]
     pub fn typed(self, s: &[u8], at: usize) -> Result<Reading, ReadFault>
         requires { at ≤ length s.now }
         ensures { result ≡ reading_answer (type_passed (run_of self) at (read_type (drop at s.now) longest_type)) }
@@ -67,6 +70,7 @@ impl Reading {
     }
 
     // One parameter's name more.
+    #[inline(always)]
     fn named(self, id: u16) -> Reading
         requires { self.count < 16 }
         ensures { run_of result ≡ param_named (run_of self) id }
@@ -85,6 +89,7 @@ impl Reading {
     }
 
     // One parameter further.
+    #[inline(always)]
     pub fn step(self, s: &[u8]) -> Result<Reading, ReadFault>
         requires { (self.len ≤ length s.now) × (self.count < 16) }
         ensures { result ≡ reading_answer (param_step s.now (run_of self)) }
@@ -113,6 +118,7 @@ fn read_params(s: &[u8], count: usize) -> Result<Reading, ReadFault>
 }
 
 // A record whose types were read so.
+#[inline(always)]
 pub fn typed_record(s: &[u8], kind: RecordKind, read: Result<Reading, ReadFault>) -> Option<Head>
     ensures { front_at s.now result ≡ typed_answer s.now (record_kind_number kind) read }
 {
