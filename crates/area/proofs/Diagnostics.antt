@@ -1,16 +1,14 @@
 -- Laws of the lent buffer: two runs of diagnostics compose, and with room for all of them the buffer is their records with zeros behind.
---
-use Prim.Native.Nat.{ℕ, suc, ◌+◌, ◌-◌, ◌*◌, ◌≤◌, ◌<◌}
-use borrow.Author.Tests.{le-leb, lt-leb}
+use Prim.Native.Nat.{ℕ, suc, ◌+◌, ◌-◌, ◌*◌, ◌≤◌}
+use borrow.Author.Tests.{le-leb}
 use lib.ListN.{length, set, replicate, length-append, length-replicate, length-set}
 use lib.Seq.{sets, length-sets}
 use mathlib.Core.List.{List, [], ◌∷◌, ◌++◌, append_assoc}
 use mathlib.Core.Path.{◌≡◌, refl, sym, ap, ◌∙◌}
 use native.Mathlib.Nat.{add-zero}
-use native.Mathlib.Numerals.{towards_suc}
 use native.Mathlib.Omega.{arith}
 use Rattle.area.specs.Diagnostic.{Diag, record_of, records, put_one, put_all}
-use Rattle.ty.proofs.Choice.{by_choice, chosen, passed}
+use Rattle.ty.proofs.Choice.{by_choice, chosen}
 use Rattle.ty.specs.Bytes.{two_bytes}
 use Rattle.written.proofs.ListFacts.{stored_length, sets-zeros}
 use Rattle.written.specs.Padding.{padded_to}
@@ -35,10 +33,6 @@ module _ (b : List ℕ) (n : ℕ) (d : Diag) where
   unfolding put_one
   put_one-fits h = chosen _ _ _ _ (le-leb _ _ h) refl
 
-  pub put_one-not : length b < 5 * n + 5 → b ≡ put_one b n d
-  unfolding put_one
-  put_one-not h = passed _ _ _ _ (lt-leb _ _ h) refl
-
   pub put_one-length : length (put_one b n d) ≡ length b
   unfolding put_one
   put_one-length = by_choice (λ (l : List ℕ). length l ≡ length b) _ (λ e. length-sets b (5 * n) (record_of d)) (λ e. refl)
@@ -51,10 +45,6 @@ module _ {b₁ : List ℕ} (b : List ℕ) (n kind node : ℕ) (e : b₁ ≡ sets
   module _ {b₂ : List ℕ} (number : ℕ) (f : b₂ ≡ sets b₁ (5 * n + 3) (two_bytes number)) where
     pub second_length : length b₂ ≡ length b
     second_length = stored_length b₁ (5 * n + 3) (two_bytes number) f ∙ first-length
-
-    pub put_bytes : 5 * n + 5 ≤ length b → b₂ ≡ put_one b n (record { kind = kind; node = node; number = number })
-    unfolding put_one record_of
-    put_bytes h = chosen _ b₂ _ _ (le-leb _ _ h) (f ∙ ap (λ (x : List ℕ). sets x (5 * n + 3) (two_bytes number)) e ∙ simp towards_suc)
 
 -- ---- several
 pub put_all_none : (b : List ℕ) (n : ℕ) → put_all b n [] ≡ b

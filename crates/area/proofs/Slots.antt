@@ -1,7 +1,7 @@
 -- Laws of the area: what a slot holds after a store, and what leaves it alone.
 use Prim.Native.Nat.{ℕ, ◌+◌, ◌*◌, ◌≤◌, ◌<◌}
-use lib.ListN.{length, get_or, take, drop, set, drop_of_length-le, length-set, get_or-eq_default}
-use lib.Seq.{sets, sets-eq, length-sets, length-take-le, get_or-set_same, get_or-set_other, take_at, drop_at, take-nil}
+use lib.ListN.{length, get_or, take, drop, set, length-set}
+use lib.Seq.{sets, sets-eq, length-sets, length-take-le, get_or-set_same, get_or-set_other, take_at, drop_at}
 use mathlib.Core.List.{List, [], ◌∷◌, ◌++◌, append_assoc}
 use mathlib.Core.Path.{◌≡◌, refl, sym, ap, ◌∙◌, subst}
 use native.Mathlib.Omega.{arith}
@@ -10,20 +10,6 @@ use Rattle.ty.specs.Bytes.{Ty}
 use Rattle.written.proofs.ListFacts.{part_length, part-sets}
 
 -- ---- reading a slot
--- no length, no type
-pub slot_none : (a l : List ℕ) (m : ℕ) → length l ≤ m → [] ≡ slot_of a l m
-unfolding slot_of
-slot_none a l m h = sym (ap (λ (k : ℕ). take k (drop (256 * m) a)) (get_or-eq_default l 0 h))
-
--- past the area's end there is nothing
-pub slot_past : (a l : List ℕ) (m : ℕ) → length a ≤ 256 * m → [] ≡ slot_of a l m
-unfolding slot_of
-slot_past a l m h = sym (ap (λ (s : List ℕ). take (get_or l m 0) s) (drop_of_length-le a h) ∙ take-nil (get_or l m 0))
-
-pub part_slot : (a l : List ℕ) (m : ℕ) → take (get_or l m 0) (drop (256 * m) a) ≡ slot_of a l m
-unfolding slot_of
-part_slot a l m = refl
-
 module _ (a l : List ℕ) (lent : Lent a l) (node m : ℕ) (s : Slot l node m) where
   pub slot_in : 256 * m + get_or l m 0 ≤ length a
   slot_in = omega (arith, lent.wide, s.inside, s.small)

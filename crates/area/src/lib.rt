@@ -66,6 +66,7 @@ pub enum Source {
 }
 
 // Reports a diagnostic, count having been reported before, and answers the new count.
+#[tactic(auto, unfolding(crate::specs::Diagnostic::put_one, crate::specs::Diagnostic::record_of, ty::specs::Choose::choose))]
 pub fn report(
     buf: &mut [u8],
     count: usize,
@@ -95,6 +96,7 @@ pub fn part(s: &[u8], start: usize, len: usize) -> &[u8]
 }
 
 // The type in slot m, and no bytes where there is no such slot.
+#[tactic(auto, unfolding(crate::specs::Inside::Slot::slot_of))]
 pub fn slot<'a>(area: &'a [u8], lens: &[usize], m: usize) -> &'a [u8]
     ensures { result.now ≡ slot_of area.now lens.now m }
 {
@@ -138,6 +140,7 @@ fn store_rest(area: &mut [u8], lens: &mut [usize], node: usize, front: &[u8], m:
 }
 
 // The bytes of `front`, and then the type in slot m, become the type of node.
+#[tactic(auto, using(crate::proofs::Stores::stored_same))]
 fn store_same(area: &mut [u8], lens: &mut [usize], node: usize, front: &[u8], m: usize)
     requires { Lent area.old lens.old × Slot lens.old node m × (length front.now + get_or lens.old m 0 ≤ slot_size) }
     ensures { StoredOf area.old area.new lens.old lens.new node (λ a l. front.now ++ slot_of a l m) }
@@ -178,6 +181,7 @@ pub fn store_part(
 }
 
 // The type that a source stands for becomes the type of node; first and second are its children's slots.
+#[tactic(auto, unfolding(crate::specs::Source::type_from, crate::specs::Inside::Storable::Reads))]
 pub fn store(
     area: &mut [u8],
     lens: &mut [usize],
