@@ -3,7 +3,7 @@
 #![tactic(auto)]
 
 ghost use Rattle.std.specs.Prelude.{◌≤◌, length, ◌≡◌};
-ghost use Rattle.aura_load.specs.Argument.{more_digits, number_in, no_number};
+ghost use Rattle.aura_load.specs.Argument.{more_digits, number_in};
 ghost use Rattle.load.specs.Load.{load_of};
 ghost use Rattle.written.specs.Output.{lent_after};
 
@@ -11,48 +11,33 @@ use load::write_load;
 use std::env::{Env, FillError};
 use std::io;
 
-// 2^32, which every larger number counts as: it is no start number, and no node count of a question.
-const TOO_LARGE: u64 = 4_294_967_296;
-
-// What is no number in decimal.
-const NO_NUMBER: u64 = 4_294_967_297;
-
-// The number of which n are the digits before b, a digit.
+// The number of which n are the digits before b, a digit; what is larger counts as the largest.
 fn more(n: u64, b: u8) -> u64
-    requires { (n ≤ 4294967296) × (48 ≤ b) }
+    requires { 48 ≤ b }
     ensures { result ≡ more_digits n b }
 {
-    let m = 10 * n + (b - b'0') as u64;
-    if TOO_LARGE < m {
-        return TOO_LARGE;
-    }
-    m
+    n.saturating_mul(10).saturating_add((b - b'0') as u64)
 }
 
 // The number that a text is in decimal.
-fn number_in(text: &[u8]) -> u64
+fn number_in(text: &[u8]) -> Option<u64>
     ensures { result ≡ number_in text.now }
 {
-    if text.len() == 0 {
-        return NO_NUMBER;
+    if text.is_empty() {
+        return None;
     }
     let mut n: u64 = 0;
-    let mut at: usize = 0;
-    while at < text.len() {
-        let b = text[at];
+    for &b in text {
         if (b < b'0') | (b'9' < b) {
-            return NO_NUMBER;
+            return None;
         }
         n = more(n, b);
-        at += 1;
     }
-    n
+    Some(n)
 }
 
 // Argument i as a number; one of more than 32 bytes is none.
-fn argument(rt: &impl Env, i: usize) -> u64
-    ensures { result ≤ no_number }
-{
+fn argument(rt: &impl Env, i: usize) -> Option<u64> {
     let mut text = [0u8; 32];
     let len = rt.arg(i, &mut text).unwrap_or(0);
     number_in(&text[..len])
@@ -62,24 +47,26 @@ fn argument(rt: &impl Env, i: usize) -> u64
 fn respond(rt: &(impl Print + Eprint), start: u32, nodes: usize, out: &mut [u8]) -> io::Result<()>
     ensures { out.new ≡ lent_after (length out.old) (load_of start nodes (length out.old)) }
 {
-    let w = write_load(start, nodes, out);
-    if w.number == 0 {
-        return rt.write_all(&out[..w.len]);
+    match write_load(start, nodes, out) {
+        Ok(len) => rt.write_all(&out[..len]),
+        Err(fault) => {
+            let number = fault.number();
+            eprintln!(rt; "aura_load: {number}: the node count is not 1 to 64")
+        }
     }
-    eprintln!(rt; "aura_load: {}: the node count is not 1 to 64", w.number)
 }
 
 // The longest question has 133 bytes, so that no number but 14 is drawn. An argument 3 is one too many.
 fn main(rt: HostRuntime) -> io::Result<()> {
-    let start = argument(&rt, 1);
-    let nodes = argument(&rt, 2);
     let mut third = [0u8; 32];
     let two = matches!(rt.arg(3, &mut third), Err(FillError::NotPresent));
-    if two & (nodes != NO_NUMBER) {
-        if start < TOO_LARGE {
+    match (argument(&rt, 1), argument(&rt, 2)) {
+        (Some(start), Some(nodes)) if two && start <= u32::MAX as u64 => {
             let mut out = [0u8; 133];
-            return respond(&rt, start as u32, nodes as usize, &mut out);
+            respond(&rt, start as u32, nodes as usize, &mut out)
         }
+        _ => eprintln!(rt;
+            "usage: aura_load START NODES (two numbers in decimal, START at most 4294967295)"
+        ),
     }
-    eprintln!(rt; "usage: aura_load START NODES (two numbers in decimal, START at most 4294967295)")
 }

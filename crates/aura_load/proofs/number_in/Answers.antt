@@ -1,22 +1,19 @@
-use Rattle.std.proofs.Common.{arith}
-use Rattle.aura_load.proofs.Arguments.{number_none, number-start, number_bad, number_more, number-done, more_most}
+use Rattle.std.proofs.Common.{sym, arith}
+use borrow.Author.Tests.{eqb-true, eqb-false}
+use Rattle.aura_load.proofs.Arguments.{number_none, number-start, number_bad, number_more, number-done}
 use Rattle.aura_load.proofs.number_in.Goals as goal
 
-pub returns-then-text-eq0 : goal.returns-then-text-eq0
-returns-then-text-eq0 c = number_none _ c.if-text-eq0.true
+pub returns-then-is_empty : goal.returns-then-is_empty
+returns-then-is_empty c = number_none _ (eqb-true _ _ (sym c.if-is_empty.ensures))
 
-pub loop-at-init : goal.loop-at-init
-loop-at-init c = (omega arith, omega arith, number-start _ c.if-text-eq0.false)
+pub loop-b-init : goal.loop-b-init
+loop-b-init c = number-start _ (eqb-false _ _ (sym c.if-is_empty.ensures))
 
 pub returns-then-b : goal.returns-then-b
-returns-then-b c = number_bad _ _ _ c.loop-at.invariant.2 (omega arith) c.if-b.true
+returns-then-b c = number_bad _ _ _ c.loop-b.invariant c.loop-b-test.true c.if-b.true
 
-pub loop-at-preserved : goal.loop-at-preserved
-loop-at-preserved c = (
-  omega arith,
-  rw c.more-n.ensures (more_most _ _),
-  number_more _ _ _ c.loop-at.invariant.2 _ (omega arith) c.if-b.false c.more-n.ensures,
-)
+pub loop-b-preserved : goal.loop-b-preserved
+loop-b-preserved c = number_more _ _ _ c.loop-b.invariant _ c.loop-b-test.true c.if-b.false c.more-n.ensures
 
 pub returns : goal.returns
-returns c = number-done c.args.text.now c.loop-at.at _ c.loop-at.invariant.2 (omega arith)
+returns c = number-done c.args.text.now c.loop-b.b-index _ c.loop-b.invariant (omega arith)

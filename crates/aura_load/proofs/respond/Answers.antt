@@ -4,7 +4,7 @@ use Rattle.written.proofs.Outputs.{len_fits}
 use Rattle.aura_load.proofs.respond.Goals as goal
 
 pub slice_bounds-write_all-end : goal.slice_bounds-write_all-end
-slice_bounds-write_all-end g c = len_fits _ _ _ _ c.write_load-w.ensures.writes
+slice_bounds-write_all-end g c = len_fits _ _ _ _ c.in-Ok.ensures.writes
 
-pub slice_bounds-write_all-end-then-w-eq0 : goal.slice_bounds-write_all-end-then-w-eq0
-slice_bounds-write_all-end-then-w-eq0 g c = sym (length-take-le _ _ (len_fits _ _ _ _ c.write_load-w.ensures.writes))
+pub slice_bounds-write_all-end-in-Ok : goal.slice_bounds-write_all-end-in-Ok
+slice_bounds-write_all-end-in-Ok g c = sym (length-take-le _ _ (len_fits _ _ _ _ c.in-Ok.ensures.writes))
