@@ -20,8 +20,11 @@ fn next<R: Read>(rt: &impl Print, input: &mut R) -> io::Result<bool>
     let mut space = [0u8; 65535];
     let n = read_full(input, &mut space[..len])?;
     let mut index = [0u16; 42435];
-    let c = symbol::checks::check_table(&space[..n], &mut index);
-    println!(rt; "{}", c.number)?;
+    let number = match symbol::checks::check_table(&space[..n], &mut index) {
+        Ok(_) => 0,
+        Err(fault) => fault.number(),
+    };
+    println!(rt; "{number}")?;
     Ok(true)
 }
 
