@@ -96,7 +96,7 @@ answer_field s (Err (Endless top e)) = refl
 abbrev pub Endlessly : Run → Type 0
 Endlessly c = c.state ≡ 2 → c.error ≡ true
 
-pub answer_function : (s : List ℕ) (c : Run) → Endlessly c → typed_answer s 4 (reading_answer c) ≡ function_with s c
+answer_function : (s : List ℕ) (c : Run) → Endlessly c → typed_answer s 4 (reading_answer c) ≡ function_with s c
 unfolding function_with reading_answer choose
 answer_function s c h = go (eqb c.state 0) (eqb c.state 2) refl
   where
@@ -140,9 +140,12 @@ unfolding run_params
 run_endless zero s c h = h
 run_endless (suc n) s c h = run_endless n s (param_step s c) (step_endless s c h)
 
-pub read_endless : (s : List ℕ) → Endlessly (params_read s)
+read_endless : (s : List ℕ) → Endlessly (params_read s)
 unfolding params_read
 read_endless s = run_endless (get_or s 7 0) s (first_reading s) (first_endless s)
+
+pub answer_read : (s : List ℕ) → typed_answer s 4 (reading_answer (params_read s)) ≡ function_with s (params_read s)
+answer_read s = answer_function s (params_read s) (read_endless s)
 
 -- ---- the names met so far
 or_turned : (a b : Bool) → a || b ≡ b || a

@@ -4,8 +4,7 @@ use lib.Dec.{eqb}
 use lib.Pointwise.{pointwise}
 use mathlib.Core.Bool.{Bool, true, false, not, ◌&&◌, ◌||◌, false≢true}
 use mathlib.Core.List.{List, [], ◌∷◌}
-use mathlib.Core.Path.{◌≡◌, refl, sym, ap, ◌∙◌}
-use native.Mathlib.Omega.{arith}
+use mathlib.Core.Path.{◌≡◌, refl, ◌∙◌}
 use Rattle.std.specs.List.{list_any}
 use Rattle.ty.proofs.Choice.{and_left, and_right, or_cases}
 use Rattle.ty.proofs.Same.{same_eq, pointwise_same}

@@ -75,6 +75,7 @@ pub struct Head {
     pub error: bool,
 }
 
+#[tactic(auto, unfolding(crate::specs::Inside::Front::or_none, ty::specs::Choose::choose))]
 pub fn or_none(id: u16) -> u16
     ensures { result ≡ or_none id }
 {
@@ -85,6 +86,7 @@ pub fn or_none(id: u16) -> u16
 }
 
 // A record of n bytes with no type in it.
+#[tactic(auto, unfolding(crate::specs::Inside::Front::plain_head, ty::specs::Choose::choose))]
 fn plain(
     s: &[u8],
     n: usize,
@@ -130,6 +132,7 @@ fn good_bytes(s: &[u8], n: usize) -> bool
     good
 }
 
+#[tactic(auto, unfolding(crate::specs::Inside::Front::name_head, crate::specs::Inside::Front::plain_head, ty::specs::Choose::choose))]
 fn read_name(s: &[u8]) -> Option<Head>
     ensures { front_at s.now result ≡ name_head s.now }
 {
@@ -138,7 +141,15 @@ fn read_name(s: &[u8]) -> Option<Head>
     }
     let n = byte_at(s, 1);
     let good = good_bytes(s, n as usize);
-    plain(s, 26, (n < 1) | ((24 < n) | (!good)), RecordKind::Name, 0, 0, 0)
+    plain(
+        s,
+        26,
+        (n < 1) | ((24 < n) | (!good)),
+        RecordKind::Name,
+        0,
+        0,
+        0,
+    )
 }
 
 fn read_field(s: &[u8]) -> Option<Head>
@@ -152,6 +163,7 @@ fn read_field(s: &[u8]) -> Option<Head>
 }
 
 // The record at the front of s, and none where it is malformed or cut.
+#[tactic(auto, using(crate::proofs::Bounds::head_bounded, crate::proofs::RecordSizes::no_kind), unfolding(crate::specs::Inside::Front::front_of))]
 pub fn read_record(s: &[u8]) -> Option<Head>
     requires { 0 < length s.now }
     ensures { HeadIs s.now result }
@@ -162,6 +174,7 @@ pub fn read_record(s: &[u8]) -> Option<Head>
     }
 }
 
+#[tactic(auto, unfolding(crate::specs::Inside::Front::head_by, crate::specs::Inside::Front::class_head, crate::specs::Inside::Front::operators_head, crate::specs::Inside::Front::visibility_head, crate::specs::Inside::Front::suspend_head, crate::specs::Inside::Front::variant_head, ty::specs::Choose::choose))]
 fn read_kind(s: &[u8], kind: RecordKind) -> Option<Head>
     ensures { front_at s.now result ≡ head_by (record_kind_number kind) s.now }
 {

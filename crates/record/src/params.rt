@@ -48,6 +48,7 @@ impl Reading {
     }
 
     // Behind the type at byte `at`.
+    #[tactic(auto, unfolding(crate::specs::Inside::Front::reading_answer, ty::specs::Choose::choose))]
     #[inline(always)]
     pub fn typed(self, s: &[u8], at: usize) -> Result<Reading, ReadFault>
         requires { at ≤ length s.now }
@@ -138,6 +139,7 @@ pub fn typed_record(s: &[u8], kind: RecordKind, read: Result<Reading, ReadFault>
     })
 }
 
+#[tactic(auto, using(crate::proofs::ParamSteps::answer_read), unfolding(crate::specs::Inside::Front::function_head, ty::specs::Choose::choose))]
 pub fn read_function_head(s: &[u8]) -> Option<Head>
     ensures { front_at s.now result ≡ function_head s.now }
 {

@@ -62,6 +62,7 @@ fn in_rows(name: &[u8], rows: &[[u8; 24]]) -> bool
 }
 
 // A number for six of a name's bytes.
+#[tactic(auto, unfolding(crate::specs::Inside::Sieve::mix_of))]
 fn mix(name: &[u8]) -> u64
     ensures { result ≡ mix_of name.now }
 {
@@ -72,6 +73,7 @@ fn mix(name: &[u8]) -> u64
 }
 
 // The bit n modulo 64 of a mask.
+#[tactic(auto, unfolding(crate::specs::Inside::Sieve::bit_of))]
 fn bit(mask: u64, n: u64) -> u64
     ensures { (result ≡ bit_of mask n) × (result < 2) }
 {
@@ -80,6 +82,7 @@ fn bit(mask: u64, n: u64) -> u64
 
 // Each built-in spelling has four bits by the number of its bytes; few other names do, so that few are compared with the spellings. The bits are counted, so
 // that there is no branch.
+#[tactic(auto, unfolding(crate::specs::Inside::Sieve::may_be_builtin))]
 fn may_be_builtin(name: &[u8]) -> bool
     ensures { result ≡ may_be_builtin name.now }
 {

@@ -1,6 +1,6 @@
 use lib.Seq.{take_all}
 use mathlib.Core.List.{[]}
-use mathlib.Core.Path.{sym, ap, ◌∙◌}
+use mathlib.Core.Path.{sym, ◌∙◌}
 use Rattle.std.proofs.lemmas.List.Folds.{list_any_at, list_any_more}
 use Rattle.record.proofs.SpellingRows.{spelled_any}
 use Rattle.record.proofs.spelling.in_rows.Goals as goal

@@ -1,9 +1,8 @@
-use Prim.Native.Nat.{◌+◌, ◌≤◌}
+use Prim.Native.Nat.{◌+◌}
 use borrow.Author.Tests.{le-ltb}
 use lib.Dec.{ltb}
 use lib.ListN.{drop}
 use mathlib.Core.Path.{◌≡◌, refl, sym, ap, ◌∙◌}
-use native.Mathlib.Omega.{arith}
 use Rattle.record.proofs.ParamSteps.{answer_param}
 use Rattle.record.specs.Inside.Front.{Run, run_of, stopped, reading_answer, param_named, type_passed, param_step}
 use Rattle.ty.specs.Bytes.{id_at}
