@@ -1,18 +1,18 @@
 #!/usr/bin/env python3
-"""Tests that each constant of the code that numbers a kind, a name, an operator, a diagnostic or a visibility has the number of its definition, and that each
-definition has its constant. Not every one is used by a routine whose contract would say so."""
+"""Tests that each variant or constant of the code that numbers a kind, a name, an operator, a diagnostic or a visibility has the number of its definition, and
+that each definition has its own. Not every one is used by a routine whose contract would say so."""
 
 import pathlib
 import re
 import unittest
 
 ROOT = pathlib.Path(__file__).resolve().parent.parent
-ENDINGS = {"Kind": "kind", "NameId": "id", "BinOp": "op", "UnOp": "op", "Diagnostic": "diag", "Vis": "vis"}
-# where the name of the definition is not that of the constant with the ending behind it
+ENDINGS = {"Kind": "kind", "NameId": "id", "BinOp": "op", "UnOp": "op", "DiagnosticKind": "diag", "Visibility": "vis"}
+# where the name of the definition is not that of the variant or constant with the ending behind it
 OTHERS = {
     ("NameId", "NONE"): "no_id",
     ("NameId", "FIRST_OF_TABLE"): "first_table_id",
-    ("Diagnostic", "NONE"): None,
+    ("BinOp", "UShr"): "ushr_op",
 }
 
 # the kind of no bytes at all, which no type has
@@ -20,12 +20,21 @@ WITHOUT = {"no_kind"}
 
 
 def constants():
-    """(type, name) -> number, of the code."""
+    """(type, name) -> number, of the code: constants, and the variants of an enum, from 0 or from the number that one names."""
     found = {}
     for path in ROOT.glob("crates/*/src/*.rt"):
-        for impl in re.finditer(r"^impl (\w+) \{\n(.*?)^\}", path.read_text(encoding="utf-8"), re.S | re.M):
+        text = path.read_text(encoding="utf-8")
+        for impl in re.finditer(r"^impl (\w+) \{\n(.*?)^\}", text, re.S | re.M):
             for name, number in re.findall(r"pub const (\w+): u(?:8|16) = (\d+);", impl[2]):
                 found[impl[1], name] = int(number)
+        for enum in re.finditer(r"^pub enum (\w+) \{\n(.*?)^\}", text, re.S | re.M):
+            if enum[1] not in ENDINGS or re.search(r"[({]", enum[2]):  # one with data has no numbers
+                continue
+            next_number = 0
+            for name, number in re.findall(r"^    (\w+)(?: = (\d+))?,$", enum[2], re.M):
+                next_number = int(number or next_number)
+                found[enum[1], name] = next_number
+                next_number += 1
     return found
 
 
@@ -41,14 +50,15 @@ def definitions():
 
 
 def defined_as(kind, name):
-    return OTHERS.get((kind, name), f"{name.lower()}_{ENDINGS[kind]}")
+    words = name.lower() if name.isupper() else re.sub(r"(?<!^)(?=[A-Z])", "_", name).lower()
+    return OTHERS.get((kind, name), f"{words}_{ENDINGS[kind]}")
 
 
 class Constants(unittest.TestCase):
     def test_each_has_its_definitions_number(self):
         ours, theirs = constants(), definitions()
         self.assertEqual({kind for kind, _ in ours}, set(ENDINGS))
-        named = {defined_as(*key): number for key, number in ours.items() if defined_as(*key)}
+        named = {defined_as(*key): number for key, number in ours.items()}
         self.assertEqual(named, {name: number for name, number in theirs.items() if name not in WITHOUT})
 
 

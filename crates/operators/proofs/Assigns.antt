@@ -12,7 +12,7 @@ use lib.Dec.{eqb}
 use borrow.Author.Tests.{eqb-true}
 use Rattle.ty.proofs.Choice.{by_choice, and_left, and_right}
 use Rattle.ty.specs.Kind.{no_kind, nullable_kind, list_kind, named_kind}
-use Rattle.ty.specs.Bytes.{Ty, kind_of, is_array, inner_of}
+use Rattle.ty.specs.Bytes.{Ty, kind_of, name_of, is_array, inner_of}
 use Rattle.operators.specs.Assign.{assign_step, answer_by, assign_in, can_assign}
 use Rattle.operators.specs.Operand.{is_kind}
 use Rattle.operators.specs.declared.assign.Next.{Next}
@@ -111,6 +111,19 @@ module _ (below : ℕ → ℕ → Bool) where
   -- the same with the step's value known
   pub assigns_by : (a b : Ty) (r : Next) → r ≡ assign_step a b → can_assign below a b ≡ answer_by below r a b (λ x y. can_assign below x y)
   assigns_by a b r e = rw e (assigns_step a b)
+
+  -- by name
+  pub yes_is : (a b : Ty) → Yes ≡ assign_step a b → can_assign below a b ≡ true
+  yes_is a b e = assigns_by a b Yes e
+
+  pub no_is : (a b : Ty) → No ≡ assign_step a b → can_assign below a b ≡ false
+  no_is a b e = assigns_by a b No e
+
+  pub both_is : (a b : Ty) → Both ≡ assign_step a b → can_assign below a b ≡ can_assign below (inner_of a) (inner_of b)
+  both_is a b e = assigns_by a b Both e
+
+  pub climb_is : (a b : Ty) → Climb ≡ assign_step a b → can_assign below a b ≡ below (name_of a) (name_of b)
+  climb_is a b e = assigns_by a b Climb e
 
 pub shorter_by : (a b : Ty) (r : Next) → r ≡ assign_step a b → Shorter a b r
 shorter_by a b r e = rw e (shorter a b)

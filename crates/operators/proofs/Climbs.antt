@@ -5,12 +5,12 @@ use lib.Dec.{eqb}
 use mathlib.Core.Bool.{Bool, true, false}
 use mathlib.Core.List.{List}
 use mathlib.Core.Option.{Option, none}
+use Rattle.std.specs.Prelude.{None, Some}
 use mathlib.Core.Path.{◌≡◌, refl, ap, ◌∙◌}
 use native.Mathlib.Nat.{not-suc-le-zero}
 use native.Mathlib.Omega.{arith}
 use Rattle.operators.specs.Inside.MethodPlace.{first_result_place, class_place, climb_place, climb_place_from}
 use Rattle.operators.specs.OperatorMethod.{method_id, has_operator, at_class, climb, climb_from}
-use Rattle.operators.specs.declared.method.Method.TheVariants as method
 use Rattle.record.specs.TableRefused.{table_fault}
 use Rattle.symbol.proofs.Ranks.{rank_of, class_rank, super_lower, height, height_low, some_height, super_below}
 use Rattle.symbol.specs.Inside.LookupAnswer.{mask_of}
@@ -84,12 +84,12 @@ module _ (t : List ℕ) (op class : ℕ) where
   unfolding climb_place choose
   climb_at f c n = rw (ne_eqb c no_id n)
 
-  climb-end : (f c : ℕ) → c ≡ no_id → climb_place t f op c ≡ method.Nothing
+  climb-end : (f c : ℕ) → c ≡ no_id → climb_place t f op c ≡ None
   unfolding climb_place choose
   climb-end zero c e = refl
   climb-end (suc f) c e = rw e
 
-  pub going_end : (c : ℕ) → Going t op class c → c ≡ no_id → climb_place_from t op class ≡ method.Nothing
+  pub going_end : (c : ℕ) → Going t op class c → c ≡ no_id → climb_place_from t op class ≡ None
   going_end c g e = g.same ∙ climb-end g.fuel c e
 
   module _ (c : ℕ) (n : c ≡ no_id → ⊥) where
@@ -100,12 +100,12 @@ module _ (t : List ℕ) (op class : ℕ) where
     stepped (suc f) l s = (f, refl, s ∙ climb_at f c n)
 
     pub no_set : Going t op class c → (r : Mask) → mask_of r ≡ (symbols_of t).operators_of c → r ≡ mask.Nothing
-        → climb_place_from t op class ≡ method.Nothing
+        → climb_place_from t op class ≡ None
     unfolding class_place
     no_set g r h e = (stepped g.fuel g.left g.same).2 ∙ rw (← h, e)
 
     module _ (g : Going t op class c) (r : Mask) (m : ℕ) (h : mask_of r ≡ (symbols_of t).operators_of c) (e : r ≡ mask.Is m) where
-      pub has_method : has_operator m op ≡ true → climb_place_from t op class ≡ first_result_place t c (method_id op)
+      pub has_method : has_operator m op ≡ true → climb_place_from t op class ≡ Some (first_result_place t c (method_id op))
       unfolding class_place choose
       has_method b = (stepped g.fuel g.left g.same).2 ∙ rw (← h, e, b)
 
@@ -114,3 +114,6 @@ module _ (t : List ℕ) (op class : ℕ) where
       going_up a b =
           let s = stepped g.fuel g.left g.same in
           record { fuel = s.0; left = omega (arith, super_below t a c n, s.1, g.left); same = s.2 ∙ rw (← h, e, b) }
+
+-- the loop's start, its ends and its measure
+pub ruleset climb_steps = (going_first, going_end, no_set, super_below)

@@ -8,6 +8,7 @@ use mathlib.Core.List.{[], ◌∷◌}
 use mathlib.Core.Path.{◌≡◌, refl, sym, ap, ◌∙◌}
 use native.Mathlib.Nat.{not-suc-le-zero}
 use native.Mathlib.Omega.{arith}
+use Rattle.operators.proofs.Assigns.{yes_is, no_is, both_is, climb_is, both_shorter}
 use Rattle.operators.proofs.Assigns.{Reason, reason_by, some, inner_shorter, assigns_step, assigns_by}
 use Rattle.operators.proofs.AssignSteps.{one_kind, yes_or, step_right, step_left}
 use Rattle.operators.specs.Assign.{is_named, is_growing, is_list_name, assigns_at_once, assign_step, answer_by, can_assign}
@@ -39,10 +40,14 @@ no_more [] (suc i) n = refl
 no_more (k ∷ t) zero n = rw (ne_eqb k nullable_kind n)
 no_more (k ∷ t) (suc i) n = no_more t i n
 
-pub still_inside : (t : Ty) (i : ℕ) → get_or t i 0 ≡ nullable_kind → i < length t
-still_inside [] i e = absurd (omega arith)
-still_inside (k ∷ t) zero e = omega arith
-still_inside (k ∷ t) (suc i) e = let h = still_inside t i e in omega arith
+none_left : (t : Ty) → nullables (drop (length t) t) ≡ 0
+unfolding nullables
+none_left [] = refl
+none_left (k ∷ t) = none_left t
+
+-- all of them are, where the last is behind
+pub all_nullable : (t : Ty) (i : ℕ) → i ≡ length t → nullables t ≡ i + nullables (drop i t) → length t ≡ nullables t
+all_nullable t i e h = let z : nullables (drop i t) ≡ 0 = rw e (none_left t) in omega arith
 
 -- behind them a Nullable is shorter
 pub opened_shorter : (t : Ty) → is_kind nullable_kind t ≡ true → length (drop (nullables t) t) < length t
@@ -208,3 +213,10 @@ module _ (a b : Ty) where
   pub right_falls : Right ≡ assign_step a b → length (drop (nullables b) b) < length b
   unfolding Reason
   right_falls e = opened_shorter b (reason_by a b Right e)
+
+-- ---- for the code
+-- the loop that counts them
+pub ruleset counting = (one_more, no_more, all_nullable)
+
+-- each step of `can_assign_to`
+pub ruleset assign_steps = (yes_is, no_is, both_is, climb_is, both_shorter, opened_right, left_opened, left_falls, right_falls)

@@ -7,7 +7,7 @@ ghost use Rattle.operators.specs.Inside.Nullables.{nullables as nullables_of};
 
 use crate::operand::numbers;
 use below::is_below;
-use ty::{Kind, NameId};
+use ty::{Kind, NameId, is_kind};
 
 // What one look at two types says: yes, no, or it goes by the type inside the left one, inside the right one, or inside both, or by the classes of two
 // Named types.
@@ -25,7 +25,7 @@ pub enum Next {
 fn is_named(id: u16, t: &[u8]) -> bool
     ensures { result ≡ is_named id t.now }
 {
-    (ty::kind_of(t) == Kind::NAMED) & (ty::name_of(t) == id)
+    is_kind(t, Kind::Named) & (ty::name_of(t) == id)
 }
 
 // ArrayList or MutableList, as names.
@@ -46,65 +46,66 @@ fn is_list_name(t: &[u8]) -> bool
 fn assigns_at_once(a: &[u8], b: &[u8]) -> bool
     ensures { result ≡ assigns_at_once a.now b.now }
 {
-    let k = ty::kind_of(a);
-    let m = ty::kind_of(b);
     ty::same_bytes(a, b)
-        | (((m == Kind::ANY) | ((m == Kind::ERROR) | (k == Kind::ERROR)))
-            | ((k == Kind::ANY) | (numbers(a, b) | ((k == Kind::LIST) & (m == Kind::LIST)))))
+        | ((is_kind(b, Kind::Any) | (is_kind(b, Kind::Error) | is_kind(a, Kind::Error)))
+            | (is_kind(a, Kind::Any)
+                | (numbers(a, b) | (is_kind(a, Kind::List) & is_kind(b, Kind::List)))))
 }
 
 // One look at two types: the checks in their order.
+#[tactic(auto, using(ty::proofs::Choice::chain), unfolding(crate::specs::Assign::assign_step))]
 fn step(a: &[u8], b: &[u8]) -> Next
     ensures { result ≡ assign_step a.now b.now }
 {
     if assigns_at_once(a, b) {
         return Next::Yes;
     }
-    let k = ty::kind_of(a);
-    let m = ty::kind_of(b);
     let list = is_list_name(b);
-    if (k == Kind::LIST) & (m == Kind::ARRAY) {
+    if is_kind(a, Kind::List) & is_kind(b, Kind::Array) {
         return Next::Both;
     }
-    if is_growing(a) & (m == Kind::ARRAY) {
+    if is_growing(a) & is_kind(b, Kind::Array) {
         return Next::Yes;
     }
-    if (k == Kind::ARRAY) & (m == Kind::ARRAY) {
+    if is_kind(a, Kind::Array) & is_kind(b, Kind::Array) {
         return Next::Both;
     }
-    if is_list_name(a) & ((m == Kind::LIST) | list) {
+    if is_list_name(a) & (is_kind(b, Kind::List) | list) {
         return Next::Yes;
     }
-    if (k == Kind::LIST) & list {
+    if is_kind(a, Kind::List) & list {
         return Next::Yes;
     }
-    if m == Kind::NULLABLE {
+    if is_kind(b, Kind::Nullable) {
         return Next::Right;
     }
-    if k == Kind::NULLABLE {
+    if is_kind(a, Kind::Nullable) {
         return Next::Left;
     }
-    if k == Kind::NOTHING {
+    if is_kind(a, Kind::Nothing) {
         return Next::Yes;
     }
-    if (k == Kind::NAMED) & (m == Kind::NAMED) {
+    if is_kind(a, Kind::Named) & is_kind(b, Kind::Named) {
         return Next::Climb;
     }
     Next::No
 }
 
 // How many Nullables a type begins with.
+#[tactic(auto, using(crate::proofs::NullablesOpened::counting))]
 fn nullables(t: &[u8]) -> usize
     ensures { result ≡ nullables_of t.now }
 {
-    let mut n = 0;
-    while ty::byte_at(t, n) == Kind::NULLABLE {
-        n += 1;
+    for n in 0..t.len() {
+        if t[n] != Kind::Nullable.number() {
+            return n;
+        }
     }
-    n
+    t.len()
 }
 
 // Whether the type a assigns to the type b. Nullables are opened together, so that a type of 192 bytes takes no 192 calls.
+#[tactic(auto, using(crate::proofs::NullablesOpened::assign_steps))]
 pub fn can_assign_to(table: &[u8], index: &[u16], a: &[u8], b: &[u8]) -> bool
     requires { IndexedTable table.now index.now }
     ensures { result ≡ assigns (symbols_of table.now) a.now b.now }

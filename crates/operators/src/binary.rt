@@ -5,220 +5,163 @@ ghost use Rattle.symbol.specs.Lookup.{symbols_of};
 ghost use Rattle.operators.specs.Binary.{fractional as fractional_of, takes_nullable};
 ghost use Rattle.operators.specs.Inside.BinaryRule.{add_ruled, arithmetic_ruled, equality_ruled, order_ruled, logical_ruled, bitwise_ruled};
 ghost use Rattle.operators.specs.Inside.BinaryRule.{operator_ruled, builtin_ruled, binary_ruled};
+ghost use Rattle.question.specs.OperatorNumber.{binary_number};
 
 use crate::assign::can_assign_to;
-use crate::method::{Method, operator_overload_return};
+use crate::method::operator_overload_return;
 use crate::operand::{char_string, either, is_logical, numbers};
-use crate::ruled::{Diagnostic, OneReport, Ruled, alone, checked, clean, fails, plain, unless};
-use area::Source;
-use ty::{Kind, NameId};
-
-// The numbers of the binary operators.
-#[derive(Clone, Copy)]
-pub struct BinOp(pub u8);
-
-impl BinOp {
-    pub const ADD: u8 = 0;
-
-    pub const SUB: u8 = 1;
-
-    pub const MUL: u8 = 2;
-
-    pub const DIV: u8 = 3;
-
-    pub const MOD: u8 = 4;
-
-    pub const EQ: u8 = 5;
-
-    pub const NE: u8 = 6;
-
-    pub const LT: u8 = 7;
-
-    pub const GT: u8 = 8;
-
-    pub const LE: u8 = 9;
-
-    pub const GE: u8 = 10;
-
-    pub const AND: u8 = 11;
-
-    pub const OR: u8 = 12;
-
-    pub const BIT_AND: u8 = 13;
-
-    pub const BIT_OR: u8 = 14;
-
-    pub const BIT_XOR: u8 = 15;
-
-    pub const SHL: u8 = 16;
-
-    pub const SHR: u8 = 17;
-
-    pub const USHR: u8 = 18;
-
-    pub const ASSIGN: u8 = 19;
-
-    pub const TO: u8 = 20;
-
-    pub const IS: u8 = 21;
-
-    pub const AS: u8 = 22;
-}
+use crate::ruled::{OneReport, Ruled, checked, clean, fails, plain, unless};
+use area::{DiagnosticKind, Source};
+use question::operator::BinOp;
+use ty::{Kind, NameId, is_kind};
 
 // One of two numbers is a Float or a Double.
 fn fractional(lt: &[u8], rt: &[u8]) -> bool
     ensures { result ≡ fractional_of lt.now rt.now }
 {
-    either(Kind::FLOAT, lt, rt) | either(Kind::DOUBLE, lt, rt)
+    either(Kind::Float, lt, rt) | either(Kind::Double, lt, rt)
 }
 
 // Add.
+#[tactic(auto, using(ty::proofs::Choice::chain), unfolding(crate::specs::Inside::BinaryRule::add_ruled))]
 fn add(lt: &[u8], rt: &[u8]) -> OneReport
     ensures { result ≡ add_ruled lt.now rt.now }
 {
-    if ty::is_string(lt) & (ty::is_string(rt) | (ty::kind_of(rt) == Kind::ANY)) {
-        return plain(Kind::STRING);
+    if ty::is_string(lt) & (ty::is_string(rt) | is_kind(rt, Kind::Any)) {
+        return plain(Kind::String);
     }
     if numbers(lt, rt) {
         if fractional(lt, rt) {
-            return plain(Kind::FLOAT);
+            return plain(Kind::Float);
         }
-        return plain(Kind::INT); // of two Longs too
+        return plain(Kind::Int); // of two Longs too
     }
-    if either(Kind::STRING, lt, rt) | either(Kind::ANY, lt, rt) {
-        return plain(Kind::STRING);
+    if either(Kind::String, lt, rt) | either(Kind::Any, lt, rt) {
+        return plain(Kind::String);
     }
-    fails(Diagnostic::PLUS)
+    fails(DiagnosticKind::Plus)
 }
 
 // Sub, Mul, Div, Mod.
+#[tactic(auto, unfolding(crate::specs::Inside::BinaryRule::arithmetic_ruled, ty::specs::Choose::choose))]
 fn arithmetic(lt: &[u8], rt: &[u8]) -> OneReport
     ensures { result ≡ arithmetic_ruled lt.now rt.now }
 {
     if numbers(lt, rt) {
         if fractional(lt, rt) {
-            return plain(Kind::FLOAT);
+            return plain(Kind::Float);
         }
-        if either(Kind::LONG, lt, rt) {
-            return plain(Kind::LONG);
+        if either(Kind::Long, lt, rt) {
+            return plain(Kind::Long);
         }
-        return plain(Kind::INT);
+        return plain(Kind::Int);
     }
-    fails(Diagnostic::NUMERIC)
+    fails(DiagnosticKind::Numeric)
 }
 
 // Eq, Ne.
+#[tactic(auto, unfolding(crate::specs::Inside::BinaryRule::equality_ruled))]
 fn equality(table: &[u8], index: &[u16], lt: &[u8], rt: &[u8]) -> OneReport
     requires { IndexedTable table.now index.now }
     ensures { result ≡ equality_ruled (symbols_of table.now) lt.now rt.now }
 {
     checked(
         (can_assign_to(table, index, lt, rt) | can_assign_to(table, index, rt, lt))
-            | (either(Kind::ANY, lt, rt) | char_string(lt, rt)),
-        Source::Kind(Kind::BOOLEAN),
-        Diagnostic::UNRELATED,
+            | (either(Kind::Any, lt, rt) | char_string(lt, rt)),
+        Source::Kind(Kind::Boolean),
+        DiagnosticKind::Unrelated,
     )
 }
 
 // Lt, Gt, Le, Ge.
+#[tactic(auto, unfolding(crate::specs::Inside::BinaryRule::order_ruled))]
 fn order(lt: &[u8], rt: &[u8]) -> OneReport
     ensures { result ≡ order_ruled lt.now rt.now }
 {
     checked(
         numbers(lt, rt)
-            | (either(Kind::ANY, lt, rt) | (ty::same_bytes(lt, rt) | char_string(lt, rt))),
-        Source::Kind(Kind::BOOLEAN),
-        Diagnostic::NOT_COMPARABLE,
+            | (either(Kind::Any, lt, rt) | (ty::same_bytes(lt, rt) | char_string(lt, rt))),
+        Source::Kind(Kind::Boolean),
+        DiagnosticKind::NotComparable,
     )
 }
 
 // And, Or: each operand is checked.
+#[tactic(auto, unfolding(crate::specs::Inside::BinaryRule::logical_ruled))]
 fn logical(lt: &[u8], rt: &[u8]) -> Ruled
     ensures { result ≡ logical_ruled lt.now rt.now }
 {
     Ruled {
-        source: Source::Kind(Kind::BOOLEAN),
-        first: unless(is_logical(lt), Diagnostic::LOGICAL, 1),
-        second: unless(is_logical(rt), Diagnostic::LOGICAL, 2),
+        source: Source::Kind(Kind::Boolean),
+        first: unless(is_logical(lt), DiagnosticKind::Logical, 1),
+        second: unless(is_logical(rt), DiagnosticKind::Logical, 2),
     }
 }
 
 // BitAnd, BitOr, BitXor, Shl, Shr, UShr: the left type, reported or not.
+#[tactic(auto, unfolding(crate::specs::Inside::BinaryRule::bitwise_ruled))]
 fn bitwise(lt: &[u8], rt: &[u8]) -> OneReport
     ensures { result ≡ bitwise_ruled lt.now rt.now }
 {
     checked(
-        (ty::is_integer(lt) & ty::is_integer(rt)) | either(Kind::ANY, lt, rt),
+        (ty::is_integer(lt) & ty::is_integer(rt)) | either(Kind::Any, lt, rt),
         Source::First,
-        Diagnostic::BITWISE,
+        DiagnosticKind::Bitwise,
     )
 }
 
 // Every other operator reports a nullable operand.
-fn takes_nullable(op: u8) -> bool
-    ensures { result ≡ takes_nullable op }
+#[tactic(auto, unfolding(question::specs::OperatorNumber::binary_number))]
+fn takes_nullable(op: BinOp) -> bool
+    ensures { result ≡ takes_nullable (binary_number op) }
 {
-    ((op == BinOp::EQ) | (op == BinOp::NE)) | ((op == BinOp::AND) | (op == BinOp::OR))
+    matches!(op, BinOp::Eq | BinOp::Ne | BinOp::And | BinOp::Or)
 }
 
 // The operator's own check.
-fn operator(table: &[u8], index: &[u16], op: u8, lt: &[u8], rt: &[u8]) -> Ruled
+#[tactic(auto, unfolding(crate::specs::Inside::BinaryRule::operator_ruled, ty::specs::Choose::choose, question::specs::OperatorNumber::binary_number))]
+fn operator(table: &[u8], index: &[u16], op: BinOp, lt: &[u8], rt: &[u8]) -> Ruled
     requires { IndexedTable table.now index.now }
-    ensures { result ≡ operator_ruled (symbols_of table.now) op lt.now rt.now }
+    ensures { result ≡ operator_ruled (symbols_of table.now) (binary_number op) lt.now rt.now }
 {
-    if op == BinOp::ADD {
-        return alone(add(lt, rt));
+    match op {
+        BinOp::Add => add(lt, rt).into(),
+        BinOp::Sub | BinOp::Mul | BinOp::Div | BinOp::Mod => arithmetic(lt, rt).into(),
+        BinOp::Eq | BinOp::Ne => equality(table, index, lt, rt).into(),
+        BinOp::Lt | BinOp::Gt | BinOp::Le | BinOp::Ge => order(lt, rt).into(),
+        BinOp::And | BinOp::Or => logical(lt, rt),
+        BinOp::BitAnd | BinOp::BitOr | BinOp::BitXor | BinOp::Shl | BinOp::Shr | BinOp::UShr =>
+            bitwise(lt, rt).into(),
+        BinOp::Assign | BinOp::As => clean(Source::Second).into(),
+        BinOp::To => clean(Source::Name(NameId::PAIR)).into(),
+        BinOp::Is => plain(Kind::Boolean).into(),
     }
-    if op <= BinOp::MOD {
-        return alone(arithmetic(lt, rt));
-    }
-    if op <= BinOp::NE {
-        return alone(equality(table, index, lt, rt));
-    }
-    if op <= BinOp::GE {
-        return alone(order(lt, rt));
-    }
-    if op <= BinOp::OR {
-        return logical(lt, rt);
-    }
-    if op <= BinOp::USHR {
-        return alone(bitwise(lt, rt));
-    }
-    if op == BinOp::ASSIGN {
-        return alone(clean(Source::Second));
-    }
-    if op == BinOp::TO {
-        return alone(clean(Source::Name(NameId::PAIR)));
-    }
-    if op == BinOp::IS {
-        return alone(plain(Kind::BOOLEAN));
-    }
-    alone(clean(Source::Second))
 }
 
-fn builtin_binary(table: &[u8], index: &[u16], op: u8, lt: &[u8], rt: &[u8]) -> Ruled
+#[tactic(auto, using(ty::proofs::Choice::chain), unfolding(crate::specs::Inside::BinaryRule::builtin_ruled))]
+fn builtin_binary(table: &[u8], index: &[u16], op: BinOp, lt: &[u8], rt: &[u8]) -> Ruled
     requires { IndexedTable table.now index.now }
-    ensures { result ≡ builtin_ruled (symbols_of table.now) op lt.now rt.now }
+    ensures { result ≡ builtin_ruled (symbols_of table.now) (binary_number op) lt.now rt.now }
 {
-    if (!takes_nullable(op)) & either(Kind::NULLABLE, lt, rt) {
-        return alone(fails(Diagnostic::NULLABLE_OPERANDS));
+    if (!takes_nullable(op)) & either(Kind::Nullable, lt, rt) {
+        return fails(DiagnosticKind::NullableOperands).into();
     }
     operator(table, index, op, lt, rt)
 }
 
 // The type of an operator on operands of the types lt and rt, and what is reported: Error first and silently, then an operator method, then the built-in
 // operators.
-pub fn check_binary(table: &[u8], index: &[u16], op: u8, lt: &[u8], rt: &[u8]) -> Ruled
+#[tactic(auto, using(ty::proofs::Choice::chain), unfolding(crate::specs::Inside::BinaryRule::binary_ruled, crate::specs::Inside::BinaryRule::method_ruled))]
+pub fn check_binary(table: &[u8], index: &[u16], op: BinOp, lt: &[u8], rt: &[u8]) -> Ruled
     requires { IndexedTable table.now index.now }
-    ensures { result ≡ binary_ruled table.now op lt.now rt.now }
+    ensures { result ≡ binary_ruled table.now (binary_number op) lt.now rt.now }
 {
-    if either(Kind::ERROR, lt, rt) {
-        return alone(plain(Kind::ERROR));
+    if either(Kind::Error, lt, rt) {
+        return plain(Kind::Error).into();
     }
     let method = operator_overload_return(table, index, op, lt);
     match method {
-        Method::Nothing => builtin_binary(table, index, op, lt, rt),
-        Method::Any => alone(plain(Kind::ANY)),
-        Method::At { start, len } => alone(clean(Source::Part { start, len })),
+        None => builtin_binary(table, index, op, lt, rt),
+        Some(source) => clean(source).into(),
     }
 }

@@ -2,21 +2,14 @@
 ghost use Rattle.std.specs.Prelude.{◌≡◌, ◌≤◌};
 ghost use Rattle.index.specs.Inside.IndexedTable.{IndexedTable};
 ghost use Rattle.operators.specs.OperatorMethod.{has_operator};
+ghost use Rattle.question.specs.OperatorNumber.{binary_number};
 ghost use Rattle.operators.specs.Inside.MethodPlace.{first_result_place, climb_place_from, operator_place};
 
-use crate::binary::BinOp;
-use index::index::Found;
+use area::Source;
+use question::operator::BinOp;
 use symbol::functions::read_function;
 use symbol::lookups::{Mask, first_function, operators_of, superclass_of};
-use ty::{Kind, NameId};
-
-// The type that an operator method gives: there is no such method, it is Any, or a part of the table.
-#[derive(Clone, Copy)]
-pub enum Method {
-    Nothing,
-    Any,
-    At { start: usize, len: usize },
-}
+use ty::{Kind, NameId, is_kind};
 
 // An operator set's mask has the operator's bit.
 fn has_operator(mask: u16, op: u8) -> bool
@@ -27,16 +20,16 @@ fn has_operator(mask: u16, op: u8) -> bool
 }
 
 // The result of the first function of a class and a name, and Any where there is none.
-fn first_result(table: &[u8], index: &[u16], class: u16, name: u16) -> Method
+#[tactic(auto, unfolding(crate::specs::Inside::MethodPlace::first_result_place))]
+fn first_result(table: &[u8], index: &[u16], class: u16, name: u16) -> Source
     requires { IndexedTable table.now index.now }
     ensures { result ≡ first_result_place table.now class name }
 {
-    let found = first_function(table, index, class, name);
-    match found {
-        Found::Nothing => Method::Any,
-        Found::Here(place) => {
+    match first_function(table, index, class, name) {
+        None => Source::Kind(Kind::Any),
+        Some(place) => {
             let f = read_function(table, place);
-            Method::At {
+            Source::Part {
                 start: f.start,
                 len: f.len,
             }
@@ -45,7 +38,8 @@ fn first_result(table: &[u8], index: &[u16], class: u16, name: u16) -> Method
 }
 
 // The climb from a class, as long as there are operator sets.
-fn climb(table: &[u8], index: &[u16], op: u8, class: u16) -> Method
+#[tactic(auto, using(crate::proofs::Climbs::climb_steps))]
+fn climb(table: &[u8], index: &[u16], op: u8, class: u16) -> Option<Source>
     requires { IndexedTable table.now index.now × (op ≤ 10) }
     ensures { result ≡ climb_place_from table.now op class }
 {
@@ -54,25 +48,36 @@ fn climb(table: &[u8], index: &[u16], op: u8, class: u16) -> Method
         let set = operators_of(table, index, at);
         match set {
             Mask::Nothing => {
-                return Method::Nothing;
+                return None;
             }
             Mask::Is(mask) => {
                 if has_operator(mask, op) {
-                    return first_result(table, index, at, NameId::PLUS + op as u16);
+                    return Some(first_result(table, index, at, NameId::PLUS + op as u16));
                 }
                 at = superclass_of(table, index, at);
             }
         }
     }
-    Method::Nothing
+    None
 }
 
-pub fn operator_overload_return(table: &[u8], index: &[u16], op: u8, lt: &[u8]) -> Method
-    requires { IndexedTable table.now index.now }
-    ensures { result ≡ operator_place table.now op lt.now }
+// The number of an operator: the methods' names and the bits of a mask go by it.
+#[tactic(auto, unfolding(question::specs::OperatorNumber::binary_number))]
+fn operator_number(op: BinOp) -> u8
+    ensures { result ≡ binary_number op }
 {
-    if (op <= BinOp::GE) & (ty::kind_of(lt) == Kind::NAMED) {
-        return climb(table, index, op, ty::name_of(lt));
+    op as u8
+}
+
+// Where the type lies that an operator method gives, if there is one.
+#[tactic(auto, using(ty::proofs::Choice::chain), unfolding(crate::specs::Inside::MethodPlace::operator_place, question::specs::OperatorNumber::binary_number))]
+pub fn operator_overload_return(table: &[u8], index: &[u16], op: BinOp, lt: &[u8]) -> Option<Source>
+    requires { IndexedTable table.now index.now }
+    ensures { result ≡ operator_place table.now (binary_number op) lt.now }
+{
+    let number = operator_number(op);
+    if (number <= operator_number(BinOp::Ge)) & is_kind(lt, Kind::Named) {
+        return climb(table, index, number, ty::name_of(lt));
     }
-    Method::Nothing
+    None
 }

@@ -1,63 +1,45 @@
 // Unary nodes.
 ghost use Rattle.std.specs.Prelude.{◌≡◌};
 ghost use Rattle.operators.specs.Inside.UnaryRule.{unary_one, unary_ruled};
+ghost use Rattle.question.specs.OperatorNumber.{unary_number};
 
 use crate::operand::{is_logical, is_number};
-use crate::ruled::{Diagnostic, OneReport, Ruled, alone, checked, clean, fails};
-use area::Source;
-use ty::Kind;
+use crate::ruled::{OneReport, Ruled, checked, clean, fails};
+use area::{DiagnosticKind, Source};
+use question::operator::UnOp;
+use ty::{Kind, is_kind};
 
-// The numbers of the unary operators.
-#[derive(Clone, Copy)]
-pub struct UnOp(pub u8);
-
-impl UnOp {
-    pub const MINUS: u8 = 0;
-
-    pub const NOT: u8 = 1;
-
-    pub const INCREMENT: u8 = 2;
-
-    pub const DECREMENT: u8 = 3;
-
-    pub const ADDR_OF: u8 = 4;
-
-    pub const DEREFERENCE: u8 = 5;
-
-    pub const NOT_NULL: u8 = 6;
-}
-
-fn unary(op: u8, t: &[u8]) -> OneReport
-    ensures { result ≡ unary_one op t.now }
+#[tactic(auto, unfolding(crate::specs::Inside::UnaryRule::unary_one, ty::specs::Choose::choose, question::specs::OperatorNumber::unary_number))]
+fn unary(op: UnOp, t: &[u8]) -> OneReport
+    ensures { result ≡ unary_one (unary_number op) t.now }
 {
-    let kind = ty::kind_of(t);
-    if kind == Kind::NULLABLE {
-        return fails(Diagnostic::NULLABLE_UNARY);
+    if is_kind(t, Kind::Nullable) {
+        return fails(DiagnosticKind::NullableUnary);
     }
-    if op == UnOp::MINUS {
-        return checked(is_number(t), Source::First, Diagnostic::MINUS);
-    }
-    if op == UnOp::NOT {
-        return checked(is_logical(t), Source::Kind(Kind::BOOLEAN), Diagnostic::NOT);
-    }
-    if op <= UnOp::DECREMENT {
-        return checked(is_number(t), Source::First, Diagnostic::STEP);
-    }
-    if op == UnOp::ADDR_OF {
-        return clean(Source::Pointer);
-    }
-    if op == UnOp::DEREFERENCE {
-        if kind == Kind::POINTER {
-            return clean(Source::Inner);
+    match op {
+        UnOp::Minus => checked(is_number(t), Source::First, DiagnosticKind::Minus),
+        UnOp::Not => checked(
+            is_logical(t),
+            Source::Kind(Kind::Boolean),
+            DiagnosticKind::Not,
+        ),
+        UnOp::Increment | UnOp::Decrement => {
+            checked(is_number(t), Source::First, DiagnosticKind::Step)
         }
-        return fails(Diagnostic::DEREFERENCE);
+        UnOp::AddrOf => clean(Source::Pointer),
+        UnOp::Dereference => {
+            if is_kind(t, Kind::Pointer) {
+                return clean(Source::Inner);
+            }
+            fails(DiagnosticKind::Dereference)
+        }
+        UnOp::NotNull => fails(DiagnosticKind::NotNull),
     }
-    fails(Diagnostic::NOT_NULL)
 }
 
 // The type of an operator on an operand of the type t, and what is reported.
-pub fn check_unary(op: u8, t: &[u8]) -> Ruled
-    ensures { result ≡ unary_ruled op t.now }
+pub fn check_unary(op: UnOp, t: &[u8]) -> Ruled
+    ensures { result ≡ unary_ruled (unary_number op) t.now }
 {
-    alone(unary(op, t))
+    unary(op, t).into()
 }

@@ -6,42 +6,32 @@ ghost use Rattle.rules.specs.Accept.{is_variable_name, is_type_variable, param_a
 
 use operators::assign::can_assign_to;
 use symbol::lookups::{in_types, is_capital};
-use ty::Kind;
+use ty::{Kind, is_kind};
 
 // A name of one capital letter that is not in `types`.
 pub fn is_variable_name(table: &[u8], index: &[u16], id: u16) -> bool
     requires { IndexedTable table.now index.now }
     ensures { result ≡ is_variable_name (symbols_of table.now) id }
 {
-    if is_capital(table, index, id) {
-        return !in_types(table, index, id);
-    }
-    false
+    is_capital(table, index, id) && !in_types(table, index, id)
 }
 
 pub fn is_type_variable(table: &[u8], index: &[u16], t: &[u8]) -> bool
     requires { IndexedTable table.now index.now }
     ensures { result ≡ is_type_variable (symbols_of table.now) t.now }
 {
-    if ty::kind_of(t) == Kind::NAMED {
-        return is_variable_name(table, index, ty::name_of(t));
-    }
-    false
+    is_kind(t, Kind::Named) && is_variable_name(table, index, ty::name_of(t))
 }
 
 // Whether a parameter of the type p, vararg or not, takes an argument of the type x.
+#[tactic(auto, unfolding(crate::specs::Accept::param_accepts))]
 pub fn param_accepts(table: &[u8], index: &[u16], p: &[u8], x: &[u8], vararg: bool) -> bool
     requires { IndexedTable table.now index.now }
     ensures { result ≡ param_accepts (symbols_of table.now) p.now x.now vararg }
 {
-    if ty::same_bytes(x, p) {
-        return true;
-    }
-    if can_assign_to(table, index, x, p) {
-        return true;
-    }
-    if is_type_variable(table, index, p) {
-        return true;
-    }
-    vararg | (ty::kind_of(p) == Kind::ANY)
+    ty::same_bytes(x, p)
+        || can_assign_to(table, index, x, p)
+        || is_type_variable(table, index, p)
+        || vararg
+        || is_kind(p, Kind::Any)
 }

@@ -10,187 +10,141 @@ ghost use Rattle.rules.specs.Inside.Variable.{function_place, variable_place};
 
 use crate::accept::is_variable_name;
 use crate::access::access_report;
-use area::Source;
-use index::index::Found;
-use operators::ruled::{
-    Diagnostic, OneReport, Ruled, alone, clean, fails, no_report, plain, report_before,
-};
+use area::{DiagnosticKind, Source};
+use operators::ruled::{Diagnostic, OneReport, Ruled, clean, fails, plain, report_before};
 use question::Header;
 use symbol::functions::read_function;
 use symbol::lookups::{
     Part, Visibility, field_of, first_function, in_types, is_variant, visibility_of,
 };
-use ty::{Kind, NameId};
-
-// What a name of a class stands for: nothing, a field or a function, by the part of the table where its type or its result type lies.
-#[derive(Clone, Copy)]
-pub enum Variable {
-    Nothing,
-    Field { start: usize, len: usize },
-    Function { start: usize, len: usize },
-}
+use ty::{Kind, NameId, is_kind};
 
 // A type variable's members.
+#[tactic(auto, using(ty::proofs::Choice::chain), unfolding(crate::specs::Inside::MemberRule::variable_ruled))]
 fn variable_member(id: u16) -> OneReport
     ensures { result ≡ variable_ruled id }
 {
-    if id == NameId::TO_STRING {
-        return plain(Kind::STRING);
+    match id {
+        NameId::TO_STRING => plain(Kind::String),
+        NameId::HASH_CODE => plain(Kind::Int),
+        NameId::EQUALS => plain(Kind::Boolean),
+        _ => plain(Kind::Any),
     }
-    if id == NameId::HASH_CODE {
-        return plain(Kind::INT);
-    }
-    if id == NameId::EQUALS {
-        return plain(Kind::BOOLEAN);
-    }
-    plain(Kind::ANY)
 }
 
 // Pair's.
+#[tactic(auto, using(std::proofs::lemmas::Bool::Decides::nat_tests), unfolding(crate::specs::Inside::MemberRule::pair_ruled, ty::specs::Choose::choose))]
 fn pair_member(id: u16) -> OneReport
     ensures { result ≡ pair_ruled id }
 {
-    if (id == NameId::FIRST) | (id == NameId::SECOND) {
-        return plain(Kind::ANY);
+    match id {
+        NameId::FIRST | NameId::SECOND => plain(Kind::Any),
+        NameId::TO_STRING => plain(Kind::String),
+        _ => fails(DiagnosticKind::Unresolved),
     }
-    if id == NameId::TO_STRING {
-        return plain(Kind::STRING);
-    }
-    fails(Diagnostic::UNRESOLVED)
 }
 
 // Those of the classes List, ArrayList, MutableList, Array and Set, as names.
+#[tactic(auto, using(std::proofs::lemmas::Bool::Decides::nat_tests), unfolding(crate::specs::Inside::MemberRule::collection_ruled, ty::specs::Choose::choose))]
 fn collection_member(id: u16) -> OneReport
     ensures { result ≡ collection_ruled id }
 {
-    if (id == NameId::SIZE) | (id == NameId::COUNT) {
-        return plain(Kind::INT);
+    match id {
+        NameId::SIZE | NameId::COUNT | NameId::INDEX_OF => plain(Kind::Int),
+        NameId::IS_EMPTY | NameId::CONTAINS => plain(Kind::Boolean),
+        NameId::FIRST | NameId::LAST | NameId::GET | NameId::GET_AT => plain(Kind::Any),
+        NameId::SET | NameId::ADD | NameId::PUSH | NameId::APPEND => plain(Kind::Unit),
+        _ => fails(DiagnosticKind::Unresolved),
     }
-    if id == NameId::IS_EMPTY {
-        return plain(Kind::BOOLEAN);
-    }
-    if ((id == NameId::FIRST) | (id == NameId::LAST))
-        | ((id == NameId::GET) | (id == NameId::GET_AT))
-    {
-        return plain(Kind::ANY);
-    }
-    if ((id == NameId::SET) | (id == NameId::ADD))
-        | ((id == NameId::PUSH) | (id == NameId::APPEND))
-    {
-        return plain(Kind::UNIT);
-    }
-    if id == NameId::CONTAINS {
-        return plain(Kind::BOOLEAN);
-    }
-    if id == NameId::INDEX_OF {
-        return plain(Kind::INT);
-    }
-    fails(Diagnostic::UNRESOLVED)
 }
 
 // String's.
+#[tactic(auto, using(std::proofs::lemmas::Bool::Decides::nat_tests), unfolding(crate::specs::Inside::MemberRule::string_ruled, ty::specs::Choose::choose))]
 fn string_member(id: u16) -> OneReport
     ensures { result ≡ string_ruled id }
 {
-    if (id == NameId::LENGTH) | (id == NameId::SIZE) {
-        return plain(Kind::INT);
+    match id {
+        NameId::LENGTH | NameId::SIZE => plain(Kind::Int),
+        NameId::IS_EMPTY | NameId::IS_NOT_EMPTY => plain(Kind::Boolean),
+        NameId::TRIM | NameId::LOWERCASE | NameId::UPPERCASE => plain(Kind::String),
+        _ => fails(DiagnosticKind::Unresolved),
     }
-    if (id == NameId::IS_EMPTY) | (id == NameId::IS_NOT_EMPTY) {
-        return plain(Kind::BOOLEAN);
-    }
-    if (id == NameId::TRIM) | ((id == NameId::LOWERCASE) | (id == NameId::UPPERCASE)) {
-        return plain(Kind::STRING);
-    }
-    fails(Diagnostic::UNRESOLVED)
 }
 
 // A List's or an Array's.
+#[tactic(auto, using(std::proofs::lemmas::Bool::Decides::nat_tests), unfolding(crate::specs::Inside::MemberRule::element_ruled, ty::specs::Choose::choose))]
 fn element_member(id: u16) -> OneReport
     ensures { result ≡ element_ruled id }
 {
-    if (id == NameId::SIZE) | (id == NameId::COUNT) {
-        return plain(Kind::INT);
+    match id {
+        NameId::SIZE | NameId::COUNT => plain(Kind::Int),
+        NameId::IS_EMPTY => plain(Kind::Boolean),
+        NameId::FIRST | NameId::LAST | NameId::GET | NameId::GET_AT => clean(Source::Inner),
+        NameId::SET => plain(Kind::Unit),
+        _ => fails(DiagnosticKind::Unresolved),
     }
-    if id == NameId::IS_EMPTY {
-        return plain(Kind::BOOLEAN);
-    }
-    if ((id == NameId::FIRST) | (id == NameId::LAST))
-        | ((id == NameId::GET) | (id == NameId::GET_AT))
-    {
-        return clean(Source::Inner);
-    }
-    if id == NameId::SET {
-        return plain(Kind::UNIT);
-    }
-    fails(Diagnostic::UNRESOLVED)
 }
 
 // A Map's.
+#[tactic(auto, using(ty::proofs::Choice::chain), unfolding(crate::specs::Inside::MemberRule::map_ruled))]
 fn map_member(id: u16) -> OneReport
     ensures { result ≡ map_ruled id }
 {
-    if id == NameId::SIZE {
-        return plain(Kind::INT);
+    match id {
+        NameId::SIZE => plain(Kind::Int),
+        NameId::KEYS => clean(Source::ListOf(Kind::Any)),
+        _ => fails(DiagnosticKind::Unresolved),
     }
-    if id == NameId::KEYS {
-        return clean(Source::ListOf(Kind::ANY));
-    }
-    fails(Diagnostic::UNRESOLVED)
 }
 
-// A class's function of a name.
-fn lookup_function(table: &[u8], index: &[u16], owner: u16, id: u16) -> Variable
+// A class's function of a name: its type is a Function with the first one's result.
+#[tactic(auto, unfolding(crate::specs::Inside::Variable::function_place))]
+fn lookup_function(table: &[u8], index: &[u16], owner: u16, id: u16) -> Option<Source>
     requires { IndexedTable table.now index.now }
     ensures { result ≡ function_place table.now owner id }
 {
-    let found = first_function(table, index, owner, id);
-    match found {
-        Found::Nothing => Variable::Nothing,
-        Found::Here(place) => {
-            let f = read_function(table, place);
-            Variable::Function {
-                start: f.start,
-                len: f.len,
-            }
-        }
-    }
+    let place = first_function(table, index, owner, id)?;
+    let f = read_function(table, place);
+    Some(Source::Function {
+        start: f.start,
+        len: f.len,
+    })
 }
 
-// A class's field of a name, or else its function.
-fn lookup_var_ty(table: &[u8], index: &[u16], owner: u16, id: u16) -> Variable
+// A class's field of a name, or else its function: where its type lies, if there is one.
+#[tactic(auto, unfolding(crate::specs::Inside::Variable::variable_place))]
+fn lookup_var_ty(table: &[u8], index: &[u16], owner: u16, id: u16) -> Option<Source>
     requires { IndexedTable table.now index.now }
     ensures { result ≡ variable_place table.now owner id }
 {
     let field = field_of(table, index, owner, id);
     match field {
-        Part::At { start, len } => Variable::Field { start, len },
+        Part::At { start, len } => Some(Source::Part { start, len }),
         Part::Nothing => lookup_function(table, index, owner, id),
     }
 }
 
 // The members that the table gives a class: a field, else a function, else a variant (which has the enum's type). Any other name is unresolved where the class
 // is in `types`, and Error without a report where it is not.
+#[tactic(auto, using(ty::proofs::Choice::chain), unfolding(crate::specs::Inside::MemberRule::class_ruled, crate::specs::Inside::MemberRule::variable_or))]
 fn class_member(table: &[u8], index: &[u16], owner: u16, id: u16) -> OneReport
     requires { IndexedTable table.now index.now }
     ensures { result ≡ class_ruled table.now owner id }
 {
-    let variable = lookup_var_ty(table, index, owner, id);
-    match variable {
-        Variable::Field { start, len } => clean(Source::Part { start, len }),
-        Variable::Function { start, len } => clean(Source::Function { start, len }),
-        Variable::Nothing => {
-            if is_variant(table, index, owner, id) {
-                return clean(Source::Name(owner));
-            }
-            if in_types(table, index, owner) {
-                return fails(Diagnostic::UNRESOLVED);
-            }
-            plain(Kind::ERROR)
-        }
+    if let Some(variable) = lookup_var_ty(table, index, owner, id) {
+        return clean(variable);
     }
+    if is_variant(table, index, owner, id) {
+        return clean(Source::Name(owner));
+    }
+    if in_types(table, index, owner) {
+        return fails(DiagnosticKind::Unresolved);
+    }
+    plain(Kind::Error)
 }
 
 // A Named base's, by its name.
+#[tactic(auto, using(ty::proofs::Choice::chain), unfolding(crate::specs::Inside::MemberRule::named_ruled))]
 fn named_member(table: &[u8], index: &[u16], owner: u16, id: u16) -> OneReport
     requires { IndexedTable table.now index.now }
     ensures { result ≡ named_ruled table.now owner id }
@@ -208,70 +162,85 @@ fn named_member(table: &[u8], index: &[u16], owner: u16, id: u16) -> OneReport
 }
 
 // A base's, by its kind. What the elements of a List or an Array are is read off the object.
+#[tactic(auto, using(ty::proofs::Choice::chain), unfolding(crate::specs::Inside::MemberRule::kind_ruled))]
 fn kind_member(table: &[u8], index: &[u16], base: &[u8], id: u16) -> OneReport
     requires { IndexedTable table.now index.now }
     ensures { result ≡ kind_ruled table.now base.now id }
 {
-    let kind = ty::kind_of(base);
-    if kind == Kind::NAMED {
+    if is_kind(base, Kind::Named) {
         return named_member(table, index, ty::name_of(base), id);
     }
-    if kind == Kind::STRING {
+    if is_kind(base, Kind::String) {
         return string_member(id);
     }
-    if (kind == Kind::LIST) | (kind == Kind::ARRAY) {
+    if is_kind(base, Kind::List) | is_kind(base, Kind::Array) {
         return element_member(id);
     }
-    if kind == Kind::MAP {
+    if is_kind(base, Kind::Map) {
         return map_member(id);
     }
-    if kind == Kind::ANY {
-        return plain(Kind::ANY);
+    if is_kind(base, Kind::Any) {
+        return plain(Kind::Any);
     }
-    fails(Diagnostic::NO_MEMBERS)
+    fails(DiagnosticKind::NoMembers)
 }
 
 // The access check of a member that has a visibility.
-fn visibility_report(table: &[u8], index: &[u16], header: Header, owner: u16, id: u16) -> Diagnostic
+#[tactic(auto, unfolding(crate::specs::Inside::AccessRule::visibility_ruled))]
+fn visibility_report(
+    table: &[u8],
+    index: &[u16],
+    header: Header,
+    owner: u16,
+    id: u16,
+) -> Option<Diagnostic>
     requires { IndexedTable table.now index.now }
     ensures { result ≡ owner_ruled (symbols_of table.now) header owner id }
 {
     let visibility = visibility_of(table, index, owner, id);
     match visibility {
-        Visibility::Nothing => no_report(),
+        Visibility::Nothing => None,
         Visibility::Is(vis) => access_report(table, index, header, vis, owner),
     }
 }
 
-fn member_report(table: &[u8], index: &[u16], header: Header, base: &[u8], id: u16) -> Diagnostic
+#[tactic(auto, using(ty::proofs::Choice::chain), unfolding(crate::specs::Inside::AccessRule::base_ruled))]
+fn member_report(
+    table: &[u8],
+    index: &[u16],
+    header: Header,
+    base: &[u8],
+    id: u16,
+) -> Option<Diagnostic>
     requires { IndexedTable table.now index.now }
     ensures { result ≡ base_ruled (symbols_of table.now) header base.now id }
 {
-    if ty::kind_of(base) == Kind::NAMED {
+    if is_kind(base, Kind::Named) {
         return visibility_report(table, index, header, ty::name_of(base), id);
     }
-    no_report()
+    None
 }
 
 // Nullable, and not because it is unknown.
 fn is_nullable_object(t: &[u8]) -> bool
     ensures { result ≡ is_nullable_object t.now }
 {
-    let inside = ty::kind_of(ty::non_null(t));
-    ty::is_nullable(t) & (!((inside == Kind::ANY) | (inside == Kind::ERROR)))
+    let inside = ty::non_null(t);
+    ty::is_nullable(t) & !(is_kind(inside, Kind::Any) | is_kind(inside, Kind::Error))
 }
 
 // The type of a member of an object, and what is reported.
+#[tactic(auto, using(ty::proofs::Choice::chain), unfolding(crate::specs::Inside::MemberRule::member_ruled))]
 pub fn check_member(table: &[u8], index: &[u16], header: Header, id: u16, object: &[u8]) -> Ruled
     requires { IndexedTable table.now index.now }
     ensures { result ≡ member_ruled table.now header id object.now }
 {
     if is_nullable_object(object) {
-        return alone(fails(Diagnostic::NULLABLE_MEMBER));
+        return fails(DiagnosticKind::NullableMember).into();
     }
     let base = ty::non_null(object);
-    if ty::kind_of(base) == Kind::MODULE {
-        return alone(plain(Kind::ANY));
+    if is_kind(base, Kind::Module) {
+        return plain(Kind::Any).into();
     }
     let first = member_report(table, index, header, base, id);
     report_before(first, kind_member(table, index, base, id))

@@ -1,8 +1,8 @@
 -- What the code of the access check reports, as a struct: `Access` and `Member` say which reports that is, and the laws `MemberRuling` that it is the same.
-use Rattle.std.specs.Prelude.{ℕ}
-use Rattle.std.proofs.Math.Option.{Option, none, some}
-use Rattle.operators.specs.DiagnosticKind.{access_diag}
-use Rattle.operators.specs.Inside.RuledParts.{some_report, no_report}
+use Rattle.std.specs.Prelude.{ℕ, Option, None}
+use Rattle.std.proofs.Math.Option as maybe
+use Rattle.area.specs.declared.DiagnosticKind.TheVariants.{Access}
+use Rattle.operators.specs.Inside.RuledParts.{some_report}
 use Rattle.operators.specs.Operand.{is_kind}
 use Rattle.operators.specs.declared.ruled.Diagnostic.{Diagnostic}
 use Rattle.question.specs.declared.Header.{Header}
@@ -14,17 +14,17 @@ use Rattle.ty.specs.Kind.{named_kind}
 
 module _ (S : Symbols) (H : Header) where
   -- of a member of an owner, of a visibility
-  unfoldable pub access_ruled : ℕ → ℕ → Diagnostic
-  access_ruled vis owner = choose (blocked S H vis owner) (some_report access_diag vis) no_report
+  unfoldable pub access_ruled : ℕ → ℕ → Option Diagnostic
+  access_ruled vis owner = choose (blocked S H vis owner) (some_report Access vis) None
 
   -- of a member that has a visibility
-  unfoldable pub visibility_ruled : ℕ → Option ℕ → Diagnostic
-  visibility_ruled owner none = no_report
-  visibility_ruled owner (some vis) = access_ruled vis owner
+  unfoldable pub visibility_ruled : ℕ → maybe.Option ℕ → Option Diagnostic
+  visibility_ruled owner maybe.none = None
+  visibility_ruled owner (maybe.some vis) = access_ruled vis owner
 
-  abbrev pub owner_ruled : ℕ → ℕ → Diagnostic
+  abbrev pub owner_ruled : ℕ → ℕ → Option Diagnostic
   owner_ruled owner id = visibility_ruled owner (S.visibility_of owner id)
 
   -- of a member of a base
-  unfoldable pub base_ruled : Ty → ℕ → Diagnostic
-  base_ruled base id = choose (is_kind named_kind base) (owner_ruled (name_of base) id) no_report
+  unfoldable pub base_ruled : Ty → ℕ → Option Diagnostic
+  base_ruled base id = choose (is_kind named_kind base) (owner_ruled (name_of base) id) None
