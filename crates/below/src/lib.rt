@@ -1,5 +1,5 @@
 // The classes above a class (order 2).
-#![tactic(auto)]
+#![tactic(auto, using(crate::proofs::Belows::below_subclass))]
 
 ghost use Rattle.std.specs.Prelude.{◌≡◌};
 ghost use Rattle.index.specs.Inside.IndexedTable.{IndexedTable};
