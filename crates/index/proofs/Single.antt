@@ -19,11 +19,10 @@ use Rattle.index.specs.Inside.SearchKey.{Single}
 use Rattle.index.specs.Inside.SearchTree.{TreeMember}
 use Rattle.index.specs.Inside.Spot.{Open, TakenIs, FreeIs, SpotIs}
 use Rattle.index.specs.Inside.TreeWalk.{search_of}
-use Rattle.std.specs.Prelude.{None, Some}
+use Rattle.std.specs.Prelude.{Result, Ok, Err}
+use Rattle.std.specs.Result.{result_ok}
 use Rattle.index.specs.declared.index.Place.{Place}
 use Rattle.index.specs.declared.tree.Key.TheVariants.{Ids}
-use Rattle.index.specs.declared.tree.Spot.TheVariants.{Taken, Free}
-use Rattle.index.specs.declared.tree.Spot.{Spot}
 use Rattle.record.proofs.Accepts.{accepted_short}
 use Rattle.record.proofs.Records.{at_start}
 use Rattle.record.specs.Inside.Front.{front_of}
@@ -107,12 +106,13 @@ module _ (t x : List ℕ) (ok : IndexedTable t x) (k a b : ℕ) (one : Single k)
           go true z = absurd (not-met t x (length t) ok.indexed.tree (Ids k a b) one.low s free q (node z) z)
 
   -- so it is the first
-  module _ (r : Spot) (is : r ≡ search_of t x (Ids k a b)) where
+  module _ (r : Result Place ℕ) (is : r ≡ search_of t x (Ids k a b)) where
     spot : SpotIs t x (length t) (Ids k a b) r
     spot = search_spot t x (Ids k a b) (accepted_open t x ok) r is (length t) ok.indexed.tree
 
-    pub single_found : (p : Place) → r ≡ Taken p → Some p ≡ found_at (first_with t k a b)
-    single_found p e = ap found_at (sym (single_taken p (subst (SpotIs t x (length t) (Ids k a b)) e spot)))
-
-    pub single_nothing : (s : ℕ) → r ≡ Free s → None ≡ found_at (first_with t k a b)
-    single_nothing s e = ap found_at (sym (single_free s (subst (SpotIs t x (length t) (Ids k a b)) e spot)))
+    pub single_ok : result_ok r ≡ found_at (first_with t k a b)
+    single_ok = go r spot
+      where
+        go : (z : Result Place ℕ) → SpotIs t x (length t) (Ids k a b) z → result_ok z ≡ found_at (first_with t k a b)
+        go (Ok p) h = ap found_at (sym (single_taken p h))
+        go (Err s) h = ap found_at (sym (single_free s h))

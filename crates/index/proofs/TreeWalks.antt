@@ -14,7 +14,8 @@ use Rattle.index.specs.Inside.SearchTree.{TreeMember, Tree}
 use Rattle.index.specs.Inside.Spot.{Open, SpotIs}
 use Rattle.index.specs.Inside.TreeWalk.{tree_start, tree_step, TreeStepAsked, spot_of, spot_at, ends_here, search_from, search_of}
 use Rattle.index.specs.declared.tree.Key.{Key}
-use Rattle.index.specs.declared.tree.Spot.{Spot}
+use Rattle.index.specs.declared.index.Place.{Place}
+use Rattle.std.specs.Prelude.{Result}
 use Rattle.index.specs.declared.tree.TreeCursor.{TreeCursor}
 use Rattle.record.specs.Inside.FrontRecord.{front_record}
 use Rattle.ty.proofs.Choice.{choose_yes, choose_no}
@@ -104,7 +105,7 @@ module _ (t x : List ℕ) (k : Key) where
           go false q true h ih = told_taken (suc m) c s (eqb-false c.here 0 q) h
           go false q false h ih = let z = eqb-false c.here 0 q in subst (SpotIs t x e k) (sym (search_on m c (goes_on c z h))) (ih z h)
 
-    pub search_spot : (r : Spot) → r ≡ search_of t x k → (e : ℕ) → Tree t x e → SpotIs t x e k r
+    pub search_spot : (r : Result Place ℕ) → r ≡ search_of t x k → (e : ℕ) → Tree t x e → SpotIs t x e k r
     unfolding search_of
     search_spot r q e tree =
         subst (SpotIs t x e k) (sym q) (told e tree (suc (length t)) (tree_start x (tree_for t k)) cursor_start (omega (arith, cursor_start.few)))

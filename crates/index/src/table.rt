@@ -3,10 +3,12 @@ ghost use Rattle.std.specs.Prelude.{◌≡◌, List, ℕ};
 ghost use Rattle.index.specs.Inside.Found.{first_with, found_at};
 ghost use Rattle.index.specs.Inside.IndexedTable.{IndexedTable};
 ghost use Rattle.index.specs.Inside.SearchKey.{Single};
+ghost use Rattle.record.specs.RecordKind.{record_kind_number};
 ghost use Rattle.record.specs.Table.{records_of, name_count};
 
 use crate::index::{Place, entry_at};
 use crate::tree::seek;
+use record::front::RecordKind;
 use std::marker::Model;
 
 // A table that draws no number, and its index.
@@ -53,9 +55,9 @@ impl<'a> Table<'a> {
     }
 
     // The only record of a kind, from 2 on and not 4, with a key.
-    pub fn seek(&self, kind: u8, one: u16, two: u16) -> Option<Place>
-        requires { Single kind }
-        ensures { result ≡ found_at (first_with self.now kind one two) }
+    pub fn seek(&self, kind: RecordKind, one: u16, two: u16) -> Option<Place>
+        requires { Single (record_kind_number kind) }
+        ensures { result ≡ found_at (first_with self.now (record_kind_number kind) one two) }
     {
         seek(self.bytes, self.index, kind, one, two)
     }

@@ -4,6 +4,7 @@ ghost use Rattle.ty.specs.Choose.{choose};
 ghost use Rattle.index.specs.Inside.IndexedTable.{IndexedTable};
 ghost use Rattle.index.specs.Inside.Found.{first_with, found_at};
 ghost use Rattle.index.specs.Inside.Bucket.{hash_of, word_at, round_of, digest_of};
+ghost use Rattle.record.specs.RecordKind.{record_kind_number};
 ghost use Rattle.record.specs.Inside.Walk.{WholeRecordAt};
 ghost use Rattle.index.specs.Inside.SearchKey.{tree_for, digits_for, digit_for, key_matches, KeyIn, Single};
 ghost use Rattle.record.specs.Inside.FrontRecord.{front_record};
@@ -11,6 +12,7 @@ ghost use Rattle.index.specs.Inside.Spot.{Open};
 ghost use Rattle.index.specs.Inside.TreeWalk.{tree_start, spot_at, TreeStepAsked, tree_step, search_of};
 
 use crate::index::{Place, bucket_count, child_at, entry_at, has_ids, key_bucket, reduced};
+use record::front::RecordKind;
 use ty::{byte_at, same_bytes};
 
 // What a search looks for: the name of the record at a place, or a kind from 2 on with its ids.
@@ -18,13 +20,6 @@ use ty::{byte_at, same_bytes};
 pub enum Key {
     Name(Place),
     Ids { kind: u8, one: u16, two: u16 },
-}
-
-// Where a search ends: at a record with the key, or at an empty entry.
-#[derive(Clone, Copy)]
-pub enum Spot {
-    Taken(Place),
-    Free(usize),
 }
 
 // The 24 bytes of the name record at p.
@@ -185,13 +180,13 @@ impl TreeCursor {
     }
 
     // The record here, or the empty entry.
-    pub fn spot(self) -> Spot
+    pub fn spot(self) -> Result<Place, usize>
         ensures { result ≡ spot_at self }
     {
         if self.here == 0 {
-            return Spot::Free(self.entry);
+            return Err(self.entry);
         }
-        Spot::Taken(Place { at: self.here - 1 })
+        Ok(Place { at: self.here - 1 })
     }
 
     // One record down, as the key's next digit says.
@@ -210,8 +205,8 @@ impl TreeCursor {
     }
 }
 
-// Searches for a key in its tree b.
-pub fn search(t: &[u8], x: &[u16], key: Key, b: usize) -> Spot
+// Searches for a key in its tree b: a record with the key, or the empty entry where such a record would stand.
+pub fn search(t: &[u8], x: &[u16], key: Key, b: usize) -> Result<Place, usize>
     requires { Open t.now x.now × KeyIn t.now key × (b ≡ tree_for t.now key) }
     ensures { result ≡ search_of t.now x.now key }
 {
@@ -226,13 +221,14 @@ pub fn search(t: &[u8], x: &[u16], key: Key, b: usize) -> Spot
 }
 
 // The only record of a kind, from 2 on and not 4, with a key.
-pub fn seek(t: &[u8], x: &[u16], kind: u8, one: u16, two: u16) -> Option<Place>
-    requires { IndexedTable t.now x.now × Single kind }
-    ensures { result ≡ found_at (first_with t.now kind one two) }
+pub fn seek(t: &[u8], x: &[u16], kind: RecordKind, one: u16, two: u16) -> Option<Place>
+    requires { IndexedTable t.now x.now × Single (record_kind_number kind) }
+    ensures { result ≡ found_at (first_with t.now (record_kind_number kind) one two) }
 {
-    let key = Key::Ids { kind, one, two };
-    match search(t, x, key, tree_of(t, key)) {
-        Spot::Taken(p) => Some(p),
-        Spot::Free(_) => None,
-    }
+    let key = Key::Ids {
+        kind: kind.number(),
+        one,
+        two,
+    };
+    search(t, x, key, tree_of(t, key)).ok()
 }

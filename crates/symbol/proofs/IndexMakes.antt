@@ -25,6 +25,7 @@ use Rattle.index.specs.Inside.SearchKey.{tree_for, digit_for, key_at}
 use Rattle.symbol.specs.Inside.IndexMade.{end_from, entry_of, placed, made_from, index_made}
 use Rattle.index.specs.Inside.Spot.{FreeIs}
 use Rattle.index.specs.Inside.SearchTree.{place_of, Led}
+use Rattle.std.specs.Prelude.{Option, Some, None}
 use Rattle.symbol.specs.declared.checks.Entry.{Entry}
 use Rattle.symbol.specs.declared.checks.Entry.TheVariants as entry
 use Rattle.record.specs.Inside.Front.{Front}
@@ -73,12 +74,12 @@ module _ (t x : List ℕ) (c : Cursor) (h : Head) (st : Stands t c h) where
       let p = own_path t c (front_of (drop c.at t)) (record { at = st.at; some = st.some; head = refl }) in
       ends t x (key_at c (front_of (drop c.at t))) a i.free (tree_in (length t) (record_at t c)) (digit_of (record_at t c)) p.0 p.1
 
-  pub placed-joined : (e : Entry) → taken_of e ≡ false → PlaceIs t x c e → index_joined (length t) c.at e x ≡ placed (length t) c.at (record_at t c) x
+  pub placed-joined : (e : Option Entry) → taken_of e ≡ false → PlaceIs t x c e → index_joined (length t) c.at e x ≡ placed (length t) c.at (record_at t c) x
   unfolding placed
-  placed-joined entry.Taken k i = absurd (true≢false k)
-  placed-joined (entry.Tree a) k i =
+  placed-joined None k i = absurd (true≢false k)
+  placed-joined (Some (entry.Tree a)) k i =
       ap (λ (j : ℕ). set x j (suc c.at)) (in_tree a i) ∙ sym (choose_no _ _ _ (ne_eqb _ _ (λ z. i.other (sym own_kind ∙ z))))
-  placed-joined (entry.List b) k i =
+  placed-joined (Some (entry.List b)) k i =
       ap (λ (j : ℕ). entered (length t) j c.at x) i.bucket ∙ sym (choose_yes _ _ _ (eq-eqb _ _ (own_kind ∙ i.function)))
 
 -- ---- the pass: what is left to be done with x comes to the same as all of it with x₀

@@ -1,7 +1,7 @@
 -- A record that draws no number comes into the index.
 use Prim.Native.Nat.{ℕ, zero, suc, ◌*◌, ◌≤◌, ◌<◌}
 use lib.ListN.{length, get_or, drop}
-use mathlib.Core.Bool.{false, true≢false}
+use mathlib.Core.Bool.{Bool, not, true, false, true≢false}
 use mathlib.Core.List.{List}
 use mathlib.Core.Logic.{◌⊎◌, ⊎_elim}
 use mathlib.Core.Path.{◌≡◌, refl, sym, ap, ◌∙◌, subst}
@@ -19,20 +19,24 @@ use Rattle.symbol.specs.Inside.Join.{taken_of, EntryTreeIs, EntryListIs, PlaceIs
 use Rattle.index.specs.Inside.SearchKey.{tree_for, digit_for, key_at}
 use Rattle.index.specs.Inside.SearchTree.{place_of, Led, TreeMember, ways_at, Tree}
 use Rattle.record.specs.Inside.Walk.{Sits, Stands, record_at, behind}
+use Rattle.std.specs.Prelude.{Option, Some, None, is_some}
 use Rattle.symbol.specs.declared.checks.Entry.{Entry}
 use Rattle.symbol.specs.declared.checks.Entry.TheVariants as entry
 use Rattle.record.specs.Inside.Front.{Front}
 use Rattle.record.specs.declared.front.Head.{Head}
 use Rattle.record.specs.declared.walk.Cursor.{Cursor}
 
--- an entry of another sort
-pub not_taken : (e : Entry) → (e ≡ entry.Taken → ⊥) → taken_of e ≡ false
-not_taken entry.Taken n = absurd (n refl)
-not_taken (entry.Tree a) n = refl
-not_taken (entry.List b) n = refl
+-- none is for a key that an earlier record has
+pub none_taken : (e : Option Entry) (r : Bool) → is_some e ≡ not r → taken_of e ≡ r
+none_taken None true q = refl
+none_taken None false q = sym q
+none_taken (Some (entry.Tree a)) true q = sym q
+none_taken (Some (entry.Tree a)) false q = refl
+none_taken (Some (entry.List b)) true q = sym q
+none_taken (Some (entry.List b)) false q = refl
 
 -- what is asked, and what comes of it
-pub record Joining (t x : List ℕ) (p : ℕ) (e : Entry) : Type 0 where
+pub record Joining (t x : List ℕ) (p : ℕ) (e : Option Entry) : Type 0 where
   pub asked : length t ≤ 60000 → JoinAsked x (length t) p e
   pub entered : Entered t (index_joined (length t) p e x) (behind t p)
   pub lasts : Lasts t (index_joined (length t) p e x) (behind t p)
@@ -57,7 +61,7 @@ module _ (t x : List ℕ) (c : Cursor) (h : Head) (st : Stands t c h) (g : Enter
         go zero z = omega arith
         go (suc q) z = omega (arith, (l.here b q i.low z).0, some)
 
-    same : index_joined (length t) p (entry.List b) x ≡ entered (length t) (list_in (length t) (front_record (drop p t))) p x
+    same : index_joined (length t) p (Some (entry.List b)) x ≡ entered (length t) (list_in (length t) (front_record (drop p t))) p x
     same = ap (λ (z : ℕ). entered (length t) z p x) i.bucket
 
     roots : (k : ℕ) → k < 2 * bucket_count (length t) → get_or (entered (length t) (list_in (length t) (front_record (drop p t))) p x) (root_at k) 0 ≡ get_or x (root_at k) 0
@@ -74,7 +78,7 @@ module _ (t x : List ℕ) (c : Cursor) (h : Head) (st : Stands t c h) (g : Enter
         far : (s : ℕ) → Sits t s → s < p → (front_of (drop s t)).kind ≡ 4 → child_at (length t) q k ≡ next_at (length t) s → ⊥
         far s v f k₂ d = apart_of t s q (g.whole s v f) v n.begun.whole n.begun.sits (λ z. n.other (subst (λ (j : ℕ). (front_of (drop j t)).kind ≡ 4) z k₂)) k low (sym d)
 
-    list_joins : Joining t x p (entry.List b)
+    list_joins : Joining t x p (Some (entry.List b))
     list_joins =
         record {
           asked = λ m. record { long = l.long; short = m; bucket = i.low; place = some; last = last_low };
@@ -134,7 +138,7 @@ module _ (t x : List ℕ) (c : Cursor) (h : Head) (st : Stands t c h) (g : Enter
     ahead : a < next_at (length t) (behind t p)
     ahead = omega (arith, before)
 
-    tree_joins : Joining t x p (entry.Tree a)
+    tree_joins : Joining t x p (Some (entry.Tree a))
     tree_joins =
         record {
           asked = λ m.
@@ -147,7 +151,7 @@ module _ (t x : List ℕ) (c : Cursor) (h : Head) (st : Stands t c h) (g : Enter
           tree = tree-joined t x p r g.end some whole i.other a own-free.depth own-free.led own-free.place i.free.empty l.blank l.long;
         }
 
-  pub joining : (e : Entry) → taken_of e ≡ false → PlaceIs t x c e → Joining t x p e
-  joining entry.Taken k i = absurd (true≢false k)
-  joining (entry.Tree a) k i = tree_joins a i
-  joining (entry.List b) k i = list_joins b i
+  pub joining : (e : Option Entry) → taken_of e ≡ false → PlaceIs t x c e → Joining t x p e
+  joining None k i = absurd (true≢false k)
+  joining (Some (entry.Tree a)) k i = tree_joins a i
+  joining (Some (entry.List b)) k i = list_joins b i

@@ -174,7 +174,7 @@ module _ (t x late : List ℕ) (c : Cursor) (k n : ℕ) (looked : Bool) (g : Goi
 
         -- beside the others
         module _ (late' : List ℕ) (more : length late' ≡ length late) (looked' missing : Bool) (turned : looked' ≡ (looked || missing))
-            (made : late' ≡ late_looked t c.at missing looked late) (is : missing ≡ super_missing (before c.index (records_of t)) (record_at t c)) (e : Entry) (entry : EntryIs t x c e) where
+            (made : late' ≡ late_looked t c.at missing looked late) (is : missing ≡ super_missing (before c.index (records_of t)) (record_at t c)) (e : Option Entry) (entry : EntryIs t x c e) where
           look : Looked t late' c.at looked'
           look = look_after t c.at late (record { index = c.index; at = g.at }) missing looked g.ahead late' looked' turned made
 

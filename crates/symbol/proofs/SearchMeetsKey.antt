@@ -24,7 +24,8 @@ use Rattle.record.specs.Table.{Record, records_of}
 use Rattle.index.specs.Inside.Index.{list_count, list_in}
 use Rattle.index.specs.Inside.Bucket.{key_bucket}
 use Rattle.index.specs.Inside.SearchKey.{key_matches, KeyIn, key_at}
-use Rattle.index.specs.Inside.Spot.{Open, TakenIs, FreeIs}
+use Rattle.index.specs.Inside.Spot.{Open, TakenIs, FreeIs, SpotIs}
+use Rattle.std.specs.Prelude.{Result, Ok, Err, is_ok}
 use Rattle.index.specs.Inside.SearchTree.{TreeMember}
 use Rattle.record.specs.Inside.Walk.{CursorAt, Sits, record_at, before}
 use Rattle.record.specs.Inside.Front.{Front}
@@ -79,6 +80,10 @@ module _ (t x : List ℕ) (c : Cursor) (a : CursorAt t c) (g : Planted t x c.at)
 
     pub class-free : (s : ℕ) → FreeIs t x (Ids 2 id 0) s → false ≡ has_class id (before c.index (records_of t))
     class-free s h = sym (free-before (Ids 2 id 0) (omega arith) (λ r. is_class id (front_of r)) class_same class_other s h) ∙ any-class id (before c.index (records_of t))
+
+    pub class_met : (r : Result Place ℕ) → SpotIs t x c.at (Ids 2 id 0) r → is_ok r ≡ has_class id (before c.index (records_of t))
+    class_met (Ok q) h = class-taken q h
+    class_met (Err s) h = class-free s h
 
 -- ---- the key of a record
 module _ (t x : List ℕ) (c : Cursor) (h : Head) (p : Prepared t x c h) where

@@ -11,13 +11,14 @@ use Rattle.record.specs.Inside.HeadFault.{has_class, super_late, super_missing}
 use Rattle.record.specs.Table.{records_of}
 use Rattle.symbol.specs.Inside.Join.{KeyAsked}
 use Rattle.record.specs.Inside.Walk.{record_at, before}
+use Rattle.std.specs.Prelude.{Option, Some, None}
 use Rattle.symbol.specs.declared.checks.Entry.{Entry}
 use Rattle.record.specs.Inside.Front.{Front}
 use Rattle.record.specs.declared.front.Head.{Head}
 use Rattle.record.specs.declared.walk.Cursor.{Cursor}
 use Rattle.index.proofs.Aheads.{ahead_class}
 
-module _ (t late : List ℕ) (c : Cursor) (h : Head) (e : Entry) (missing : Bool) (k : KeyAsked t late c h e missing) (v : Bool) (q : v ≡ ltb c.at (get_or late h.two 0)) where
+module _ (t late : List ℕ) (c : Cursor) (h : Head) (e : Option Entry) (missing : Bool) (k : KeyAsked t late c h e missing) (v : Bool) (q : v ≡ ltb c.at (get_or late h.two 0)) where
   by_missing : (u : Bool) → missing ≡ u → (u && v) ≡ (u && has_class h.two (records_of (drop c.at t)))
   by_missing false z = refl
   by_missing true z =

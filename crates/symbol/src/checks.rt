@@ -18,7 +18,7 @@ ghost use Rattle.record.specs.Inside.Walk.{CursorAt, Stands, record_at, before};
 use index::ahead::{class_ahead, look_ahead};
 use index::index::{Place, SHORT_TABLE, entry_at, key_bucket, list_reduced, put};
 use index::list::enter;
-use index::tree::{Key, Spot, name_at, search, tree_of};
+use index::tree::{Key, name_at, search, tree_of};
 use record::front::{Head, RecordKind};
 use record::spelling::is_builtin;
 use record::walk::Cursor;
@@ -60,10 +60,8 @@ impl TableFault {
 }
 
 // What a record that draws no number does in the index: it fills an empty entry of its tree, or joins a list of functions.
-// Taken: an earlier record has its key.
 #[derive(Clone, Copy)]
 pub enum Entry {
-    Taken,
     Tree(usize),
     List(usize),
 }
@@ -89,10 +87,7 @@ fn class_before(t: &[u8], x: &[u16], me: Cursor, id: u16) -> bool
         one: id,
         two: 0,
     };
-    match search(t, x, key, tree_of(t, key)) {
-        Spot::Taken(_) => true,
-        Spot::Free(_) => false,
-    }
+    search(t, x, key, tree_of(t, key)).is_ok()
 }
 
 // The record h at me is a class whose superclass has no earlier record.
@@ -157,22 +152,22 @@ fn key_of(me: Cursor, h: Head) -> Key
     }
 }
 
-// What the record h at me does in the index of the records before it.
-fn entry_for(t: &[u8], x: &[u16], me: Cursor, h: Head) -> Entry
+// What the record h at me does in the index of the records before it; nothing where an earlier one has its key.
+fn entry_for(t: &[u8], x: &[u16], me: Cursor, h: Head) -> Option<Entry>
     requires { Prepared t.now x.now me h }
     ensures { EntryIs t.now x.now me result }
 {
     if h.kind == RecordKind::Function {
-        return Entry::List(list_reduced(key_bucket(4, h.one, h.two), t.len()));
+        return Some(Entry::List(list_reduced(key_bucket(4, h.one, h.two), t.len())));
     }
     let key = key_of(me, h);
     let b = tree_of(t, key);
     if entry_at(x, 1 + b) == 0 {
-        return Entry::Tree(1 + b);
+        return Some(Entry::Tree(1 + b));
     }
     match search(t, x, key, b) {
-        Spot::Taken(_) => Entry::Taken,
-        Spot::Free(at) => Entry::Tree(at),
+        Ok(_) => None,
+        Err(at) => Some(Entry::Tree(at)),
     }
 }
 
@@ -182,13 +177,13 @@ fn check_key(
     late: &[u16],
     me: Cursor,
     h: Head,
-    entry: Entry,
+    entry: Option<Entry>,
     missing: bool,
 ) -> Result<(), TableFault>
     requires { KeyAsked t.now late.now me h entry missing }
     ensures { checked_number result ≡ key_fault_at t.now me }
 {
-    if let Entry::Taken = entry {
+    if entry.is_none() {
         return Err(TableFault::KeyRepeated);
     }
     if missing & class_ahead(late, me.at, h.two) {
@@ -201,14 +196,14 @@ fn check_key(
 }
 
 // The record at p comes into the index of a table of n bytes.
-fn join(x: &mut [u16], n: usize, p: usize, entry: Entry)
+fn join(x: &mut [u16], n: usize, p: usize, entry: Option<Entry>)
     requires { JoinAsked x.old n p entry }
     ensures { x.new ≡ index_joined n p entry x.old }
 {
     match entry {
-        Entry::Taken => {}
-        Entry::Tree(at) => put(x, at, (p + 1) as u16),
-        Entry::List(b) => enter(x, n, b, p),
+        None => {}
+        Some(Entry::Tree(at)) => put(x, at, (p + 1) as u16),
+        Some(Entry::List(b)) => enter(x, n, b, p),
     }
 }
 

@@ -4,6 +4,7 @@ ghost use Rattle.index.specs.Inside.Found.{FoundIs};
 ghost use Rattle.index.specs.Inside.IndexedTable.{IndexedTable};
 ghost use Rattle.index.specs.Inside.SearchKey.{Single};
 ghost use Rattle.record.specs.Inside.Keyed.{records_with};
+ghost use Rattle.record.specs.RecordKind.{record_kind_number};
 ghost use Rattle.record.specs.Table.{records_of};
 ghost use Rattle.symbol.specs.Inside.LookupAnswer.{mask_of, visibility_of};
 ghost use Rattle.symbol.specs.Inside.Places.{first_place, function_places, field_part};
@@ -14,6 +15,7 @@ use crate::functions::end_of;
 use index::index::{Place, entry_at};
 use index::list::ListCursor;
 use index::tree::seek;
+use record::front::RecordKind;
 use ty::{NameId, byte_at, id_at};
 
 // A part of the table.
@@ -38,9 +40,9 @@ pub enum Visibility {
 }
 
 // The only record of a kind, from 2 on and not 4, with a key.
-fn place_of(t: &[u8], x: &[u16], kind: u8, one: u16, two: u16) -> Option<Place>
-    requires { IndexedTable t.now x.now × Single kind }
-    ensures { FoundIs t.now (records_with kind one two (records_of t.now)) kind one two result }
+fn place_of(t: &[u8], x: &[u16], kind: RecordKind, one: u16, two: u16) -> Option<Place>
+    requires { IndexedTable t.now x.now × Single (record_kind_number kind) }
+    ensures { FoundIs t.now (records_with (record_kind_number kind) one two (records_of t.now)) (record_kind_number kind) one two result }
 {
     seek(t, x, kind, one, two)
 }
@@ -50,7 +52,7 @@ pub fn superclass_of(t: &[u8], x: &[u16], class: u16) -> u16
     requires { IndexedTable t.now x.now }
     ensures { result ≡ (symbols_of t.now).super_of class }
 {
-    match place_of(t, x, 2, class, 0) {
+    match place_of(t, x, RecordKind::Class, class, 0) {
         Some(p) => id_at(t, p.at + 3),
         None => NameId::NONE,
     }
@@ -61,7 +63,7 @@ pub fn package_of(t: &[u8], x: &[u16], class: u16) -> u16
     requires { IndexedTable t.now x.now }
     ensures { result ≡ (symbols_of t.now).package_of class }
 {
-    match place_of(t, x, 2, class, 0) {
+    match place_of(t, x, RecordKind::Class, class, 0) {
         Some(p) => id_at(t, p.at + 5),
         None => NameId::NONE,
     }
@@ -72,7 +74,7 @@ pub fn in_types(t: &[u8], x: &[u16], class: u16) -> bool
     requires { IndexedTable t.now x.now }
     ensures { result ≡ (symbols_of t.now).in_types class }
 {
-    match place_of(t, x, 2, class, 0) {
+    match place_of(t, x, RecordKind::Class, class, 0) {
         Some(p) => byte_at(t, p.at + 7) == 1,
         None => false,
     }
@@ -83,7 +85,7 @@ pub fn operators_of(t: &[u8], x: &[u16], class: u16) -> Mask
     requires { IndexedTable t.now x.now }
     ensures { mask_of result ≡ (symbols_of t.now).operators_of class }
 {
-    match place_of(t, x, 3, class, 0) {
+    match place_of(t, x, RecordKind::Operators, class, 0) {
         Some(p) => Mask::Is(id_at(t, p.at + 3)),
         None => Mask::Nothing,
     }
@@ -94,7 +96,7 @@ pub fn field_of(t: &[u8], x: &[u16], owner: u16, name: u16) -> Part
     requires { IndexedTable t.now x.now }
     ensures { result ≡ field_part t.now owner name }
 {
-    match place_of(t, x, 5, owner, name) {
+    match place_of(t, x, RecordKind::Field, owner, name) {
         Some(p) => {
             let start = p.at + 5;
             Part::At {
@@ -111,7 +113,7 @@ pub fn visibility_of(t: &[u8], x: &[u16], owner: u16, name: u16) -> Visibility
     requires { IndexedTable t.now x.now }
     ensures { visibility_of result ≡ (symbols_of t.now).visibility_of owner name }
 {
-    match place_of(t, x, 6, owner, name) {
+    match place_of(t, x, RecordKind::Visibility, owner, name) {
         Some(p) => Visibility::Is(byte_at(t, p.at + 5)),
         None => Visibility::Nothing,
     }
@@ -122,7 +124,7 @@ pub fn is_suspend(t: &[u8], x: &[u16], owner: u16, name: u16) -> bool
     requires { IndexedTable t.now x.now }
     ensures { result ≡ (symbols_of t.now).is_suspend owner name }
 {
-    place_of(t, x, 7, owner, name).is_some()
+    place_of(t, x, RecordKind::Suspend, owner, name).is_some()
 }
 
 // Whether there is such an enum variant.
@@ -130,7 +132,7 @@ pub fn is_variant(t: &[u8], x: &[u16], owner: u16, name: u16) -> bool
     requires { IndexedTable t.now x.now }
     ensures { result ≡ (symbols_of t.now).is_variant owner name }
 {
-    place_of(t, x, 8, owner, name).is_some()
+    place_of(t, x, RecordKind::Variant, owner, name).is_some()
 }
 
 // A place in the list of functions of an owner, which may be NameId::NONE, and a name: at one of them, or at the list's end.

@@ -1,12 +1,10 @@
 -- Where a search in the index ends.
-use Rattle.std.specs.Prelude.{ℕ, suc, ◌≤◌, ◌<◌, true, false, ◌≡◌, List, length, get_or, drop}
+use Rattle.std.specs.Prelude.{Result, Ok, Err, ℕ, suc, ◌≤◌, ◌<◌, true, false, ◌≡◌, List, length, get_or, drop}
 use Rattle.index.specs.Inside.SearchKey.{tree_for, digit_for, key_matches}
 use Rattle.record.specs.Inside.FrontRecord.{front_record}
 use Rattle.index.specs.Inside.SearchTree.{place_of, Led, TreeMember, Tree}
 use Rattle.index.specs.declared.index.Place.{Place}
 use Rattle.index.specs.declared.tree.Key.{Key}
-use Rattle.index.specs.declared.tree.Spot.{Spot}
-use Rattle.index.specs.declared.tree.Spot.TheVariants.{Taken, Free}
 
 -- what a search asks: the trees of the records before some byte
 pub record Open (t x : List ℕ) : Type 0 where
@@ -33,6 +31,6 @@ pub record FreeIs (t x : List ℕ) (k : Key) (a : ℕ) : Type 0 where
   pub few : depth ≤ suc (length t)
   pub met : (i : ℕ) → i < depth → (q : ℕ) → get_or x (place_for t x k i) 0 ≡ suc q → key_matches t k (front_record (drop q t)) ≡ false
 
-abbrev pub SpotIs : List ℕ → List ℕ → ℕ → Key → Spot → Type 0
-SpotIs t x e k (Taken p) = TakenIs t e k p
-SpotIs t x e k (Free a) = FreeIs t x k a
+abbrev pub SpotIs : List ℕ → List ℕ → ℕ → Key → Result Place ℕ → Type 0
+SpotIs t x e k (Ok p) = TakenIs t e k p
+SpotIs t x e k (Err a) = FreeIs t x k a

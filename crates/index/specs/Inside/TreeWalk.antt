@@ -1,10 +1,9 @@
 -- The cursor down the tree of a key, and where the search for the key ends.
-use Rattle.std.specs.Prelude.{ℕ, zero, suc, ◌+◌, ◌-◌, ◌≤◌, ◌<◌, eqb, length, get_or, drop, Bool, ◌||◌, List, ◌≡◌}
+use Rattle.std.specs.Prelude.{Result, Ok, Err, ℕ, zero, suc, ◌+◌, ◌-◌, ◌≤◌, ◌<◌, eqb, length, get_or, drop, Bool, ◌||◌, List, ◌≡◌}
 use Rattle.index.specs.Inside.Index.{root_at, child_at}
 use Rattle.index.specs.Inside.SearchKey.{tree_for, digits_for, digit_for, key_matches, KeyIn}
 use Rattle.index.specs.declared.tree.Key.{Key}
-use Rattle.index.specs.declared.tree.Spot.TheVariants.{Taken, Free}
-use Rattle.index.specs.declared.tree.Spot.{Spot}
+use Rattle.index.specs.declared.index.Place.{Place}
 use Rattle.index.specs.declared.tree.TreeCursor.{TreeCursor}
 use Rattle.record.specs.Inside.FrontRecord.{front_record}
 use Rattle.ty.specs.Choose.{choose}
@@ -29,11 +28,11 @@ pub record TreeStepAsked (t : List ℕ) (k : Key) (c : TreeCursor) : Type 0 wher
   pub few : c.depth ≤ 60001
 
 -- what is here: a record, or an empty entry
-abbrev pub spot_of : ℕ → ℕ → Spot
-spot_of a zero = Free a
-spot_of a (suc p) = Taken (record { at = p })
+abbrev pub spot_of : ℕ → ℕ → Result Place ℕ
+spot_of a zero = Err a
+spot_of a (suc p) = Ok (record { at = p })
 
-abbrev pub spot_at : TreeCursor → Spot
+abbrev pub spot_at : TreeCursor → Result Place ℕ
 spot_at c = spot_of c.entry c.here
 
 -- the search ends here: the entry is empty, or its record has the key
@@ -41,10 +40,10 @@ unfoldable pub ends_here : List ℕ → Key → TreeCursor → Bool
 ends_here t k c = eqb c.here 0 || key_matches t k (front_record (drop (c.here - 1) t))
 
 -- where a search ends that goes on from a cursor, by n steps at most
-unfoldable pub search_from : ℕ → List ℕ → List ℕ → Key → TreeCursor → Spot
+unfoldable pub search_from : ℕ → List ℕ → List ℕ → Key → TreeCursor → Result Place ℕ
 search_from zero t x k c = spot_at c
 search_from (suc n) t x k c = choose (ends_here t k c) (spot_at c) (search_from n t x k (tree_step t x k c))
 
 -- where the search for a key ends: a later record is behind each, so that there are fewer steps than bytes
-unfoldable pub search_of : List ℕ → List ℕ → Key → Spot
+unfoldable pub search_of : List ℕ → List ℕ → Key → Result Place ℕ
 search_of t x k = search_from (suc (length t)) t x k (tree_start x (tree_for t k))

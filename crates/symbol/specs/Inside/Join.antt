@@ -1,5 +1,5 @@
 -- What the check of a table does with a record in the index.
-use Rattle.std.specs.Prelude.{ℕ, suc, ◌<◌, Bool, true, false, ◌≡◌, List, length, set, drop}
+use Rattle.std.specs.Prelude.{Option, Some, None, ℕ, suc, ◌<◌, Bool, true, false, ◌≡◌, List, length, set, drop}
 use Rattle.index.specs.Inside.Entered.{EntryAsked, entered}
 use Rattle.record.specs.Inside.Front.{front_of}
 use Rattle.record.specs.Inside.HeadFault.{has_key, super_missing}
@@ -15,10 +15,10 @@ use Rattle.symbol.specs.declared.checks.Entry.TheVariants as entry
 use Rattle.record.specs.declared.walk.Cursor.{Cursor}
 
 -- an earlier record has its key
-abbrev pub taken_of : Entry → Bool
-taken_of entry.Taken = true
-taken_of (entry.Tree a) = false
-taken_of (entry.List b) = false
+abbrev pub taken_of : Option Entry → Bool
+taken_of None = true
+taken_of (Some (entry.Tree a)) = false
+taken_of (Some (entry.List b)) = false
 
 -- the empty entry where a search for its key ends, or the bucket of its list
 pub record EntryTreeIs (t x : List ℕ) (c : Cursor) (a : ℕ) : Type 0 where
@@ -30,17 +30,17 @@ pub record EntryListIs (t : List ℕ) (c : Cursor) (b : ℕ) : Type 0 where
   pub bucket : b ≡ list_in (length t) (record_at t c)
   pub low : b < list_count (length t)
 
-abbrev pub PlaceIs : List ℕ → List ℕ → Cursor → Entry → Type 0
-PlaceIs t x c entry.Taken = Unit
-PlaceIs t x c (entry.Tree a) = EntryTreeIs t x c a
-PlaceIs t x c (entry.List b) = EntryListIs t c b
+abbrev pub PlaceIs : List ℕ → List ℕ → Cursor → Option Entry → Type 0
+PlaceIs t x c None = Unit
+PlaceIs t x c (Some (entry.Tree a)) = EntryTreeIs t x c a
+PlaceIs t x c (Some (entry.List b)) = EntryListIs t c b
 
-pub record EntryIs (t x : List ℕ) (c : Cursor) (e : Entry) : Type 0 where
+pub record EntryIs (t x : List ℕ) (c : Cursor) (e : Option Entry) : Type 0 where
   pub key : taken_of e ≡ has_key (record_at t c) (before c.index (records_of t))
   pub place : PlaceIs t x c e
 
 -- what its number beside the others asks: whether it is a class whose superclass has no earlier record, and then the classes ahead
-pub record KeyAsked (t late : List ℕ) (c : Cursor) (h : Head) (e : Entry) (missing : Bool) : Type 0 where
+pub record KeyAsked (t late : List ℕ) (c : Cursor) (h : Head) (e : Option Entry) (missing : Bool) : Type 0 where
   pub stands : Stands t c h
   pub key : taken_of e ≡ has_key (record_at t c) (before c.index (records_of t))
   pub is : missing ≡ super_missing (before c.index (records_of t)) (record_at t c)
@@ -48,17 +48,17 @@ pub record KeyAsked (t late : List ℕ) (c : Cursor) (h : Head) (e : Entry) (mis
   pub low : missing ≡ true → h.two < length late
 
 -- what comes of the index: the record at byte p stands in the empty entry, or behind the last function of its bucket
-abbrev pub index_joined : ℕ → ℕ → Entry → List ℕ → List ℕ
-index_joined n p entry.Taken x = x
-index_joined n p (entry.Tree a) x = set x a (suc p)
-index_joined n p (entry.List b) x = entered n b p x
+abbrev pub index_joined : ℕ → ℕ → Option Entry → List ℕ → List ℕ
+index_joined n p None x = x
+index_joined n p (Some (entry.Tree a)) x = set x a (suc p)
+index_joined n p (Some (entry.List b)) x = entered n b p x
 
 -- what that asks
 pub record TreeAsked (x : List ℕ) (p a : ℕ) : Type 0 where
   pub inside : a < length x
   pub place : p < 60000
 
-abbrev pub JoinAsked : List ℕ → ℕ → ℕ → Entry → Type 0
-JoinAsked x n p entry.Taken = Unit
-JoinAsked x n p (entry.Tree a) = TreeAsked x p a
-JoinAsked x n p (entry.List b) = EntryAsked x n b p
+abbrev pub JoinAsked : List ℕ → ℕ → ℕ → Option Entry → Type 0
+JoinAsked x n p None = Unit
+JoinAsked x n p (Some (entry.Tree a)) = TreeAsked x p a
+JoinAsked x n p (Some (entry.List b)) = EntryAsked x n b p

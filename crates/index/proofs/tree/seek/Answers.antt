@@ -1,13 +1,10 @@
-use Rattle.index.proofs.Single.{accepted_open, single_found, single_nothing}
+use mathlib.Core.Path.{◌∙◌}
+use Rattle.index.proofs.Single.{accepted_open, single_ok}
 use Rattle.index.proofs.tree.seek.Goals as goal
 
 pub search-requires : goal.search-requires
-search-requires c = (accepted_open c.args.t.now c.args.x.now c.requires.0, c.requires.1.low, c.tree_of.ensures.0)
+search-requires c = (accepted_open c.args.t.now c.args.x.now c.requires.0, rw c.number.ensures c.requires.1.low, c.tree_of.ensures.0)
 
-pub returns-in-Taken : goal.returns-in-Taken
-returns-in-Taken c = single_found c.args.t.now c.args.x.now c.requires.0 c.args.kind c.args.one c.args.two c.requires.1 c.search.result
-    c.search.ensures _ c.in-Taken.is
-
-pub returns-in-Free : goal.returns-in-Free
-returns-in-Free c = single_nothing c.args.t.now c.args.x.now c.requires.0 c.args.kind c.args.one c.args.two c.requires.1 c.search.result
-    c.search.ensures _ c.in-Free.is
+pub returns : goal.returns
+returns c = rw (← c.number.ensures) (c.ok.ensures.value
+    ∙ single_ok c.args.t.now c.args.x.now c.requires.0 c.number.result c.args.one c.args.two (rw c.number.ensures c.requires.1) c.search.result c.search.ensures)

@@ -1,32 +1,31 @@
 use mathlib.Core.Path.{refl, sym, ap, ◌∙◌}
-use Rattle.symbol.proofs.Joins.{not_taken}
-use Rattle.symbol.specs.Inside.Join.{taken_of}
+use Rattle.symbol.proofs.Joins.{none_taken}
 use Rattle.symbol.proofs.SuperLate.{late_is}
 use Rattle.record.proofs.RecordSizes.{stands_own}
 use Rattle.record.specs.Inside.HeadFault.{key_fault}
 use Rattle.ty.proofs.Choice.{chosen, passed}
 use Rattle.symbol.proofs.checks.check_key.Goals as goal
 
-pub returns-in-Taken : goal.returns-in-Taken
+pub returns-then-is_none : goal.returns-then-is_none
 unfolding key_fault
-returns-in-Taken c = chosen _ _ _ _ (sym c.requires.key ∙ ap taken_of c.in-Taken.is) refl
+returns-then-is_none c = chosen _ _ _ _ (sym c.requires.key ∙ none_taken c.args.entry _ c.is_none.ensures ∙ c.if-is_none.true) refl
 
 pub returns-then-missing-class_ahead : goal.returns-then-missing-class_ahead
 unfolding key_fault
-returns-then-missing-class_ahead c = passed _ _ _ _ (sym c.requires.key ∙ not_taken c.args.entry c.in_default.not-Taken)
+returns-then-missing-class_ahead c = passed _ _ _ _ (sym c.requires.key ∙ none_taken c.args.entry _ c.is_none.ensures ∙ c.if-is_none.false)
     (chosen _ _ _ _ (sym (late_is c.args.t.now c.args.late.now c.args.me c.args.h c.args.entry c.args.missing c.requires c.class_ahead.result
     c.class_ahead.ensures) ∙ c.if-missing-class_ahead.true) refl)
 
 pub returns-then-h : goal.returns-then-h
 unfolding key_fault
 returns-then-h c = let x = stands_own c.args.t.now c.args.me c.args.h c.requires.stands in
-    passed _ _ _ _ (sym c.requires.key ∙ not_taken c.args.entry c.in_default.not-Taken)
+    passed _ _ _ _ (sym c.requires.key ∙ none_taken c.args.entry _ c.is_none.ensures ∙ c.if-is_none.false)
     (passed _ _ _ _ (sym (late_is c.args.t.now c.args.late.now c.args.me c.args.h c.args.entry c.args.missing c.requires c.class_ahead.result
     c.class_ahead.ensures) ∙ c.if-missing-class_ahead.false) (rw (← x) (chosen _ _ _ _ c.if-h.true refl)))
 
 pub returns : goal.returns
 unfolding key_fault
 returns c = let x = stands_own c.args.t.now c.args.me c.args.h c.requires.stands in
-    passed _ _ _ _ (sym c.requires.key ∙ not_taken c.args.entry c.in_default.not-Taken)
+    passed _ _ _ _ (sym c.requires.key ∙ none_taken c.args.entry _ c.is_none.ensures ∙ c.if-is_none.false)
     (passed _ _ _ _ (sym (late_is c.args.t.now c.args.late.now c.args.me c.args.h c.args.entry c.args.missing c.requires c.class_ahead.result
     c.class_ahead.ensures) ∙ c.if-missing-class_ahead.false) (rw (← x) (passed _ _ _ _ c.if-h.false refl)))

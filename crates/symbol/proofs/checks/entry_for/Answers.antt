@@ -8,7 +8,8 @@ use Rattle.index.specs.Inside.SearchKey.{tree_for, KeyIn, key_at}
 use Rattle.index.specs.Inside.Spot.{SpotIs, FreeIs}
 use Rattle.index.specs.Inside.TreeWalk.{search_of}
 use Rattle.index.specs.declared.tree.Key.{Key}
-use Rattle.index.specs.declared.tree.Spot.{Spot}
+use Rattle.index.specs.declared.index.Place.{Place}
+use Rattle.std.specs.Prelude.{Result}
 use Rattle.record.specs.Inside.Front.{Front}
 use Rattle.symbol.proofs.SearchMeetsKey.{own_in, own_open, list_fresh, list-bucket, key_taken, key_free}
 use Rattle.record.specs.declared.front.RecordKind.TheVariants.{Function}
@@ -52,18 +53,18 @@ search-requires c = (
   c.tree_of-b.ensures.0,
 )
 
-pub returns-in-Taken : goal.returns-in-Taken
-returns-in-Taken c = record {
+pub returns-in-Ok : goal.returns-in-Ok
+returns-in-Ok c = record {
   key = key_taken c.args.t.now c.args.x.now c.args.me c.args.h c.requires (kinds_apart c.args.h.kind Function c.eq.result c.eq.ensures c.if-eq.false) _
-      (subst (λ (z : Spot). SpotIs c.args.t.now c.args.x.now c.args.me.at (key_at c.args.me (front_of_head c.args.h)) z) c.in-Taken.is
+      (subst (λ (z : Result Place ℕ). SpotIs c.args.t.now c.args.x.now c.args.me.at (key_at c.args.me (front_of_head c.args.h)) z) c.in-Ok.is
       (search_spot c.args.t.now c.args.x.now (key_at c.args.me (front_of_head c.args.h)) (own_open c.args.t.now c.args.x.now c.args.me c.args.h c.requires)
       c.search.result (c.search.ensures ∙ ap (search_of c.args.t.now c.args.x.now) c.key_of-key.ensures) c.args.me.at
       c.requires.planted.tree));
   place = tt;
 }
 
-pub returns-in-Free : goal.returns-in-Free
-returns-in-Free c = let f = subst (λ (z : Spot). SpotIs c.args.t.now c.args.x.now c.args.me.at (key_at c.args.me (front_of_head c.args.h)) z) c.in-Free.is
+pub returns-in-Err : goal.returns-in-Err
+returns-in-Err c = let f = subst (λ (z : Result Place ℕ). SpotIs c.args.t.now c.args.x.now c.args.me.at (key_at c.args.me (front_of_head c.args.h)) z) c.in-Err.is
     (search_spot c.args.t.now c.args.x.now (key_at c.args.me (front_of_head c.args.h)) (own_open c.args.t.now c.args.x.now c.args.me c.args.h c.requires)
     c.search.result (c.search.ensures ∙ ap (search_of c.args.t.now c.args.x.now) c.key_of-key.ensures) c.args.me.at c.requires.planted.tree)
     in
@@ -72,6 +73,6 @@ returns-in-Free c = let f = subst (λ (z : Spot). SpotIs c.args.t.now c.args.x.n
       place =
           record {
             other = λ z. (kinds_apart c.args.h.kind Function c.eq.result c.eq.ensures c.if-eq.false) (ap (λ (y : Front). y.kind) c.requires.stands.head ∙ z);
-            free = subst (λ (z : Front). FreeIs c.args.t.now c.args.x.now (key_at c.args.me z) c.in-Free.at) c.requires.stands.head f;
+            free = subst (λ (z : Front). FreeIs c.args.t.now c.args.x.now (key_at c.args.me z) c.in-Err.at) c.requires.stands.head f;
           };
     }
