@@ -3,11 +3,12 @@ use Prim.Native.Nat.{ℕ, suc, ◌+◌}
 use borrow.Author.Tests.{eq-eqb, ne_eqb}
 use lib.Dec.{eqb}
 use lib.ListN.{length, length-append, take, drop}
-use mathlib.Core.Bool.{Bool, true, false}
+use mathlib.Core.Bool.{Bool}
 use mathlib.Core.List.{List, [], ◌∷◌, ◌++◌, map}
 use mathlib.Core.Option.{Option, none, some}
 use mathlib.Core.Path.{◌≡◌, refl, sym, ap, ◌∙◌, subst}
 use native.Mathlib.Omega.{arith}
+use Rattle.std.specs.Prelude.{Option as Maybe, Some, None}
 use Rattle.area.proofs.Diagnostics.{put_all-append}
 use Rattle.area.specs.Diagnostic.{Diag, put_all}
 use Rattle.area.specs.Source.{type_from}
@@ -22,15 +23,16 @@ use Rattle.scoring.specs.Score.{score}
 use Rattle.overload.specs.Best.{Best}
 use Rattle.overload.specs.ByIndex.{all_unknown, mismatches}
 use Rattle.overload.specs.Inside.BestPlace.{BestPlace, nowhere, best_at, better_place, chosen_from, chosen_at, result_at, error_source, source_of}
-use Rattle.overload.specs.Inside.CallSource.{called_with, settled_source, settled_diags, called_places, call_source}
+use Rattle.overload.specs.Inside.CallSource.{called_with, best_source, best_diags, settled_source, settled_diags, called_places, call_source}
 use Rattle.overload.specs.Inside.Picked.{picked}
 use Rattle.overload.specs.Inside.Reported.{Reported}
 use Rattle.overload.specs.Inside.Tally.{highest_at, all_unknown_at, tally_of}
 use Rattle.overload.specs.Resolve.{none_fits, tie_report, settle, resolve_in, resolve}
 use Rattle.overload.specs.declared.calls.Called.{Called}
+use Rattle.overload.specs.declared.calls.Highest.{Highest}
 use Rattle.overload.specs.declared.calls.Tally.{Tally}
 use Rattle.operators.specs.Diag.{diag}
-use Rattle.operators.specs.DiagnosticKind.{argument_count_diag, no_match_diag}
+use Rattle.operators.specs.DiagnosticKind.{no_match_diag}
 use Rattle.index.specs.Inside.Found.{FunctionAt}
 use Rattle.record.specs.TableRefused.{table_fault}
 use Rattle.symbol.proofs.FunctionLists.{overloads_placed}
@@ -62,42 +64,43 @@ called_told s s' e w = (λ i. record { source = e i; count = w.count i }, w.buff
 pub read_source : (t : List ℕ) (p : Place) (f : Function) → f ≡ function_at t p → Part f.start f.len ≡ result_at t p
 read_source t p f e = ap (λ (g : Function). Part g.start g.len) e
 
--- ---- none fits
-module _ (own : Bool) (node n : ℕ) where
-  pub none_told : own ≡ true → diag argument_count_diag node n ∷ [] ≡ (none_fits own node n).diags
-  unfolding none_fits
-  none_told e = sym (choose_yes _ _ _ e)
-
-  pub none_silent : own ≡ false → [] ≡ (none_fits own node n).diags
-  unfolding none_fits
-  none_silent e = sym (choose_no _ _ _ e)
-
 -- ---- a tally is settled
 module _ (t : List ℕ) (p : Place) (node : ℕ) (xs : List Arg) (w : Tally) where
   -- something matches
-  module _ (m : w.highest.matched ≡ true) where
-    pub source_best : Part w.highest.start w.highest.len ≡ settled_source t p w
-    source_best = sym (choose_yes _ _ _ m)
+  module _ (h : Highest) (m : w.highest ≡ Some h) where
+    pub source_best : Part h.start h.len ≡ settled_source t p w
+    source_best = sym (ap (λ (z : Maybe Highest). best_source z (choose (eqb w.fitting 1) (result_at t p) error_source)) m)
 
-    pub diags_best : tie_report node w.highest.many ≡ settled_diags t p node xs w
-    diags_best = sym (choose_yes _ _ _ m)
+    pub diags_best : tie_report node h.many ≡ settled_diags t p node xs w
+    diags_best =
+        sym
+        (ap
+        (λ (z : Maybe Highest). best_diags node z (choose (eqb w.fitting 1) (mismatches (symbols_of t) (overload_at t p).params 1 xs) (diag no_match_diag node 0 ∷ []))) m)
 
-  module _ (m : w.highest.matched ≡ false) where
+  module _ (m : w.highest ≡ None) where
+    source_else : settled_source t p w ≡ choose (eqb w.fitting 1) (result_at t p) error_source
+    source_else = ap (λ (z : Maybe Highest). best_source z (choose (eqb w.fitting 1) (result_at t p) error_source)) m
+
+    diags_else : settled_diags t p node xs w ≡ choose (eqb w.fitting 1) (mismatches (symbols_of t) (overload_at t p).params 1 xs) (diag no_match_diag node 0 ∷ [])
+    diags_else =
+        ap
+        (λ (z : Maybe Highest). best_diags node z (choose (eqb w.fitting 1) (mismatches (symbols_of t) (overload_at t p).params 1 xs) (diag no_match_diag node 0 ∷ []))) m
+
     -- nothing matches, and one fits
     module _ (one : w.fitting ≡ 1) where
       pub source_one : result_at t p ≡ settled_source t p w
-      source_one = sym (choose_no _ _ _ m ∙ choose_yes _ _ _ (eq-eqb w.fitting 1 one))
+      source_one = sym (source_else ∙ choose_yes _ _ _ (eq-eqb w.fitting 1 one))
 
       pub diags_one : mismatches (symbols_of t) (overload_at t p).params 1 xs ≡ settled_diags t p node xs w
-      diags_one = sym (choose_no _ _ _ m ∙ choose_yes _ _ _ (eq-eqb w.fitting 1 one))
+      diags_one = sym (diags_else ∙ choose_yes _ _ _ (eq-eqb w.fitting 1 one))
 
     -- nothing matches, and several fit
     module _ (several : w.fitting ≡ 1 → ⊥) where
       pub source_none : error_source ≡ settled_source t p w
-      source_none = sym (choose_no _ _ _ m ∙ choose_no _ _ _ (ne_eqb w.fitting 1 several))
+      source_none = sym (source_else ∙ choose_no _ _ _ (ne_eqb w.fitting 1 several))
 
       pub diags_none : diag no_match_diag node 0 ∷ [] ≡ settled_diags t p node xs w
-      diags_none = sym (choose_no _ _ _ m ∙ choose_no _ _ _ (ne_eqb w.fitting 1 several))
+      diags_none = sym (diags_else ∙ choose_no _ _ _ (ne_eqb w.fitting 1 several))
 
 -- ---- what the definition says of the overloads at some places
 -- functions stand where the best one does
@@ -137,7 +140,7 @@ module _ (t : List ℕ) (node : ℕ) (xs : List Arg) (own : Bool) where
     settled_source_lem = go ps (chosen_at t (p ∷ ps) xs)
       where
         go : (qs : List Place) (b : BestPlace)
-            → choose (highest_at t b).matched (Part (highest_at t b).start (highest_at t b).len) (choose (eqb (suc (length qs)) 1) (result_at t p) error_source)
+            → best_source (highest_at t b) (choose (eqb (suc (length qs)) 1) (result_at t p) error_source)
             ≡ source_of t (p ∷ qs) b
         go qs (best_at s first m) = refl
         go [] nowhere = refl
@@ -149,7 +152,7 @@ module _ (t : List ℕ) (node : ℕ) (xs : List Arg) (own : Bool) where
       where
         go : (qs : List Place) (b : BestPlace)
             → all_unknown_at t (p ∷ qs) xs
-            ++ choose (highest_at t b).matched (tie_report node (highest_at t b).many) (choose (eqb (suc (length qs)) 1) (mismatches S (o p).params 1 xs) (diag no_match_diag node 0 ∷ []))
+            ++ best_diags node (highest_at t b) (choose (eqb (suc (length qs)) 1) (mismatches S (o p).params 1 xs) (diag no_match_diag node 0 ∷ []))
             ≡ (settle S node xs (o p) (map o qs) (best_of t b)).diags
         go qs (best_at s first m) = refl
         go [] nowhere = refl

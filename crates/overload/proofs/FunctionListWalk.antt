@@ -5,6 +5,7 @@ use mathlib.Core.Bool.{Bool, true, false}
 use mathlib.Core.List.{List, [], ◌∷◌, ◌++◌, map, append_assoc, append-nil}
 use mathlib.Core.Path.{◌≡◌, refl, sym, ap, ◌∙◌, subst}
 use native.Mathlib.Omega.{arith}
+use Rattle.std.specs.Prelude.{None}
 use Rattle.area.proofs.Diagnostics.{put_all_none, put_all-append}
 use Rattle.area.specs.Diagnostic.{Diag, count_limit, put_all}
 use Rattle.overload.proofs.OverloadFold.{picked_snoc, picked_few, own-here, own_later, unknown_append}
@@ -134,7 +135,7 @@ pub record Walking (t : List ℕ) (owner id : ℕ) (k : Bool) (n : ℕ) (xs : Li
 
 module _ (t : List ℕ) (owner id : ℕ) (k : Bool) (n : ℕ) (xs : List Arg) (b₀ : List ℕ) (n₀ : ℕ) where
   pub walk_start : (f : Found) → PlaceFound t (function_places t owner id) f
-      → Walking t owner id k n xs b₀ n₀ b₀ f (record { first = Nothing; fitting = 0; highest = record { matched = false; score = 0; many = 0; start = 0; len = 0 }; count = n₀ })
+      → Walking t owner id k n xs b₀ n₀ b₀ f (record { first = Nothing; fitting = 0; highest = None; count = n₀ })
   unfolding picked all_unknown
   walk_start f v =
       record {

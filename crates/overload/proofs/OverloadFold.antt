@@ -15,8 +15,11 @@ use Rattle.overload.specs.Best.{Best, nobody, best, better, chosen}
 use Rattle.overload.specs.ByIndex.{all_unknown}
 use Rattle.overload.specs.Inside.BestPlace.{BestPlace, nowhere, best_at, better_place, chosen_from}
 use Rattle.overload.specs.Inside.Picked.{taken, picked}
-use Rattle.overload.specs.Inside.Tally.{highest_at, highest_one, highest_more, higher_with, unknowns_at, all_unknown_at}
+use Rattle.overload.specs.Inside.Tally.{many_of, highest_at, highest_one, highest_more, higher_with, unknowns_at, all_unknown_at}
+use Rattle.scoring.specs.Inside.Scored.{score_of}
 use Rattle.scoring.specs.Score.{score}
+use Rattle.scoring.specs.declared.score.Score.{Score}
+use Rattle.std.specs.Prelude.{Option as Maybe, Some, None}
 use Rattle.overload.specs.declared.calls.Highest.{Highest}
 use Rattle.index.specs.declared.index.Place.{Place}
 use Rattle.symbol.specs.Inside.FunctionFields.{function_at}
@@ -27,35 +30,31 @@ use Rattle.ty.proofs.Choice.{by_choice, choose_yes, choose_no}
 use Rattle.ty.specs.Choose.{choose}
 
 -- ---- the highest score, by the tests of the code
-module _ (start len : ℕ) (h : Highest) where
-  pub higher_none : (s : Option ℕ) → s ≡ none → h ≡ higher_with start len s h
+module _ (start len : ℕ) (h : Maybe Highest) (s : Maybe Score) where
+  pub higher_none : s ≡ None → h ≡ higher_with start len (score_of s) h
   unfolding higher_with
-  higher_none s e = sym (ap (λ (z : Option ℕ). higher_with start len z h) e)
+  higher_none e = sym (ap (λ (z : Maybe Score). higher_with start len (score_of z) h) e)
 
-  module _ (s : Option ℕ) (p : ℕ) (e : s ≡ some p) where
-    pub higher_at_first : not h.matched ≡ true → highest_one start len p ≡ higher_with start len s h
+  module _ (p : Score) (e : s ≡ Some p) where
+    pub higher_first : h ≡ None → Some (highest_one start len p.points) ≡ higher_with start len (score_of s) h
     unfolding higher_with
-    higher_at_first m = sym (ap (λ (z : Option ℕ). higher_with start len z h) e ∙ choose_yes _ _ _ m)
+    higher_first m = sym (λ i. higher_with start len (score_of (e i)) (m i))
 
-    module _ (m : not h.matched ≡ false) where
-      pub higher_more : h.score < p → highest_one start len p ≡ higher_with start len s h
+    module _ (b : Highest) (m : h ≡ Some b) where
+      higher_both : higher_with start len (score_of s) h ≡ choose (ltb b.score p.points) (Some (highest_one start len p.points))
+          (choose (eqb b.score p.points) (Some (highest_more b)) (Some b))
       unfolding higher_with
-      higher_more g = sym (ap (λ (z : Option ℕ). higher_with start len z h) e ∙ choose_no _ _ _ m ∙ choose_yes _ _ _ (lt-ltb h.score p g))
+      higher_both = λ i. higher_with start len (score_of (e i)) (m i)
 
-      module _ (g : p ≤ h.score) where
-        pub higher_same : h.score ≡ p → highest_more h ≡ higher_with start len s h
-        unfolding higher_with
-        higher_same d =
-            sym
-            (ap (λ (z : Option ℕ). higher_with start len z h) e ∙ choose_no _ _ _ m ∙ choose_no _ _ _ (le-ltb h.score p g)
-            ∙ choose_yes _ _ _ (eq-eqb h.score p d))
+      pub higher_more : b.score < p.points → Some (highest_one start len p.points) ≡ higher_with start len (score_of s) h
+      higher_more g = sym (higher_both ∙ choose_yes _ _ _ (lt-ltb _ _ g))
 
-        pub higher_less : (h.score ≡ p → ⊥) → h ≡ higher_with start len s h
-        unfolding higher_with
-        higher_less d =
-            sym
-            (ap (λ (z : Option ℕ). higher_with start len z h) e ∙ choose_no _ _ _ m ∙ choose_no _ _ _ (le-ltb h.score p g)
-            ∙ choose_no _ _ _ (ne_eqb h.score p d))
+      module _ (g : p.points ≤ b.score) where
+        pub higher_same : b.score ≡ p.points → Some (highest_more b) ≡ higher_with start len (score_of s) h
+        higher_same d = sym (higher_both ∙ choose_no _ _ _ (le-ltb _ _ g) ∙ choose_yes _ _ _ (eq-eqb _ _ d))
+
+        pub higher_less : (b.score ≡ p.points → ⊥) → h ≡ higher_with start len (score_of s) h
+        higher_less d = m ∙ sym (higher_both ∙ choose_no _ _ _ (le-ltb _ _ g) ∙ choose_no _ _ _ (ne_eqb _ _ d))
 
 -- ---- one more overload at the end
 module _ (t : List ℕ) where
@@ -67,7 +66,10 @@ module _ (t : List ℕ) where
   higher_best nowhere p (some s) = refl
   higher_best (best_at h first n) p (some s) = go (ltb h s) (eqb h s)
     where
-      go : (l e : Bool) → choose l (highest_one (function_at t p).start (function_at t p).len s) (choose e (highest_more (highest_at t (best_at h first n))) (highest_at t (best_at h first n)))
+      r : Highest
+      r = record { score = h; many = n; start = (function_at t first).start; len = (function_at t first).len }
+
+      go : (l e : Bool) → choose l (Some (highest_one (function_at t p).start (function_at t p).len s)) (choose e (Some (highest_more r)) (Some r))
           ≡ highest_at t (choose l (best_at s p 1) (choose e (best_at h first (suc n)) (best_at h first n)))
       go true e = refl
       go false true = let k : n + 1 ≡ suc n = omega arith in ap (λ (m : ℕ). highest_at t (best_at h first m)) k
@@ -91,15 +93,15 @@ module _ (t : List ℕ) where
   unknown_one_lem p xs = append-nil (unknowns_at t p xs)
 
   -- as many as there are places
-  better_few : (b : BestPlace) (p : Place) (s : Option ℕ) → (highest_at t (better_place b p s)).many ≤ (highest_at t b).many + 1
+  better_few : (b : BestPlace) (p : Place) (s : Option ℕ) → many_of (highest_at t (better_place b p s)) ≤ many_of (highest_at t b) + 1
   unfolding highest_at better_place
   better_few b p none = omega arith
   better_few nowhere p (some s) = omega arith
   better_few (best_at h first n) p (some s) =
-      by_choice (λ (b : BestPlace). (highest_at t b).many ≤ n + 1) _ (λ _. omega arith) λ _.
-      by_choice (λ (b : BestPlace). (highest_at t b).many ≤ n + 1) _ (λ _. omega arith) (λ _. omega arith)
+      by_choice (λ (b : BestPlace). many_of (highest_at t b) ≤ n + 1) _ (λ _. omega arith) λ _.
+      by_choice (λ (b : BestPlace). many_of (highest_at t b) ≤ n + 1) _ (λ _. omega arith) (λ _. omega arith)
 
-  pub chosen_few : (b : BestPlace) (ps : List Place) (xs : List Arg) → (highest_at t (chosen_from t b ps xs)).many ≤ (highest_at t b).many + length ps
+  pub chosen_few : (b : BestPlace) (ps : List Place) (xs : List Arg) → many_of (highest_at t (chosen_from t b ps xs)) ≤ many_of (highest_at t b) + length ps
   unfolding chosen_from
   chosen_few b [] xs = omega arith
   chosen_few b (p ∷ ps) xs =

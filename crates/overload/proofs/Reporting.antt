@@ -1,6 +1,9 @@
 -- Diagnostics of single arguments, reported one after the other.
-use Prim.Native.Nat.{ℕ, suc, ◌+◌, ◌*◌, ◌≤◌, ◌<◌}
+use Prim.Native.Nat.{ℕ, suc, ◌+◌, ◌*◌, ◌≤◌, ◌<◌, min}
+use borrow.Author.Tests.{leb-true, leb-false}
+use lib.Dec.{leb}
 use lib.ListN.{get_or, length, length-append}
+use mathlib.Core.Bool.{Bool, true, false}
 use mathlib.Core.List.{List, [], ◌∷◌, ◌++◌}
 use mathlib.Core.Option.{Option, none, some}
 use mathlib.Core.Path.{◌≡◌, refl, sym, ap, ◌∙◌, subst}
@@ -165,18 +168,22 @@ module _ (S : Symbols) where
                 v w.then;
           }
 
-      pub index_past : p.count ≤ i → Reported b₀ n₀ b n (mismatches S (params_in t p) 1 (args_in a l x))
-      index_past h =
-          w.then b n
-          (reported_as
-          (sym
-          (ap (λ (ps : List Param). mismatches S ps (i + 1) (args_left a l x i x.count)) (params_none t p i p.count h)
-          ∙ mismatches-no_params (i + 1) (args_left a l x i x.count))) (reported_none b n))
-
-      pub index_done : x.count ≤ i → Reported b₀ n₀ b n (mismatches S (params_in t p) 1 (args_in a l x))
+      pub index_done : min x.count p.count ≤ i → Reported b₀ n₀ b n (mismatches S (params_in t p) 1 (args_in a l x))
       unfolding mismatches
-      index_done h =
-          w.then b n
-          (reported_as
-          (sym (ap (λ (xs : List Arg). mismatches S (params_left t p i p.count) (i + 1) xs) (args_none a l x i x.count h)))
-          (reported_none b n))
+      index_done h = go (leb x.count i) refl
+        where
+          go : (c : Bool) → leb x.count i ≡ c → Reported b₀ n₀ b n (mismatches S (params_in t p) 1 (args_in a l x))
+          go true e =
+              let k : x.count ≤ i = leb-true x.count i e in
+              w.then b n
+              (reported_as
+              (sym (ap (λ (xs : List Arg). mismatches S (params_left t p i p.count) (i + 1) xs) (args_none a l x i x.count k)))
+              (reported_none b n))
+          go false e =
+              let k : i < x.count = leb-false x.count i e in
+              let m : p.count ≤ i = omega arith in
+              w.then b n
+              (reported_as
+              (sym
+              (ap (λ (ps : List Param). mismatches S ps (i + 1) (args_left a l x i x.count)) (params_none t p i p.count m)
+              ∙ mismatches-no_params (i + 1) (args_left a l x i x.count))) (reported_none b n))

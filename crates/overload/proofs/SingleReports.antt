@@ -1,70 +1,76 @@
 -- What is reported at one argument or one call, by the tests before it.
-use Prim.Native.Nat.{ℕ, ◌≤◌, ◌<◌}
-use borrow.Author.Tests.{lt-ltb, le-ltb}
+use Prim.Native.Nat.{ℕ, ◌≤◌}
+use borrow.Author.Tests.{eq-eqb}
+use lib.Dec.{eqb, ltb}
 use lib.ListN.{length}
-use mathlib.Core.Bool.{Bool, true, false, not, ◌||◌}
+use mathlib.Core.Bool.{Bool, true, false, true≢false, false≢true, not}
 use mathlib.Core.List.{List, [], ◌∷◌, ◌++◌}
-use mathlib.Core.Option.{Option}
+use mathlib.Core.Option.{Option, none, some}
 use mathlib.Core.Path.{◌≡◌, refl, sym, ap, ◌∙◌}
 use native.Mathlib.Omega.{arith}
 use Rattle.area.specs.Diagnostic.{Diag}
-use Rattle.scoring.proofs.ParamSearch.{NamedPlaceIs}
-use Rattle.scoring.proofs.Scores.{name_none, name_some, param_there, param_missing}
+use Rattle.std.specs.Prelude.{Option as Maybe, Some, None, is_some}
+use Rattle.scoring.proofs.ParamSearch.{param_named_is}
+use Rattle.scoring.proofs.Scores.{name_none, name_some}
 use Rattle.scoring.specs.Arg.{Arg}
 use Rattle.overload.specs.Before.{suspend_allowed, suspend_report}
 use Rattle.overload.specs.ByIndex.{absent, unknown_one, passes_by_index, mismatch_one}
 use Rattle.scoring.specs.Inside.Args.{name_in}
-use Rattle.scoring.specs.Inside.Params.{params_in, param_in}
-use Rattle.overload.specs.Resolve.{tie_report}
+use Rattle.scoring.specs.Inside.Params.{params_in, param_in, named_place}
+use Rattle.overload.specs.Inside.Reported.{diag_if, missing, unknown}
+use Rattle.overload.specs.Resolve.{none_fits, tie_report}
+use Rattle.scoring.specs.Score.{param_named}
 use Rattle.question.specs.declared.Header.{Header}
 use Rattle.rules.specs.Access.{blocked, access_report}
 use Rattle.operators.specs.Diag.{diag, reported_at as at}
-use Rattle.operators.specs.DiagnosticKind.{suspend_diag, unknown_name_diag, mismatch_diag, tie_diag, access_diag}
-use Rattle.operators.specs.Out.{Report, unless}
+use Rattle.operators.specs.DiagnosticKind.{suspend_diag, unknown_name_diag, mismatch_diag, argument_count_diag, tie_diag, access_diag}
+use Rattle.operators.specs.Out.{Report, report, unless}
 use Rattle.symbol.specs.Symbols.{Param, Symbols}
 use Rattle.symbol.specs.declared.functions.Params.{Params}
-use Rattle.ty.proofs.Choice.{by_choice, choose_yes, choose_no}
+use Rattle.ty.proofs.Choice.{by_choice}
+use Rattle.ty.specs.Choose.{choose}
 use Rattle.ty.specs.Name.{no_id}
 
 -- ---- an argument's name
-module _ (t : List ℕ) (p : Params) (id i n : ℕ) where
-  pub unknown_unnamed : id ≡ no_id → [] ≡ unknown_one (name_in id) (params_in t p) i n
-  unfolding unknown_one
-  unknown_unnamed e = sym (ap (λ (m : Option ℕ). unknown_one m (params_in t p) i n) (name_none id e))
+module _ (t : List ℕ) (p : Params) (id : ℕ) where
+  pub unknown_unnamed : id ≡ no_id → not (eqb id no_id) ≡ unknown (name_in id) (params_in t p)
+  unfolding unknown
+  unknown_unnamed e = ap not (eq-eqb id no_id e) ∙ sym (ap (λ (m : Option ℕ). unknown m (params_in t p)) (name_none id e))
 
-  module _ (named : id ≡ no_id → ⊥) (j : ℕ) (w : NamedPlaceIs t p id j) where
-    unknown_place : unknown_one (name_in id) (params_in t p) i n ≡ absent (param_in t p j) i n
-    unfolding unknown_one
-    unknown_place =
-        ap (λ (m : Option ℕ). unknown_one m (params_in t p) i n) (name_some id named) ∙ ap (λ (o : Option Param). absent o i n) w.param
+  pub unknown_named : (id ≡ no_id → ⊥) → (r : Maybe ℕ) → r ≡ named_place t p id → (b : Bool) → is_some r ≡ not b → b ≡ unknown (name_in id) (params_in t p)
+  unfolding unknown missing
+  unknown_named h r e b d =
+      go b r d ∙ ap (λ (o : Option Param). missing o) (sym (param_named_is t p id r e)) ∙ ap (λ (m : Option ℕ). unknown m (params_in t p)) (sym (name_some id h))
+    where
+      go : (b : Bool) (r : Maybe ℕ) → is_some r ≡ not b → b ≡ missing (param_in t p r)
+      go true None d = refl
+      go false None d = absurd (false≢true d)
+      go true (Some j) d = absurd (true≢false d)
+      go false (Some j) d = refl
 
-    pub unknown_known : j < p.count → [] ≡ unknown_one (name_in id) (params_in t p) i n
-    unfolding absent
-    unknown_known h = sym (unknown_place ∙ ap (λ (o : Option Param). absent o i n) (param_there t p j h))
-
-    pub unknown_missing : p.count ≤ j → diag unknown_name_diag n i ∷ [] ≡ unknown_one (name_in id) (params_in t p) i n
-    unfolding absent
-    unknown_missing h = sym (unknown_place ∙ ap (λ (o : Option Param). absent o i n) (param_missing t p j h))
+pub unknown_told : (b : Bool) (m : Option ℕ) (ps : List Param) (i n : ℕ) → b ≡ unknown m ps → diag_if b unknown_name_diag n i ≡ unknown_one m ps i n
+unfolding diag_if unknown missing unknown_one absent choose
+unknown_told b none ps i n e = ap (λ (z : Bool). diag_if z unknown_name_diag n i) e
+unknown_told b (some id) ps i n e = ap (λ (z : Bool). diag_if z unknown_name_diag n i) e ∙ go (param_named id ps)
+  where
+    go : (o : Option Param) → diag_if (missing o) unknown_name_diag n i ≡ absent o i n
+    go none = refl
+    go (some p) = refl
 
 -- ---- the check by index
-module _ (S : Symbols) (p : Param) (i : ℕ) (a : Arg) (b : Bool)
-    (e : b ≡ passes_by_index S p.ty a.ty p.vararg) where
-  pub mismatch_pass : b ≡ true → [] ≡ mismatch_one S p i a
-  unfolding mismatch_one
-  mismatch_pass h = sym (choose_yes _ _ _ (sym e ∙ h))
+pub mismatch_told : (S : Symbols) (p : Param) (i : ℕ) (a : Arg) (b : Bool) → b ≡ passes_by_index S p.ty a.ty p.vararg → diag_if (not b) mismatch_diag a.node i ≡ mismatch_one S p i a
+unfolding diag_if mismatch_one choose
+mismatch_told S p i a true e = ap (λ (z : Bool). choose z [] (diag mismatch_diag a.node i ∷ [])) e
+mismatch_told S p i a false e = ap (λ (z : Bool). choose z [] (diag mismatch_diag a.node i ∷ [])) e
 
-  pub mismatch_fail : b ≡ false → diag mismatch_diag a.node i ∷ [] ≡ mismatch_one S p i a
-  unfolding mismatch_one
-  mismatch_fail h = sym (choose_no _ _ _ (sym e ∙ h))
+-- ---- a call
+pub none_told : (own : Bool) (node n : ℕ) → diag_if own argument_count_diag node n ≡ (none_fits own node n).diags
+unfolding diag_if none_fits
+none_told own node n = refl
 
--- ---- a tie
-pub tie_several : (n many : ℕ) → 1 < many → diag tie_diag n many ∷ [] ≡ tie_report n many
-unfolding tie_report
-tie_several n many h = sym (choose_yes _ _ _ (lt-ltb 1 many h))
-
-pub tie-not : (n many : ℕ) → many ≤ 1 → [] ≡ tie_report n many
-unfolding tie_report
-tie-not n many h = sym (choose_no _ _ _ (le-ltb 1 many h))
+pub tie_told : (node many : ℕ) → diag_if (ltb 1 many) tie_diag node many ≡ tie_report node many
+unfolding diag_if tie_report
+tie_told node many = refl
 
 -- ---- before the arguments
 pub at_append : (n : ℕ) (rs ss : List Report) → at n (rs ++ ss) ≡ at n rs ++ at n ss
@@ -72,28 +78,26 @@ unfolding at
 at_append n [] ss = refl
 at_append n (r ∷ rs) ss = ap (λ (ds : List Diag). diag r.kind n r.number ∷ ds) (at_append n rs ss)
 
-module _ (S : Symbols) (H : Header) (owner id n : ℕ) (b : Bool) (e : b ≡ S.is_suspend owner id) where
-  pub suspend_fine : (H.suspend || not b) ≡ true → [] ≡ at n (suspend_report S H owner id)
-  unfolding at suspend_report unless
-  suspend_fine h =
-      let f : suspend_allowed S H owner id ≡ true = sym (ap (λ (z : Bool). H.suspend || not z) e) ∙ h in
-      sym (ap (λ (rs : List Report). at n rs) (choose_yes _ _ _ f))
+pub suspend_told : (S : Symbols) (H : Header) (owner id n : ℕ) → diag_if (not (suspend_allowed S H owner id)) suspend_diag n 0 ≡ at n (suspend_report S H owner id)
+unfolding diag_if at suspend_report unless choose
+suspend_told S H owner id n = go (suspend_allowed S H owner id)
+  where
+    go : (b : Bool) → diag_if (not b) suspend_diag n 0 ≡ at n (choose b [] (report suspend_diag 0 ∷ []))
+    go true = refl
+    go false = refl
 
-  pub suspend_told : (H.suspend || not b) ≡ false → diag suspend_diag n 0 ∷ [] ≡ at n (suspend_report S H owner id)
-  unfolding at suspend_report unless
-  suspend_told h =
-      let f : suspend_allowed S H owner id ≡ false = sym (ap (λ (z : Bool). H.suspend || not z) e) ∙ h in
-      sym (ap (λ (rs : List Report). at n rs) (choose_no _ _ _ f))
-
-module _ (S : Symbols) (H : Header) (vis owner n : ℕ) (b : Bool) (e : b ≡ blocked S H vis owner) where
-  pub access_told : b ≡ true → diag access_diag n vis ∷ [] ≡ at n (access_report S H vis owner)
-  unfolding at access_report
-  access_told h = sym (ap (λ (rs : List Report). at n rs) (choose_yes _ _ _ (sym e ∙ h)))
-
-  pub access_fine : b ≡ false → [] ≡ at n (access_report S H vis owner)
-  unfolding at access_report
-  access_fine h = sym (ap (λ (rs : List Report). at n rs) (choose_no _ _ _ (sym e ∙ h)))
+pub access_told : (S : Symbols) (H : Header) (vis owner n : ℕ) → diag_if (blocked S H vis owner) access_diag n vis ≡ at n (access_report S H vis owner)
+unfolding diag_if at access_report choose
+access_told S H vis owner n = go (blocked S H vis owner)
+  where
+    go : (b : Bool) → diag_if b access_diag n vis ≡ at n (choose b (report access_diag vis ∷ []) [])
+    go true = refl
+    go false = refl
 
 pub access_few : (S : Symbols) (H : Header) (vis owner n : ℕ) → length (at n (access_report S H vis owner)) ≤ 1
 unfolding at access_report
 access_few S H vis owner n = by_choice (λ (rs : List Report). length (at n rs) ≤ 1) _ (λ _. omega arith) (λ _. omega arith)
+
+pub diag_few : (b : Bool) (k n i : ℕ) → length (diag_if b k n i) ≤ 1
+unfolding diag_if
+diag_few b k n i = by_choice (λ (ds : List Diag). length ds ≤ 1) _ (λ _. omega arith) (λ _. omega arith)

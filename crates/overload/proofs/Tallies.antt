@@ -1,10 +1,10 @@
 -- What the walk over a function list keeps, one function at a time.
 use Prim.Native.Nat.{ℕ, ◌+◌, ◌≤◌}
 use lib.ListN.{length, length-append, length-map}
-use mathlib.Core.Bool.{false}
 use mathlib.Core.List.{List, [], ◌∷◌, ◌++◌, map, append_assoc, append-nil}
 use mathlib.Core.Option.{Option}
 use mathlib.Core.Path.{◌≡◌, refl, sym, ap, ◌∙◌}
+use Rattle.std.specs.Prelude.{Option as Maybe, None}
 use native.Mathlib.Nat.{add-zero}
 use native.Mathlib.Omega.{arith}
 use Rattle.area.proofs.Diagnostics.{put_all_none}
@@ -16,7 +16,7 @@ use Rattle.overload.specs.ByIndex.{unknowns, all_unknown}
 use Rattle.overload.specs.Inside.BestPlace.{BestPlace, nowhere, chosen_from, chosen_at}
 use Rattle.scoring.specs.Inside.Params.{params_in}
 use Rattle.scoring.specs.Score.{score}
-use Rattle.overload.specs.Inside.Tally.{highest_at, higher_with, first_of, unknowns_at, all_unknown_at, tally_with, tally_more, tally_of, most_diagnostics, Room}
+use Rattle.overload.specs.Inside.Tally.{many_of, highest_at, higher_with, first_of, unknowns_at, all_unknown_at, tally_with, tally_more, tally_of, most_diagnostics, Room}
 use Rattle.overload.specs.declared.calls.Highest.{Highest}
 use Rattle.overload.specs.declared.calls.Tally.{Tally}
 use Rattle.index.specs.declared.index.Found.TheVariants.{Nothing}
@@ -31,7 +31,7 @@ use Rattle.symbol.specs.declared.functions.Function.{Function}
 
 module _ (t : List ℕ) (xs : List Arg) where
   -- ---- one overload that fits, at the place p, which was read as f
-  pub tally_taken : (w : Tally) (p : Place) (f : Function) → f ≡ function_at t p → overload_in t f ≡ overload_at t p → (q : Found) (s : Option ℕ) (h : Highest) (n : ℕ)
+  pub tally_taken : (w : Tally) (p : Place) (f : Function) → f ≡ function_at t p → overload_in t f ≡ overload_at t p → (q : Found) (s : Option ℕ) (h : Maybe Highest) (n : ℕ)
       → q ≡ first_of w.first p → s ≡ score (symbols_of t) (overload_in t f) xs → h ≡ higher_with f.start f.len s w.highest
       → n ≡ w.count + length (unknowns (params_in t f.params) 1 xs)
       → ◌≡◌ {A = Tally} (record { first = q; fitting = w.fitting + 1; highest = h; count = n }) (tally_with t xs w p)
@@ -61,7 +61,7 @@ module _ (t : List ℕ) (xs : List Arg) where
 
   -- ---- the tally of some overloads
   module _ (n : ℕ) where
-    pub tally_start : record { first = Nothing; fitting = 0; highest = record { matched = false; score = 0; many = 0; start = 0; len = 0 }; count = n } ≡ tally_of t xs n []
+    pub tally_start : record { first = Nothing; fitting = 0; highest = None; count = n } ≡ tally_of t xs n []
     unfolding first_place highest_at chosen_from all_unknown
     tally_start = ap (λ (k : ℕ). record { first = Nothing; fitting = 0; highest = highest_at t nowhere; count = k }) (sym (add-zero n))
 
@@ -93,7 +93,7 @@ module _ (t : List ℕ) (xs : List Arg) where
     unfolding highest_at
     tally_room w ps e few short room =
         let fit : w.fitting ≡ length ps = ap (λ (z : Tally). z.fitting) e in
-        let many : w.highest.many ≡ (highest_at t (chosen_at t ps xs)).many = ap (λ (z : Tally). z.highest.many) e in
+        let many : many_of w.highest ≡ many_of (highest_at t (chosen_at t ps xs)) = ap (λ (z : Tally). many_of z.highest) e in
         let count : w.count ≡ n + length (all_unknown_at t ps xs) = ap (λ (z : Tally). z.count) e in
         record {
           fitting = omega arith;

@@ -7,14 +7,13 @@ ghost use Rattle.symbol.specs.Lookup.{symbols_of};
 ghost use Rattle.symbol.specs.Inside.FunctionFields.{function_at};
 ghost use Rattle.scoring.specs.Arity.{any_own};
 ghost use Rattle.scoring.specs.Inside.Scored.{score_of};
-ghost use Rattle.overload.specs.Resolve.{none_fits, tie_report};
-ghost use Rattle.overload.specs.Inside.Reported.{Reported};
+ghost use Rattle.overload.specs.Resolve.{none_fits};
 ghost use Rattle.overload.specs.Inside.Picked.{taken, picked_in};
 ghost use Rattle.overload.specs.Inside.BestPlace.{error_source};
-ghost use Rattle.overload.specs.Inside.Tally.{higher_with, first_of, most_diagnostics, Room};
+ghost use Rattle.overload.specs.Inside.Tally.{many_of, higher_with, first_of, most_diagnostics, Room};
 ghost use Rattle.overload.specs.Inside.CallSource.{args_lent, TakesOne, TakesSome, TalliesAll, AnswersCall, SettlesCall, CallsAt};
 
-use crate::reports::{by_index, unknown_names};
+use crate::reports::{by_index, report_if, unknown_names};
 use area::{Source, report};
 use index::index::{Found, Place};
 use operators::ruled::Diagnostic;
@@ -25,22 +24,22 @@ use symbol::functions::{Function, is_builtin_function, read_function};
 use symbol::lookups::Functions;
 use ty::Kind;
 
-// The highest score so far: whether anything matches, the score, how many have it, and where the result of the first of them lies in the table.
+// The highest score so far: how many have it, and where the result of the first of them lies in the table.
 #[derive(Clone, Copy)]
 pub struct Highest {
-    pub matched: bool,
     pub score: usize,
     pub many: usize,
     pub start: usize,
     pub len: usize,
 }
 
-// What the walk over a function list keeps: the first overload that fits in number, how many fit, the highest score, and how many diagnostics there are.
+// What the walk over a function list keeps: the first overload that fits in number, how many fit, the highest score, if anything matches, and how many
+// diagnostics there are.
 #[derive(Clone, Copy)]
 pub struct Tally {
     pub first: Found,
     pub fitting: usize,
-    pub highest: Highest,
+    pub highest: Option<Highest>,
     pub count: usize,
 }
 
@@ -57,47 +56,40 @@ fn any_own(table: &[u8], index: &[u16], owner: u16, id: u16) -> bool
     ensures { result ≡ any_own ((symbols_of table.now).functions_of owner id) }
 {
     let mut c = Functions::first(table, index, owner, id);
-    loop {
-        let found = c.found();
-        let Found::Here(p) = found else {
-            return false;
-        };
+    while let Found::Here(p) = c.found() {
         if !is_builtin_function(table, p) {
             return true;
         }
         c = c.next(table, index);
     }
+    false
 }
 
-// The highest score once one more overload has its score. Its result lies in the table from start on.
-fn higher(h: Highest, start: usize, len: usize, s: Score) -> Highest
-    requires { h.many ≤ 60000 }
+// The highest score once one more overload has its score, if it matches. Its result lies in the table from start on.
+fn higher(h: Option<Highest>, start: usize, len: usize, s: Option<Score>) -> Option<Highest>
+    requires { many_of h ≤ 60000 }
     ensures { result ≡ higher_with start len (score_of s) h }
 {
-    if !s.matched {
+    let Some(s) = s else {
         return h;
-    }
-    let first = Highest {
-        matched: true,
+    };
+    let first = Some(Highest {
         score: s.points,
         many: 1,
         start,
         len,
+    });
+    let Some(best) = h else {
+        return first;
     };
-    if !h.matched {
+    if best.score < s.points {
         return first;
     }
-    if h.score < s.points {
-        return first;
-    }
-    if h.score == s.points {
-        return Highest {
-            matched: true,
-            score: h.score,
-            many: h.many + 1,
-            start: h.start,
-            len: h.len,
-        };
+    if best.score == s.points {
+        return Some(Highest {
+            many: best.many + 1,
+            ..best
+        });
     }
     h
 }
@@ -127,17 +119,12 @@ fn take_one(
     requires { IndexedTable table.now index.now × FunctionAt table.now p × (f ≡ function_at table.now p) × (args.count ≤ 16) × Room w }
     ensures { TakesOne table.now (args_lent area.now lens.now args) p buf w result }
 {
-    let params = f.params;
-    let found = w.first;
-    let h = w.highest;
-    let count = unknown_names(params, args, buf, w.count);
-    let s = score_function(table, index, f, area, lens, args);
-    let first = first_of(found, p);
-    let highest = higher(h, f.start, f.len, s);
+    let count = unknown_names(f.params, args, buf, w.count);
+    let score = score_function(table, index, f, area, lens, args);
     Tally {
-        first,
+        first: first_of(w.first, p),
         fitting: w.fitting + 1,
-        highest,
+        highest: higher(w.highest, f.start, f.len, score),
         count,
     }
 }
@@ -187,23 +174,14 @@ fn walk(
     let mut w = Tally {
         first: Found::Nothing,
         fitting: 0,
-        highest: Highest {
-            matched: false,
-            score: 0,
-            many: 0,
-            start: 0,
-            len: 0,
-        },
+        highest: None,
         count,
     };
-    loop {
-        let found = c.found();
-        let Found::Here(p) = found else {
-            return w;
-        };
+    while let Found::Here(p) = c.found() {
         w = turn(table, index, own, p, area, lens, args, w, buf);
         c = c.next(table, index);
     }
+    w
 }
 
 // A call of functions of which none fits in number.
@@ -211,28 +189,11 @@ fn none_fits(own: bool, node: usize, n: usize, buf: &mut [u8], count: usize) -> 
     requires { count < count_limit }
     ensures { AnswersCall error_source count (none_fits own node n).diags buf result }
 {
-    if own {
-        let more = report(buf, count, Diagnostic::ARGUMENT_COUNT, node, n);
-        return Called {
-            source: Source::Kind(Kind::ERROR),
-            count: more,
-        };
-    }
+    let more = report_if(own, Diagnostic::ARGUMENT_COUNT, node, n, buf, count);
     Called {
         source: Source::Kind(Kind::ERROR),
-        count,
+        count: more,
     }
-}
-
-// More than one has the highest score.
-fn report_tie(node: usize, many: usize, buf: &mut [u8], count: usize) -> usize
-    requires { count < count_limit }
-    ensures { Reported buf.old count buf.new result (tie_report node many) }
-{
-    if 1 < many {
-        return report(buf, count, Diagnostic::TIE, node, many);
-    }
-    count
 }
 
 // A call of functions of which at least one fits in number, the first of them being at p.
@@ -250,21 +211,26 @@ fn settle(
     requires { IndexedTable table.now index.now × FunctionAt table.now p × (args.count ≤ 16) × Room w }
     ensures { SettlesCall table.now (args_lent area.now lens.now args) p node buf w result }
 {
-    let h = w.highest;
-    if h.matched {
-        let tied = report_tie(node, h.many, buf, w.count);
+    if let Some(best) = w.highest {
+        let tied = report_if(
+            1 < best.many,
+            Diagnostic::TIE,
+            node,
+            best.many,
+            buf,
+            w.count,
+        );
         return Called {
             source: Source::Part {
-                start: h.start,
-                len: h.len,
+                start: best.start,
+                len: best.len,
             },
             count: tied,
         };
     }
     if w.fitting == 1 {
         let f = read_function(table, p);
-        let params = f.params;
-        let checked = by_index(table, index, params, area, lens, args, buf, w.count);
+        let checked = by_index(table, index, f.params, area, lens, args, buf, w.count);
         return Called {
             source: Source::Part {
                 start: f.start,
@@ -299,8 +265,7 @@ pub fn check_call_args(
 {
     let own = any_own(table, index, owner, id);
     let w = walk(table, index, own, owner, id, area, lens, args, buf, count);
-    let first = w.first;
-    match first {
+    match w.first {
         Found::Nothing => none_fits(own, node, args.count, buf, w.count),
         Found::Here(p) => settle(table, index, p, node, area, lens, args, w, buf),
     }

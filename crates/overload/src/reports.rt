@@ -3,11 +3,11 @@ ghost use Rattle.std.specs.Prelude.{ℕ, ◌+◌, ◌≤◌, ◌<◌, ◌≡◌,
 ghost use Rattle.area.specs.Diagnostic.{count_limit};
 ghost use Rattle.index.specs.Inside.IndexedTable.{IndexedTable};
 ghost use Rattle.symbol.specs.Lookup.{symbols_of};
-ghost use Rattle.overload.specs.ByIndex.{unknown_one, unknowns, passes_by_index};
+ghost use Rattle.overload.specs.ByIndex.{unknowns, passes_by_index};
 ghost use Rattle.scoring.specs.Inside.Args.{name_in, args_in};
 ghost use Rattle.scoring.specs.Inside.Params.{params_in};
-ghost use Rattle.overload.specs.Inside.Mismatch.{mismatch_at, mismatches_in};
-ghost use Rattle.overload.specs.Inside.Reported.{Reported};
+ghost use Rattle.overload.specs.Inside.Mismatch.{mismatches_in};
+ghost use Rattle.overload.specs.Inside.Reported.{diag_if, unknown, Reported};
 
 use area::report;
 use operators::ruled::Diagnostic;
@@ -17,26 +17,30 @@ use scoring::score::named_place;
 use symbol::functions::Params;
 use ty::{Kind, NameId};
 
-// An argument's name, where no parameter has it.
-fn unknown_one(
-    params: Params,
-    id: u16,
-    position: usize,
+// A diagnostic, where a test holds; answers the new count.
+pub fn report_if(
+    test: bool,
+    kind: u8,
     node: usize,
+    number: usize,
     buf: &mut [u8],
     count: usize,
 ) -> usize
-    requires { (params.count ≤ 16) × (count < count_limit) }
-    ensures { (t : List ℕ) → Reported buf.old count buf.new result
-        (unknown_one (name_in id) (params_in t params) position node) }
+    requires { count < count_limit }
+    ensures { Reported buf.old count buf.new result (diag_if test kind node number) }
 {
-    if id == NameId::NONE {
-        return count;
+    if test {
+        return report(buf, count, kind, node, number);
     }
-    if named_place(params, id) < params.count {
-        return count;
-    }
-    report(buf, count, Diagnostic::UNKNOWN_NAME, node, position)
+    count
+}
+
+// Whether an argument has a name that no parameter has.
+fn unknown(params: Params, id: u16) -> bool
+    requires { params.count ≤ 16 }
+    ensures { (t : List ℕ) → result ≡ unknown (name_in id) (params_in t params) }
+{
+    id != NameId::NONE && named_place(params, id).is_none()
 }
 
 // The unknown names among a call's arguments.
@@ -46,10 +50,16 @@ pub fn unknown_names(params: Params, args: Args, buf: &mut [u8], count: usize) -
         (unknowns (params_in t params) 1 (args_in a l args)) }
 {
     let mut reported = count;
-    let mut i: usize = 0;
-    while i < args.count {
-        reported = unknown_one(params, args.names[i], i + 1, args.nodes[i], buf, reported);
-        i += 1;
+    for i in 0..args.count {
+        let test = unknown(params, args.names[i]);
+        reported = report_if(
+            test,
+            Diagnostic::UNKNOWN_NAME,
+            args.nodes[i],
+            i + 1,
+            buf,
+            reported,
+        );
     }
     reported
 }
@@ -64,32 +74,7 @@ fn passes_by_index(table: &[u8], index: &[u16], p: &[u8], x: &[u8], vararg: bool
         | ((ty::kind_of(p) == Kind::ANY) | ((k == Kind::ERROR) | (k == Kind::ANY)))
 }
 
-// Argument i against parameter i.
-fn mismatch_one(
-    table: &[u8],
-    index: &[u16],
-    params: Params,
-    area: &[u8],
-    lens: &[usize],
-    args: Args,
-    i: usize,
-    buf: &mut [u8],
-    count: usize,
-) -> usize
-    requires { IndexedTable table.now index.now × (i < 16) × (count < count_limit) }
-    ensures { Reported buf.old count buf.new result
-        (mismatch_at table.now params area.now lens.now args i) }
-{
-    let node = args.nodes[i];
-    let p = area::part(table, params.starts[i], params.lens[i]);
-    let x = area::slot(area, lens, node);
-    if passes_by_index(table, index, p, x, params.varargs[i]) {
-        return count;
-    }
-    report(buf, count, Diagnostic::MISMATCH, node, i + 1)
-}
-
-// The check by index.
+// The check by index: each argument against the parameter at its place, as far as there are both.
 pub fn by_index(
     table: &[u8],
     index: &[u16],
@@ -105,13 +90,12 @@ pub fn by_index(
         (mismatches_in table.now params area.now lens.now args) }
 {
     let mut reported = count;
-    let mut i: usize = 0;
-    while i < args.count {
-        if params.count <= i {
-            return reported;
-        }
-        reported = mismatch_one(table, index, params, area, lens, args, i, buf, reported);
-        i += 1;
+    for i in 0..args.count.min(params.count) {
+        let node = args.nodes[i];
+        let p = area::part(table, params.starts[i], params.lens[i]);
+        let x = area::slot(area, lens, node);
+        let passes = passes_by_index(table, index, p, x, params.varargs[i]);
+        reported = report_if(!passes, Diagnostic::MISMATCH, node, i + 1, buf, reported);
     }
     reported
 }

@@ -1,5 +1,5 @@
 -- What a call answers: where its type comes from, and how many diagnostics there are.
-use Rattle.std.specs.Prelude.{ℕ, ◌+◌, List, [], ◌∷◌, eqb, length, ◌≡◌}
+use Rattle.std.specs.Prelude.{ℕ, ◌+◌, List, [], ◌∷◌, eqb, length, ◌≡◌, Option as Maybe, Some, None}
 use Rattle.ty.specs.Choose.{choose}
 use Rattle.ty.specs.Slice.{Slice, Borrowed}
 use Rattle.symbol.specs.Lookup.{symbols_of}
@@ -19,6 +19,7 @@ use Rattle.overload.specs.Resolve.{tie_report, resolve}
 use Rattle.overload.specs.Inside.Picked.{picked_in}
 use Rattle.overload.specs.Inside.Tally.{tally_with, tally_more, tally_of, unknowns_at, all_unknown_at}
 use Rattle.overload.specs.Inside.BestPlace.{chosen_at, result_at, error_source, source_of}
+use Rattle.overload.specs.declared.calls.Highest.{Highest}
 use Rattle.overload.specs.declared.calls.Tally.{Tally}
 use Rattle.overload.specs.declared.calls.Called.{Called}
 
@@ -27,13 +28,23 @@ abbrev pub called_with : Source → ℕ → List Diag → Called
 called_with source n ds = record { source = source; count = n + length ds }
 
 -- ---- a tally whose first overload stands at p is settled
+
+-- by the highest score, if anything matches
+abbrev pub best_source : Maybe Highest → Source → Source
+best_source None s = s
+best_source (Some h) s = Part h.start h.len
+
+abbrev pub best_diags : ℕ → Maybe Highest → List Diag → List Diag
+best_diags node None ds = ds
+best_diags node (Some h) ds = tie_report node h.many
+
 abbrev pub settled_source : List ℕ → Place → Tally → Source
-settled_source t p w = choose w.highest.matched (Part w.highest.start w.highest.len) (choose (eqb w.fitting 1) (result_at t p) error_source)
+settled_source t p w = best_source w.highest (choose (eqb w.fitting 1) (result_at t p) error_source)
 
 -- what is reported then at a node, for the arguments xs
 abbrev pub settled_diags : List ℕ → Place → ℕ → List Arg → Tally → List Diag
 settled_diags t p node xs w =
-    choose w.highest.matched (tie_report node w.highest.many)
+    best_diags node w.highest
     (choose (eqb w.fitting 1) (mismatches (symbols_of t) (overload_at t p).params 1 xs) (diag no_match_diag node 0 ∷ []))
 
 -- ---- the call at a node of the functions of an owner and a name, with the area a and the lengths l

@@ -1,5 +1,5 @@
 -- What the walk over a function list keeps.
-use Rattle.std.specs.Prelude.{ℕ, ◌+◌, ◌≤◌, true, false, not, List, [], ◌∷◌, map, eqb, ltb, length}
+use Rattle.std.specs.Prelude.{ℕ, ◌+◌, ◌≤◌, List, [], ◌∷◌, map, eqb, ltb, length, Option as Maybe, Some, None}
 use Rattle.std.proofs.Math.Option.{Option, none, some}
 use Rattle.ty.specs.Choose.{choose}
 use Rattle.symbol.specs.Lookup.{symbols_of}
@@ -19,26 +19,30 @@ use Rattle.overload.specs.declared.calls.Tally.{Tally}
 
 -- ---- the highest score
 
--- the best of some overloads, as it is kept: all zero where nobody matches
-unfoldable pub highest_at : List ℕ → BestPlace → Highest
-highest_at t nowhere = record { matched = false; score = 0; many = 0; start = 0; len = 0 }
-highest_at t (best_at s p n) = record { matched = true; score = s; many = n; start = (function_at t p).start; len = (function_at t p).len }
+-- how many have it
+abbrev pub many_of : Maybe Highest → ℕ
+many_of None = 0
+many_of (Some h) = h.many
+
+-- the best of some overloads, as it is kept
+unfoldable pub highest_at : List ℕ → BestPlace → Maybe Highest
+highest_at t nowhere = None
+highest_at t (best_at s p n) = Some (record { score = s; many = n; start = (function_at t p).start; len = (function_at t p).len })
 
 -- one overload has the score s; its result is len bytes of the table from start on
 abbrev pub highest_one : ℕ → ℕ → ℕ → Highest
-highest_one start len s = record { matched = true; score = s; many = 1; start = start; len = len }
+highest_one start len s = record { score = s; many = 1; start = start; len = len }
 
 -- one more has the highest score
 abbrev pub highest_more : Highest → Highest
-highest_more h = record { matched = true; score = h.score; many = h.many + 1; start = h.start; len = h.len }
+highest_more h = record { score = h.score; many = h.many + 1; start = h.start; len = h.len }
 
 -- the highest score h once one more overload has its score, if any; its result is len bytes of the table from start on
-unfoldable pub higher_with : ℕ → ℕ → Option ℕ → Highest → Highest
+unfoldable pub higher_with : ℕ → ℕ → Option ℕ → Maybe Highest → Maybe Highest
 higher_with start len none h = h
-higher_with start len (some s) h =
-    choose (not h.matched) (highest_one start len s)
-    (choose (ltb h.score s) (highest_one start len s)
-    (choose (eqb h.score s) (highest_more h) h))
+higher_with start len (some s) None = Some (highest_one start len s)
+higher_with start len (some s) (Some h) =
+    choose (ltb h.score s) (Some (highest_one start len s)) (choose (eqb h.score s) (Some (highest_more h)) (Some h))
 
 -- ---- the tally
 
@@ -81,5 +85,5 @@ most_diagnostics = 1048576
 -- so that no count wraps
 pub record Room (w : Tally) : Type 0 where
   pub fitting : w.fitting ≤ 60000
-  pub many : w.highest.many ≤ 60000
+  pub many : many_of w.highest ≤ 60000
   pub count : w.count + 17 ≤ count_limit

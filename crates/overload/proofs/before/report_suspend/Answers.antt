@@ -1,10 +1,10 @@
-use Rattle.overload.proofs.Reporting.{reported_none, reported_one, reported_as}
-use Rattle.overload.proofs.SingleReports.{suspend_fine, suspend_told}
+use mathlib.Core.Bool.{Bool}
+use mathlib.Core.Path.{ap, ◌∙◌}
+use Rattle.operators.specs.DiagnosticKind.{suspend_diag}
+use Rattle.overload.proofs.Reporting.{reported_as}
+use Rattle.overload.proofs.SingleReports.{suspend_told}
+use Rattle.overload.specs.Inside.Reported.{diag_if}
 use Rattle.overload.proofs.before.report_suspend.Goals as goal
 
-pub returns-then-header-is_suspend : goal.returns-then-header-is_suspend
-returns-then-header-is_suspend c = reported_as (suspend_fine _ _ _ _ _ _ c.is_suspend.ensures c.if-header-is_suspend.true) (reported_none _ _)
-
 pub returns : goal.returns
-returns c = reported_as (suspend_told _ _ _ _ _ _ c.is_suspend.ensures c.if-header-is_suspend.false)
-    (reported_one _ _ _ _ _ c.report.ensures.0 c.report.ensures.1)
+returns c = reported_as (ap (λ (z : Bool). diag_if z suspend_diag c.args.node 0) c.suspends-outside.ensures ∙ suspend_told _ _ _ _ _) c.report_if.ensures
