@@ -17,21 +17,21 @@ use Rattle.ty.proofs.Choice.{choose_yes, choose_no}
 
 module _ (t : List ℕ) (p : Params) where
   -- ---- how many are required
-  pub required-start : 0 + required (params_left t p 0 p.count) ≡ required (params_in t p)
-  required-start =
+  pub required_start : 0 + required (params_left t p 0 p.count) ≡ required (params_in t p)
+  required_start =
       let e : required (params_left t p 0 p.count) ≡ required (params_in t p) = ap (λ (ps : List Param). required ps) (params_all t p p.count) in
       omega arith
 
   module _ (i n : ℕ) (w : n + required (params_left t p i p.count) ≡ required (params_in t p)) where
-    pub required-not : i < p.count → (get_or p.defaults i false || get_or p.varargs i false) ≡ true → n + required (params_left t p (i + 1) p.count) ≡ required (params_in t p)
+    pub required_not : i < p.count → (get_or p.defaults i false || get_or p.varargs i false) ≡ true → n + required (params_left t p (i + 1) p.count) ≡ required (params_in t p)
     unfolding required
-    required-not h d =
+    required_not h d =
         let e : required (params_left t p i p.count) ≡ required (params_left t p (i + 1) p.count) = ap (λ (ps : List Param). required ps) (params_next t p i p.count h) ∙ choose_yes _ _ _ d in
         omega arith
 
-    pub required-one : i < p.count → (get_or p.defaults i false || get_or p.varargs i false) ≡ false → n + 1 + required (params_left t p (i + 1) p.count) ≡ required (params_in t p)
+    pub required_one : i < p.count → (get_or p.defaults i false || get_or p.varargs i false) ≡ false → n + 1 + required (params_left t p (i + 1) p.count) ≡ required (params_in t p)
     unfolding required
-    required-one h d =
+    required_one h d =
         let e : required (params_left t p i p.count) ≡ suc (required (params_left t p (i + 1) p.count)) = ap (λ (ps : List Param). required ps) (params_next t p i p.count h) ∙ choose_no _ _ _ d in
         omega arith
 

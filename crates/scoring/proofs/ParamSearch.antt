@@ -24,8 +24,8 @@ pub record PlaceFrom (t : List ℕ) (p : Params) (id j : ℕ) : Type 0 where
   pub place : place_named id j (params_left t p j p.count) ≡ place_named id 0 (params_in t p)
 
 module _ (t : List ℕ) (p : Params) (id : ℕ) where
-  pub place-start : PlaceFrom t p id 0
-  place-start = record { place = ap (λ (ps : List Param). place_named id 0 ps) (params_all t p p.count) }
+  pub place_start : PlaceFrom t p id 0
+  place_start = record { place = ap (λ (ps : List Param). place_named id 0 ps) (params_all t p p.count) }
 
   module _ (j : ℕ) (w : PlaceFrom t p id j) where
     pub place_turn : j < p.count → (get_or p.names j 0 ≡ id → ⊥) → PlaceFrom t p id (j + 1)
@@ -76,8 +76,8 @@ module _ (t : List ℕ) (p : Params) (id : ℕ) where
 
 -- ---- by mark
 module _ (p : Params) (marks : List Bool) where
-  pub free-start : free_place marks 0 (p.count - 0) ≡ free_place marks 0 p.count
-  free-start = ap (λ (k : ℕ). free_place marks 0 k) (sub-zero p.count)
+  pub free_start : free_place marks 0 (p.count - 0) ≡ free_place marks 0 p.count
+  free_start = ap (λ (k : ℕ). free_place marks 0 k) (sub-zero p.count)
 
   module _ (j : ℕ) (w : free_place marks j (p.count - j) ≡ free_place marks 0 p.count) where
     free_next : j < p.count → free_place marks j (p.count - j) ≡ choose (get_or marks j false) (free_place marks (j + 1) (p.count - (j + 1))) (Some j)
@@ -91,8 +91,8 @@ module _ (p : Params) (marks : List Bool) where
     pub free_turn : j < p.count → get_or marks j false ≡ true → free_place marks (j + 1) (p.count - (j + 1)) ≡ free_place marks 0 p.count
     free_turn h d = sym (free_next h ∙ choose_yes _ _ _ d) ∙ w
 
-    pub free-here : j < p.count → get_or marks j false ≡ false → Some j ≡ free_place marks 0 p.count
-    free-here h d = sym (free_next h ∙ choose_no _ _ _ d) ∙ w
+    pub free_here : j < p.count → get_or marks j false ≡ false → Some j ≡ free_place marks 0 p.count
+    free_here h d = sym (free_next h ∙ choose_no _ _ _ d) ∙ w
 
     pub free_none : p.count ≤ j → None ≡ free_place marks 0 p.count
     unfolding free_place
@@ -111,3 +111,7 @@ module _ (p : Params) (marks : List Bool) where
 
   pub free_place_is : (t : List ℕ) (r : Maybe ℕ) → r ≡ free_place marks 0 p.count → unmarked_from 0 (params_in t p) marks ≡ param_in t p r
   free_place_is t r e = row_free t 0 p.count ∙ ap (λ (o : Maybe ℕ). param_in t p o) (sym e)
+
+pub ruleset by_name = (place_start, place_turn, place_here_lem, place_none)
+
+pub ruleset by_mark = (free_start, free_turn, free_here, free_none)

@@ -10,7 +10,7 @@ use native.Mathlib.Omega.{arith}
 use Rattle.std.specs.Prelude.{Option as Maybe, Some, None}
 use Rattle.std.specs.Bool.{then_some}
 use Rattle.scoring.proofs.ParamsAndArgsLeft.{args_left, args_all, args_next, args_none}
-use Rattle.scoring.proofs.ParamSearch.{place_named_is, param_named_is}
+use Rattle.scoring.proofs.ParamSearch.{free_place_is, place_named_is, param_named_is}
 use Rattle.scoring.proofs.ScoreSums.{plus_zero, plus_assoc}
 use Rattle.area.specs.Inside.Slot.{slot_of}
 use Rattle.scoring.specs.Arg.{Arg}
@@ -124,11 +124,12 @@ module _ (S : Symbols) where
       by_choice (λ (s : Option ℕ). points_of (as_score s) ≤ 2) _ (λ _. omega arith) λ _.
       by_choice (λ (s : Option ℕ). points_of (as_score s) ≤ 2) _ (λ _. omega arith) (λ _. omega arith)
 
-  pub one_few : (o : Maybe Score) (f : Option Param) (x : Ty) (r : Maybe Score) → r ≡ as_score (compared_or S (score_of o) f x) → points_of o ≤ 2 → points_of r ≤ 2
-  one_few o none x r e h =
-      let f : points_of r ≡ points_of o = ap (λ (z : Maybe Score). points_of z) (e ∙ score_forth o) in
-      omega arith
-  one_few o (some p) x r e h = let f : points_of r ≡ points_of (as_score (compared S p x)) = ap (λ (z : Maybe Score). points_of z) e in omega (arith, compared_few p x)
+  pub one_few : (o : Maybe Score) (f : Option Param) (x : Ty) → points_of o ≤ 2 → points_of (as_score (compared_or S (score_of o) f x)) ≤ 2
+  one_few o none x h = let f : points_of (as_score (score_of o)) ≡ points_of o = ap (λ (z : Maybe Score). points_of z) (score_forth o) in omega arith
+  one_few o (some p) x h = compared_few p x
+
+  pub none_few : (f : Option Param) (x : Ty) → points_of (as_score (compared_or S none f x)) ≤ 2
+  none_few f x = one_few None f x (omega arith)
 
   named_few : (ps : List Param) (m : Option ℕ) (x : Ty) → points_of (as_score (named_one S ps m x)) ≤ 2
   unfolding named_one compared_with
@@ -208,9 +209,11 @@ module _ (t : List ℕ) (p : Params) (a l : List ℕ) (x : Args) where
       }
 
   module _ (m : NamedPass) (i : ℕ) (w : NamedFrom m i) where
-    pub named_next : (m' : NamedPass) → i < x.count → m' ≡ named_more t p (get_or x.names i 0) (slot_of a l (get_or x.nodes i 0)) m → NamedFrom m' (i + 1)
+    pub named_next : (m' : NamedPass) (y : Ty) → i < x.count → y ≡ slot_of a l (get_or x.nodes i 0) → m' ≡ named_more t p (get_or x.names i 0) y m
+        → NamedFrom m' (i + 1)
     unfolding named_score marks_from
-    named_next m' h e =
+    named_next m' y h d e' =
+        let e : m' ≡ named_more t p (get_or x.names i 0) (slot_of a l (get_or x.nodes i 0)) m = e' ∙ ap (λ (z : Ty). named_more t p (get_or x.names i 0) z m) d in
         let g = args_next a l x i x.count h in
         let one = named_one (symbols_of t) (params_in t p) (name_in (get_or x.names i 0)) (slot_of a l (get_or x.nodes i 0)) in
         let f : m'.score ≡ as_score (plus (score_of m.score) one) = ap (λ (z : NamedPass). z.score) e in
@@ -259,11 +262,12 @@ module _ (S : Symbols) (f : Option Param) (v : Bool) (a l : List ℕ) (x : Args)
       }
 
   module _ (s : Maybe Score) (i : ℕ) (w : UnnamedFrom s i) where
-    pub unnamed_next : (s' : Maybe Score) → i < x.count
-        → s' ≡ as_score (plus (score_of s) (unnamed_one S f v (name_in (get_or x.names i 0)) (slot_of a l (get_or x.nodes i 0)))) → UnnamedFrom s' (i + 1)
+    pub unnamed_next : (s' : Maybe Score) (y : Ty) → i < x.count → y ≡ slot_of a l (get_or x.nodes i 0)
+        → s' ≡ as_score (plus (score_of s) (unnamed_one S f v (name_in (get_or x.names i 0)) y)) → UnnamedFrom s' (i + 1)
     unfolding unnamed_score
-    unnamed_next s' h e =
+    unnamed_next s' y h d e' =
         let one = unnamed_one S f v (name_in (get_or x.names i 0)) (slot_of a l (get_or x.nodes i 0)) in
+        let e : s' ≡ as_score (plus (score_of s) one) = e' ∙ ap (λ (z : Ty). as_score (plus (score_of s) (unnamed_one S f v (name_in (get_or x.names i 0)) z))) d in
         record {
           few = sum_few s' s one i e (unnamed_few S f v (name_in (get_or x.names i 0)) (slot_of a l (get_or x.nodes i 0))) w.few;
           score = sum_turn (score_of s) one _ (score_of_lem s' _ e) (ap (λ (xs : List Arg). unnamed_score S f v xs) (args_next a l x i x.count h)) w.score;
@@ -308,3 +312,12 @@ module _ (t : List ℕ) (f : Function) (xs : List Arg) (n : NamedPass) (s : Mayb
       h ∙ ap (λ (z : Option ℕ). as_score (plus z (score_of s))) (score_of_lem n.score _ (ap (λ (z : NamedPass). z.score) e))
       ∙ ap (λ (z : Option ℕ). as_score (plus (named_score (symbols_of t) (params_in t f.params) xs) z))
       (score_of_lem s _ g ∙ ap (λ (z : NamedPass). positional_in t f.params z.marks xs) e)
+
+-- ---- what the functions' proofs take
+pub ruleset comparison = (compared_same, compared_taken, compared_not)
+
+pub ruleset named_one_more = (named_passed, named_added, none_few)
+
+pub ruleset unnamed_one_more = (unnamed_passed, unnamed_added, one_few, vararg_few)
+
+pub ruleset unnamed_whole = (unnamed_start, unnamed_done, free_place_is)

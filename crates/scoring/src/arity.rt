@@ -21,6 +21,7 @@ fn required(params: Params) -> usize
 }
 
 // Whether the last parameter is vararg.
+#[tactic(auto, using(crate::proofs::Arities::last_none, crate::proofs::Arities::last_some))]
 pub fn last_vararg(params: Params) -> bool
     requires { params.count ≤ 16 }
     ensures { (t : List ℕ) → result ≡ last_vararg (params_in t params) }
@@ -32,6 +33,7 @@ pub fn last_vararg(params: Params) -> bool
 }
 
 // Whether n arguments are enough and not too many.
+#[tactic(auto, using(crate::proofs::Arities::viable_is))]
 pub fn viable(f: Function, n: usize) -> bool
     requires { f.params.count ≤ 16 }
     ensures { (t : List ℕ) → result ≡ fits n (overload_in t f) }

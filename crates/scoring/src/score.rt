@@ -40,6 +40,7 @@ fn add(a: Option<Score>, b: Option<Score>) -> Option<Score>
 }
 
 // The place of the first parameter of a name.
+#[tactic(auto, using(crate::proofs::ParamSearch::by_name))]
 pub fn named_place(params: Params, id: u16) -> Option<usize>
     requires { params.count ≤ 16 }
     ensures found { (t : List ℕ) → result ≡ named_place t params id }
@@ -54,6 +55,7 @@ pub fn named_place(params: Params, id: u16) -> Option<usize>
 }
 
 // The place of the first parameter without a mark.
+#[tactic(auto, using(crate::proofs::ParamSearch::by_mark))]
 fn free_place(params: Params, marks: [bool; 16]) -> Option<usize>
     requires { params.count ≤ 16 }
     ensures found { result ≡ free_place marks 0 params.count }
@@ -68,6 +70,7 @@ fn free_place(params: Params, marks: [bool; 16]) -> Option<usize>
 }
 
 // An argument of the type x against the parameter at a place, and `otherwise` where there is none.
+#[tactic(auto, using(crate::proofs::Scores::comparison))]
 fn compare(
     table: &[u8],
     index: &[u16],
@@ -109,6 +112,7 @@ fn mark(marks: [bool; 16], place: Option<usize>) -> [bool; 16]
 }
 
 // One argument more in the named pass: a named one is compared with the parameter of its name, which it marks.
+#[tactic(auto, using(crate::proofs::Scores::named_one_more))]
 fn named_turn(
     table: &[u8],
     index: &[u16],
@@ -130,6 +134,7 @@ fn named_turn(
 }
 
 // The named pass.
+#[tactic(auto, using(crate::proofs::Scores::named_done))]
 fn named_pass(
     table: &[u8],
     index: &[u16],
@@ -154,6 +159,7 @@ fn named_pass(
 
 // One argument more in the positional pass: an unnamed one is compared with the parameter at a place, the first without a mark.
 // v: the last parameter is vararg.
+#[tactic(auto, using(crate::proofs::Scores::unnamed_one_more))]
 fn unnamed_turn(
     table: &[u8],
     index: &[u16],
@@ -176,6 +182,7 @@ fn unnamed_turn(
 }
 
 // The positional pass.
+#[tactic(auto, using(crate::proofs::Scores::unnamed_whole))]
 fn positional_pass(
     table: &[u8],
     index: &[u16],
@@ -199,6 +206,7 @@ fn positional_pass(
 }
 
 // The score of an overload, and none where an argument does not match.
+#[tactic(auto, using(crate::proofs::Scores::score_is))]
 pub fn score_function(
     table: &[u8],
     index: &[u16],
