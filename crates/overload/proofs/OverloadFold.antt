@@ -56,6 +56,8 @@ module _ (start len : ℕ) (h : Maybe Highest) (s : Maybe Score) where
         pub higher_less : (b.score ≡ p.points → ⊥) → h ≡ higher_with start len (score_of s) h
         higher_less d = m ∙ sym (higher_both ∙ choose_no _ _ _ (le-ltb _ _ g) ∙ choose_no _ _ _ (ne_eqb _ _ d))
 
+pub ruleset higher_by_test = (higher_none, higher_first, higher_more, higher_same, higher_less)
+
 -- ---- one more overload at the end
 module _ (t : List ℕ) where
   -- it is kept as the best of the places is

@@ -16,13 +16,14 @@ use Rattle.scoring.specs.Arg.{Arg}
 use Rattle.overload.specs.ByIndex.{absent, unknown_one, unknowns, all_unknown, mismatch_one, mismatches}
 use Rattle.scoring.specs.Inside.Args.{name_in, arg_at, args_in}
 use Rattle.scoring.specs.Inside.Params.{params_in}
-use Rattle.overload.specs.Inside.Reported.{Reported}
+use Rattle.overload.specs.Inside.Reported.{diag_if, Reported}
 use Rattle.scoring.specs.Score.{param_named}
 use Rattle.scoring.specs.declared.args.Args.{Args}
 use Rattle.symbol.specs.Inside.LookupAnswer.{param_at}
 use Rattle.symbol.specs.Symbols.{Param, Overload, Symbols}
 use Rattle.symbol.specs.declared.functions.Params.{Params}
-use Rattle.ty.proofs.Choice.{by_choice}
+use Rattle.operators.specs.Diag.{diag}
+use Rattle.ty.proofs.Choice.{by_choice, choose_yes, choose_no}
 
 pub reported_none : (b : List ℕ) (n : ℕ) → Reported b n b n []
 reported_none b n = record { count = sym (add-zero n); buffer = sym (put_all_none b n) }
@@ -32,6 +33,16 @@ reported_one b n b' n' d e f = record { count = e; buffer = f ∙ sym (put_all-o
 
 pub reported_as : {b : List ℕ} {n : ℕ} {b' : List ℕ} {n' : ℕ} {ds es : List Diag} → ds ≡ es → Reported b n b' n' ds → Reported b n b' n' es
 reported_as {b} {n} {b'} {n'} e w = subst (λ (ds : List Diag). Reported b n b' n' ds) e w
+
+-- by the test of `report_if`
+module _ (b : List ℕ) (n : ℕ) (t : Bool) (k node i : ℕ) where
+  pub reported_yes : (b' : List ℕ) (n' : ℕ) → t ≡ true → n' ≡ n + 1 → b' ≡ put_one b n (diag k node i) → Reported b n b' n' (diag_if t k node i)
+  unfolding diag_if
+  reported_yes b' n' e f g = reported_as (sym (choose_yes _ _ _ e)) (reported_one b n b' n' _ f g)
+
+  pub reported_no : t ≡ false → Reported b n b n (diag_if t k node i)
+  unfolding diag_if
+  reported_no e = reported_as (sym (choose_no _ _ _ e)) (reported_none b n)
 
 pub reported_append : {b : List ℕ} {n : ℕ} {b₁ : List ℕ} {n₁ : ℕ} {b₂ : List ℕ} {n₂ : ℕ} {ds es : List Diag}
     → Reported b n b₁ n₁ ds → Reported b₁ n₁ b₂ n₂ es → Reported b n b₂ n₂ (ds ++ es)

@@ -1,5 +1,5 @@
 -- What is reported at one argument or one call, by the tests before it.
-use Prim.Native.Nat.{ℕ, ◌≤◌}
+use Prim.Native.Nat.{ℕ, ◌+◌, ◌≤◌}
 use borrow.Author.Tests.{eq-eqb}
 use lib.Dec.{eqb, ltb}
 use lib.ListN.{length}
@@ -10,14 +10,15 @@ use mathlib.Core.Path.{◌≡◌, refl, sym, ap, ◌∙◌}
 use native.Mathlib.Omega.{arith}
 use Rattle.area.specs.Diagnostic.{Diag}
 use Rattle.std.specs.Prelude.{Option as Maybe, Some, None, is_some}
+use Rattle.overload.proofs.Reporting.{reported_as, reported_append}
 use Rattle.scoring.proofs.ParamSearch.{param_named_is}
 use Rattle.scoring.proofs.Scores.{name_none, name_some}
 use Rattle.scoring.specs.Arg.{Arg}
-use Rattle.overload.specs.Before.{suspend_allowed, suspend_report}
+use Rattle.overload.specs.Before.{suspend_allowed, suspend_report, method_reports}
 use Rattle.overload.specs.ByIndex.{absent, unknown_one, passes_by_index, mismatch_one}
 use Rattle.scoring.specs.Inside.Args.{name_in}
 use Rattle.scoring.specs.Inside.Params.{params_in, param_in, named_place}
-use Rattle.overload.specs.Inside.Reported.{diag_if, missing, unknown}
+use Rattle.overload.specs.Inside.Reported.{diag_if, missing, unknown, Reported}
 use Rattle.overload.specs.Resolve.{none_fits, tie_report}
 use Rattle.scoring.specs.Score.{param_named}
 use Rattle.question.specs.declared.Header.{Header}
@@ -86,6 +87,11 @@ suspend_told S H owner id n = go (suspend_allowed S H owner id)
     go true = refl
     go false = refl
 
+-- reported, where a suspend function is called from outside of one, t being whether it is
+pub suspend_reported : (S : Symbols) (H : Header) (owner id node : ℕ) (t : Bool) (b : List ℕ) (n : ℕ) (b' : List ℕ) (n' : ℕ) → t ≡ not (suspend_allowed S H owner id)
+    → Reported b n b' n' (diag_if t suspend_diag node 0) → Reported b n b' n' (at node (suspend_report S H owner id))
+suspend_reported S H owner id node t b n b' n' e w = reported_as (ap (λ (z : Bool). diag_if z suspend_diag node 0) e ∙ suspend_told S H owner id node) w
+
 pub access_told : (S : Symbols) (H : Header) (vis owner n : ℕ) → diag_if (blocked S H vis owner) access_diag n vis ≡ at n (access_report S H vis owner)
 unfolding diag_if at access_report choose
 access_told S H vis owner n = go (blocked S H vis owner)
@@ -98,6 +104,17 @@ pub access_few : (S : Symbols) (H : Header) (vis owner n : ℕ) → length (at n
 unfolding at access_report
 access_few S H vis owner n = by_choice (λ (rs : List Report). length (at n rs) ≤ 1) _ (λ _. omega arith) (λ _. omega arith)
 
+-- both reports of a method call, t being whether access is blocked
+pub method_reported : (S : Symbols) (H : Header) (vis owner id node : ℕ) (t : Bool) (b : List ℕ) (n : ℕ) (b₁ : List ℕ) (n₁ : ℕ) (b' : List ℕ) (n' : ℕ) → t ≡ blocked S H vis owner
+    → Reported b n b₁ n₁ (diag_if t access_diag node vis) → Reported b₁ n₁ b' n' (at node (suspend_report S H owner id)) → Reported b n b' n' (at node (method_reports S H vis owner id))
+method_reported S H vis owner id node t b n b₁ n₁ b' n' e v w =
+    reported_as (sym (at_append node (access_report S H vis owner) (suspend_report S H owner id)))
+    (reported_append (reported_as (ap (λ (z : Bool). diag_if z access_diag node vis) e ∙ access_told S H vis owner node) v) w)
+
 pub diag_few : (b : Bool) (k n i : ℕ) → length (diag_if b k n i) ≤ 1
 unfolding diag_if
 diag_few b k n i = by_choice (λ (ds : List Diag). length ds ≤ 1) _ (λ _. omega arith) (λ _. omega arith)
+
+-- at most one more
+pub count_few : (t : Bool) (k node i : ℕ) (b : List ℕ) (n : ℕ) (b' : List ℕ) (n' : ℕ) → Reported b n b' n' (diag_if t k node i) → n' ≤ n + 1
+count_few t k node i b n b' n' w = omega (arith, w.count, diag_few t k node i)

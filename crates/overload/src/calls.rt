@@ -66,6 +66,7 @@ fn any_own(table: &[u8], index: &[u16], owner: u16, id: u16) -> bool
 }
 
 // The highest score once one more overload has its score, if it matches. Its result lies in the table from start on.
+#[tactic(auto, using(crate::proofs::OverloadFold::higher_by_test))]
 fn higher(h: Option<Highest>, start: usize, len: usize, s: Option<Score>) -> Option<Highest>
     requires { many_of h ≤ 60000 }
     ensures { result ≡ higher_with start len (score_of s) h }
