@@ -43,7 +43,6 @@ use Rattle.symbol.specs.Inside.Places.{first_place, function_places}
 use Rattle.symbol.specs.Lookup.{symbols_of}
 use Rattle.symbol.specs.Symbols.{Overload, Symbols}
 use Rattle.symbol.specs.declared.functions.Function.{Function}
-use Rattle.index.specs.declared.index.Found.TheVariants.{Nothing, Here}
 use Rattle.index.specs.declared.index.Place.{Place}
 use Rattle.ty.proofs.Choice.{by_choice, choose_yes, choose_no}
 use Rattle.ty.specs.Bytes.{Ty}
@@ -194,7 +193,7 @@ unfolding resolve_in all_unknown
 none_diags t node xs k m e = ap (λ (n : ℕ). (none_fits k node n).diags) e
 
 -- ---- the first of some places
-none_first : (ps : List Place) → first_place ps ≡ Nothing → ps ≡ []
+none_first : (ps : List Place) → first_place ps ≡ None → ps ≡ []
 unfolding first_place
 none_first [] e = refl
 none_first (p ∷ ps) e = absurd (let z : ◌≡◌ {A = ℕ} 0 1 = cc in omega arith)
@@ -204,7 +203,7 @@ others : List Place → List Place
 others [] = []
 others (p ∷ ps) = ps
 
-some_first : (ps : List Place) (p : Place) → first_place ps ≡ Here p → ps ≡ p ∷ others ps
+some_first : (ps : List Place) (p : Place) → first_place ps ≡ Some p → ps ≡ p ∷ others ps
 unfolding first_place others
 some_first [] p e = absurd (let z : ◌≡◌ {A = ℕ} 0 1 = cc in omega arith)
 some_first (q ∷ ps) p e = let z : q ≡ p = cc in ap (λ (x : Place). x ∷ ps) z
@@ -256,7 +255,7 @@ module _ (t : List ℕ) (clean : table_fault t ≡ 0) (owner id node : ℕ) (xs 
           × (b' ≡ put_all b n (resolve (symbols_of t) os node xs).diags)
 
       -- none fits
-      pub answered_none : w.first ≡ Nothing → r ≡ called_with error_source w.count (none_fits k node m).diags
+      pub answered_none : w.first ≡ None → r ≡ called_with error_source w.count (none_fits k node m).diags
           → b' ≡ put_all b₁ w.count (none_fits k node m).diags → Answered
       answered_none e f g =
           let z : ps ≡ [] = none_first ps (sym (ap (λ (z : Tally). z.first) tally) ∙ e) in
@@ -267,7 +266,7 @@ module _ (t : List ℕ) (clean : table_fault t ≡ 0) (owner id node : ℕ) (xs 
           ∙ ap (λ (qs : List Place). (resolve_in (symbols_of t) k node xs (map (overload_at t) qs)).diags) (sym z) ∙ same_diags)
 
       -- one fits, and the first that does stands at p
-      pub answered_some : (p : Place) → w.first ≡ Here p → r ≡ called_with (settled_source t p w) w.count (settled_diags t p node xs w)
+      pub answered_some : (p : Place) → w.first ≡ Some p → r ≡ called_with (settled_source t p w) w.count (settled_diags t p node xs w)
           → b' ≡ put_all b₁ w.count (settled_diags t p node xs w) → Answered
       answered_some p e f g =
           let z : ps ≡ p ∷ others ps = some_first ps p (sym (ap (λ (z : Tally). z.first) tally) ∙ e) in

@@ -5,7 +5,6 @@ use mathlib.Core.Bool.{Bool, true, false}
 use mathlib.Core.List.{List, [], ◌∷◌, ◌++◌, map, append_assoc, append-nil}
 use mathlib.Core.Path.{◌≡◌, refl, sym, ap, ◌∙◌, subst}
 use native.Mathlib.Omega.{arith}
-use Rattle.std.specs.Prelude.{None}
 use Rattle.area.proofs.Diagnostics.{put_all_none, put_all-append}
 use Rattle.area.specs.Diagnostic.{Diag, count_limit, put_all}
 use Rattle.overload.proofs.OverloadFold.{picked_snoc, picked_few, own-here, own_later, unknown_append}
@@ -25,8 +24,8 @@ use Rattle.symbol.specs.Inside.LookupAnswer.{overload_at}
 use Rattle.symbol.specs.Inside.Places.{first_place, function_places, places_behind, FirstPlaceIs, PlaceFound}
 use Rattle.symbol.specs.Lookup.{symbols_of}
 use Rattle.symbol.specs.Symbols.{Overload}
-use Rattle.index.specs.declared.index.Found.TheVariants.{Nothing, Here}
-use Rattle.index.specs.declared.index.Found.{Found}
+use Rattle.std.specs.Prelude.{None, Some}
+use Rattle.index.specs.Inside.Found.{Found}
 use Rattle.index.specs.declared.index.Place.{Place}
 use Rattle.ty.proofs.Choice.{by_choice}
 
@@ -42,18 +41,18 @@ places_few t x owner id h =
 
 -- ---- how many functions are left
 unfoldable pub left_of : List ℕ → Found → ℕ
-left_of t Nothing = 0
-left_of t (Here p) = suc (length (places_behind t p))
+left_of t None = 0
+left_of t (Some p) = suc (length (places_behind t p))
 
 module _ (t : List ℕ) where
-  left_falls : (p : Place) (g : Found) → PlaceFound t (places_behind t p) g → left_of t g < left_of t (Here p)
+  left_falls : (p : Place) (g : Found) → PlaceFound t (places_behind t p) g → left_of t g < left_of t (Some p)
   unfolding left_of
-  left_falls p Nothing w = omega arith
-  left_falls p (Here q) w =
+  left_falls p None w = omega arith
+  left_falls p (Some q) w =
       let e : length (places_behind t p) ≡ suc (length (places_behind t q)) = ap (λ (ps : List Place). length ps) w.first in
       omega arith
 
-  pub left_less : (f g : Found) (p : Place) → f ≡ Here p → PlaceFound t (places_behind t p) g → left_of t g < left_of t f
+  pub left_less : (f g : Found) (p : Place) → f ≡ Some p → PlaceFound t (places_behind t p) g → left_of t g < left_of t f
   left_less f g p e w = subst (λ (z : Found). left_of t g < left_of t z) (sym e) (left_falls p g w)
 
 -- ---- functions stand at some places
@@ -62,17 +61,17 @@ AllStand t [] = Unit {0}
 AllStand t (p ∷ ps) = FunctionAt t p × AllStand t ps
 
 module _ (t : List ℕ) where
-  pub first_stands : (ps : List Place) (p : Place) → AllStand t ps → first_place ps ≡ Here p → FunctionAt t p
+  pub first_stands : (ps : List Place) (p : Place) → AllStand t ps → first_place ps ≡ Some p → FunctionAt t p
   unfolding AllStand first_place
   first_stands [] p w e = absurd (never e)
     where
-      never : Nothing ≡ Here p → ⊥
+      never : None ≡ Some p → ⊥
       never q = let z : ◌≡◌ {A = ℕ} 0 1 = cc in omega arith
   first_stands (q ∷ ps) p w e = subst (λ (f : Found). PlaceAt f) e w.0
     where
       PlaceAt : Found → Type 0
-      PlaceAt Nothing = Unit {0}
-      PlaceAt (Here r) = FunctionAt t r
+      PlaceAt None = Unit {0}
+      PlaceAt (Some r) = FunctionAt t r
 
   append_stand : (ps qs : List Place) → AllStand t ps → AllStand t qs → AllStand t (ps ++ qs)
   unfolding AllStand
@@ -95,13 +94,13 @@ module _ (t : List ℕ) (all : List Overload) where
         same = ap (λ (os : List Overload). any_own os) (overloads_placed t clean owner id ∙ sym g);
       }
 
-  pub own_none : (f : Found) → f ≡ Nothing → OwnFrom t all f → false ≡ any_own all
+  pub own_none : (f : Found) → f ≡ None → OwnFrom t all f → false ≡ any_own all
   unfolding any_own
   own_none f e w =
       let h : w.left ≡ [] = subst (λ (z : Found). PlaceFound t w.left z) e w.rest in
       sym (ap (λ (ps : List Place). any_own (map (overload_at t) ps)) h) ∙ w.same
 
-  module _ (f : Found) (p : Place) (e : f ≡ Here p) (w : OwnFrom t all f) where
+  module _ (f : Found) (p : Place) (e : f ≡ Some p) (w : OwnFrom t all f) where
     own_is : FirstPlaceIs t w.left p
     own_is = subst (λ (z : Found). PlaceFound t w.left z) e w.rest
 
@@ -135,7 +134,7 @@ pub record Walking (t : List ℕ) (owner id : ℕ) (k : Bool) (n : ℕ) (xs : Li
 
 module _ (t : List ℕ) (owner id : ℕ) (k : Bool) (n : ℕ) (xs : List Arg) (b₀ : List ℕ) (n₀ : ℕ) where
   pub walk_start : (f : Found) → PlaceFound t (function_places t owner id) f
-      → Walking t owner id k n xs b₀ n₀ b₀ f (record { first = Nothing; fitting = 0; highest = None; count = n₀ })
+      → Walking t owner id k n xs b₀ n₀ b₀ f (record { first = None; fitting = 0; highest = None; count = n₀ })
   unfolding picked all_unknown
   walk_start f v =
       record {
@@ -156,7 +155,7 @@ module _ (t : List ℕ) (owner id : ℕ) (k : Bool) (n : ℕ) (xs : List Arg) (b
         let few = places_few t x owner id h in
         tally_room t xs n₀ w (picked t k n is.done) is.tally (omega arith) short room
 
-    module _ (e : f ≡ Nothing) where
+    module _ (e : f ≡ None) where
       walk_all : is.done ≡ function_places t owner id
       walk_all =
           let h : is.left ≡ [] = subst (λ (z : Found). PlaceFound t is.left z) e is.rest in
@@ -168,7 +167,7 @@ module _ (t : List ℕ) (owner id : ℕ) (k : Bool) (n : ℕ) (xs : List Arg) (b
       pub walk_buffer : b ≡ put_all b₀ n₀ (all_unknown_at t (picked t k n (function_places t owner id)) xs)
       walk_buffer = is.buffer ∙ ap (λ (ps : List Place). put_all b₀ n₀ (all_unknown_at t (picked t k n ps) xs)) walk_all
 
-    module _ (p : Place) (e : f ≡ Here p) where
+    module _ (p : Place) (e : f ≡ Some p) where
       walk_is : FirstPlaceIs t is.left p
       walk_is = subst (λ (z : Found). PlaceFound t is.left z) e is.rest
 
@@ -231,6 +230,6 @@ module _ (t : List ℕ) (clean : table_fault t ≡ 0) where
 
   -- the first that fits
   pub tally_place : (k : Bool) (n owner id : ℕ) (xs : List Arg) (n₀ : ℕ) (w : Tally) (p : Place)
-      → w ≡ tally_of t xs n₀ (picked t k n (function_places t owner id)) → w.first ≡ Here p → FunctionAt t p
+      → w ≡ tally_of t xs n₀ (picked t k n (function_places t owner id)) → w.first ≡ Some p → FunctionAt t p
   tally_place k n owner id xs n₀ w p e g =
       first_stands t (picked t k n (function_places t owner id)) p (places_stand k n owner id) (sym (ap (λ (z : Tally). z.first) e) ∙ g)

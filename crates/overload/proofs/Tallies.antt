@@ -4,7 +4,8 @@ use lib.ListN.{length, length-append, length-map}
 use mathlib.Core.List.{List, [], ◌∷◌, ◌++◌, map, append_assoc, append-nil}
 use mathlib.Core.Option.{Option}
 use mathlib.Core.Path.{◌≡◌, refl, sym, ap, ◌∙◌}
-use Rattle.std.specs.Prelude.{Option as Maybe, None}
+use Rattle.std.specs.Option.{option_or}
+use Rattle.std.specs.Prelude.{Option as Maybe, Some, None}
 use native.Mathlib.Nat.{add-zero}
 use native.Mathlib.Omega.{arith}
 use Rattle.area.proofs.Diagnostics.{put_all_none}
@@ -16,11 +17,10 @@ use Rattle.overload.specs.ByIndex.{unknowns, all_unknown}
 use Rattle.overload.specs.Inside.BestPlace.{BestPlace, nowhere, chosen_from, chosen_at}
 use Rattle.scoring.specs.Inside.Params.{params_in}
 use Rattle.scoring.specs.Score.{score}
-use Rattle.overload.specs.Inside.Tally.{many_of, highest_at, higher_with, first_of, unknowns_at, all_unknown_at, tally_with, tally_more, tally_of, most_diagnostics, Room}
+use Rattle.overload.specs.Inside.Tally.{many_of, highest_at, higher_with, unknowns_at, all_unknown_at, tally_with, tally_more, tally_of, most_diagnostics, Room}
 use Rattle.overload.specs.declared.calls.Highest.{Highest}
 use Rattle.overload.specs.declared.calls.Tally.{Tally}
-use Rattle.index.specs.declared.index.Found.TheVariants.{Nothing}
-use Rattle.index.specs.declared.index.Found.{Found}
+use Rattle.index.specs.Inside.Found.{Found}
 use Rattle.index.specs.declared.index.Place.{Place}
 use Rattle.symbol.specs.Inside.FunctionFields.{function_at}
 use Rattle.symbol.specs.Inside.LookupAnswer.{overload_at, overload_in}
@@ -32,7 +32,7 @@ use Rattle.symbol.specs.declared.functions.Function.{Function}
 module _ (t : List ℕ) (xs : List Arg) where
   -- ---- one overload that fits, at the place p, which was read as f
   pub tally_taken : (w : Tally) (p : Place) (f : Function) → f ≡ function_at t p → overload_in t f ≡ overload_at t p → (q : Found) (s : Option ℕ) (h : Maybe Highest) (n : ℕ)
-      → q ≡ first_of w.first p → s ≡ score (symbols_of t) (overload_in t f) xs → h ≡ higher_with f.start f.len s w.highest
+      → q ≡ option_or w.first (Some p) → s ≡ score (symbols_of t) (overload_in t f) xs → h ≡ higher_with f.start f.len s w.highest
       → n ≡ w.count + length (unknowns (params_in t f.params) 1 xs)
       → ◌≡◌ {A = Tally} (record { first = q; fitting = w.fitting + 1; highest = h; count = n }) (tally_with t xs w p)
   tally_taken w p f e same q s h n first scored higher told =
@@ -61,11 +61,11 @@ module _ (t : List ℕ) (xs : List Arg) where
 
   -- ---- the tally of some overloads
   module _ (n : ℕ) where
-    pub tally_start : record { first = Nothing; fitting = 0; highest = None; count = n } ≡ tally_of t xs n []
+    pub tally_start : record { first = None; fitting = 0; highest = None; count = n } ≡ tally_of t xs n []
     unfolding first_place highest_at chosen_from all_unknown
-    tally_start = ap (λ (k : ℕ). record { first = Nothing; fitting = 0; highest = highest_at t nowhere; count = k }) (sym (add-zero n))
+    tally_start = ap (λ (k : ℕ). record { first = None; fitting = 0; highest = highest_at t nowhere; count = k }) (sym (add-zero n))
 
-    first_snoc : (ps : List Place) (p : Place) → first_of (first_place ps) p ≡ first_place (ps ++ (p ∷ []))
+    first_snoc : (ps : List Place) (p : Place) → option_or (first_place ps) (Some p) ≡ first_place (ps ++ (p ∷ []))
     unfolding first_place
     first_snoc [] p = refl
     first_snoc (q ∷ ps) p = refl

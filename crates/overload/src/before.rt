@@ -8,7 +8,7 @@ ghost use Rattle.overload.specs.Before.{suspend_allowed, suspend_report, call_re
 ghost use Rattle.overload.specs.Inside.Reported.{Reported};
 
 use crate::reports::report_if;
-use operators::ruled::Diagnostic;
+use area::DiagnosticKind;
 use question::Header;
 use rules::access::check_access;
 use symbol::lookups::is_suspend;
@@ -37,7 +37,7 @@ fn report_suspend(
         (at_node node (suspend_report (symbols_of table.now) header owner id)) }
 {
     let outside = suspends(table, index, header, owner, id);
-    report_if(outside, Diagnostic::SUSPEND, node, 0, buf, count)
+    report_if(outside, DiagnosticKind::Suspend, node, 0, buf, count)
 }
 
 // What a call of an ownerless function reports before its arguments are visited; answers the new count.
@@ -74,6 +74,6 @@ pub fn before_method(
         (at_node node (method_reports (symbols_of table.now) header vis owner id)) }
 {
     let blocked = check_access(table, index, header, vis, owner);
-    let more = report_if(blocked, Diagnostic::ACCESS, node, vis as usize, buf, count);
+    let more = report_if(blocked, DiagnosticKind::Access, node, vis as usize, buf, count);
     report_suspend(table, index, header, owner, id, node, buf, more)
 }

@@ -10,13 +10,12 @@ ghost use Rattle.scoring.specs.Inside.Scored.{score_of};
 ghost use Rattle.overload.specs.Resolve.{none_fits};
 ghost use Rattle.overload.specs.Inside.Picked.{taken, picked_in};
 ghost use Rattle.overload.specs.Inside.BestPlace.{error_source};
-ghost use Rattle.overload.specs.Inside.Tally.{many_of, higher_with, first_of, most_diagnostics, Room};
+ghost use Rattle.overload.specs.Inside.Tally.{many_of, higher_with, most_diagnostics, Room};
 ghost use Rattle.overload.specs.Inside.CallSource.{args_lent, TakesOne, TakesSome, TalliesAll, AnswersCall, SettlesCall, CallsAt};
 
 use crate::reports::{by_index, report_if, unknown_names};
-use area::{Source, report};
-use index::index::{Found, Place};
-use operators::ruled::Diagnostic;
+use area::{DiagnosticKind, Source, report};
+use index::index::Place;
 use scoring::args::Args;
 use scoring::arity::viable;
 use scoring::score::{Score, score_function};
@@ -37,7 +36,7 @@ pub struct Highest {
 // diagnostics there are.
 #[derive(Clone, Copy)]
 pub struct Tally {
-    pub first: Found,
+    pub first: Option<Place>,
     pub fitting: usize,
     pub highest: Option<Highest>,
     pub count: usize,
@@ -56,7 +55,7 @@ fn any_own(table: &[u8], index: &[u16], owner: u16, id: u16) -> bool
     ensures { result ≡ any_own ((symbols_of table.now).functions_of owner id) }
 {
     let mut c = Functions::first(table, index, owner, id);
-    while let Found::Here(p) = c.found() {
+    while let Some(p) = c.found() {
         if !is_builtin_function(table, p) {
             return true;
         }
@@ -95,16 +94,6 @@ fn higher(h: Option<Highest>, start: usize, len: usize, s: Option<Score>) -> Opt
     h
 }
 
-// The first that fits, where `found` is the first so far.
-fn first_of(found: Found, p: Place) -> Found
-    ensures { result ≡ first_of found p }
-{
-    match found {
-        Found::Nothing => Found::Here(p),
-        Found::Here(q) => Found::Here(q),
-    }
-}
-
 // One more overload, which fits: its unknown names are reported, and it is scored.
 fn take_one(
     table: &[u8],
@@ -123,7 +112,7 @@ fn take_one(
     let count = unknown_names(f.params, args, buf, w.count);
     let score = score_function(table, index, f, area, lens, args);
     Tally {
-        first: first_of(w.first, p),
+        first: w.first.or(Some(p)),
         fitting: w.fitting + 1,
         highest: higher(w.highest, f.start, f.len, score),
         count,
@@ -173,12 +162,12 @@ fn walk(
 {
     let mut c = Functions::first(table, index, owner, id);
     let mut w = Tally {
-        first: Found::Nothing,
+        first: None,
         fitting: 0,
         highest: None,
         count,
     };
-    while let Found::Here(p) = c.found() {
+    while let Some(p) = c.found() {
         w = turn(table, index, own, p, area, lens, args, w, buf);
         c = c.next(table, index);
     }
@@ -190,9 +179,9 @@ fn none_fits(own: bool, node: usize, n: usize, buf: &mut [u8], count: usize) -> 
     requires { count < count_limit }
     ensures { AnswersCall error_source count (none_fits own node n).diags buf result }
 {
-    let more = report_if(own, Diagnostic::ARGUMENT_COUNT, node, n, buf, count);
+    let more = report_if(own, DiagnosticKind::ArgumentCount, node, n, buf, count);
     Called {
-        source: Source::Kind(Kind::ERROR),
+        source: Source::Kind(Kind::Error),
         count: more,
     }
 }
@@ -215,7 +204,7 @@ fn settle(
     if let Some(best) = w.highest {
         let tied = report_if(
             1 < best.many,
-            Diagnostic::TIE,
+            DiagnosticKind::Tie,
             node,
             best.many,
             buf,
@@ -240,9 +229,9 @@ fn settle(
             count: checked,
         };
     }
-    let more = report(buf, w.count, Diagnostic::NO_MATCH, node, 0);
+    let more = report(buf, w.count, DiagnosticKind::NoMatch, node, 0);
     Called {
-        source: Source::Kind(Kind::ERROR),
+        source: Source::Kind(Kind::Error),
         count: more,
     }
 }
@@ -267,7 +256,7 @@ pub fn check_call_args(
     let own = any_own(table, index, owner, id);
     let w = walk(table, index, own, owner, id, area, lens, args, buf, count);
     match w.first {
-        Found::Nothing => none_fits(own, node, args.count, buf, w.count),
-        Found::Here(p) => settle(table, index, p, node, area, lens, args, w, buf),
+        None => none_fits(own, node, args.count, buf, w.count),
+        Some(p) => settle(table, index, p, node, area, lens, args, w, buf),
     }
 }

@@ -1,6 +1,7 @@
 // What is reported at single arguments.
 ghost use Rattle.std.specs.Prelude.{ℕ, ◌+◌, ◌≤◌, ◌<◌, ◌≡◌, List};
 ghost use Rattle.area.specs.Diagnostic.{count_limit};
+ghost use Rattle.area.specs.DiagnosticKind.{diagnostic_number};
 ghost use Rattle.index.specs.Inside.IndexedTable.{IndexedTable};
 ghost use Rattle.symbol.specs.Lookup.{symbols_of};
 ghost use Rattle.overload.specs.ByIndex.{unknowns, passes_by_index};
@@ -9,8 +10,7 @@ ghost use Rattle.scoring.specs.Inside.Params.{params_in};
 ghost use Rattle.overload.specs.Inside.Mismatch.{mismatches_in};
 ghost use Rattle.overload.specs.Inside.Reported.{diag_if, unknown, Reported};
 
-use area::report;
-use operators::ruled::Diagnostic;
+use area::{DiagnosticKind, report};
 use rules::accept::param_accepts;
 use scoring::args::Args;
 use scoring::score::named_place;
@@ -20,14 +20,14 @@ use ty::{Kind, NameId};
 // A diagnostic, where a test holds; answers the new count.
 pub fn report_if(
     test: bool,
-    kind: u8,
+    kind: DiagnosticKind,
     node: usize,
     number: usize,
     buf: &mut [u8],
     count: usize,
 ) -> usize
     requires { count < count_limit }
-    ensures { Reported buf.old count buf.new result (diag_if test kind node number) }
+    ensures { Reported buf.old count buf.new result (diag_if test (diagnostic_number kind) node number) }
 {
     if test {
         return report(buf, count, kind, node, number);
@@ -54,7 +54,7 @@ pub fn unknown_names(params: Params, args: Args, buf: &mut [u8], count: usize) -
         let test = unknown(params, args.names[i]);
         reported = report_if(
             test,
-            Diagnostic::UNKNOWN_NAME,
+            DiagnosticKind::UnknownName,
             args.nodes[i],
             i + 1,
             buf,
@@ -69,9 +69,10 @@ fn passes_by_index(table: &[u8], index: &[u16], p: &[u8], x: &[u8], vararg: bool
     requires { IndexedTable table.now index.now }
     ensures { result ≡ passes_by_index (symbols_of table.now) p.now x.now vararg }
 {
-    let k = ty::kind_of(x);
     param_accepts(table, index, p, x, vararg)
-        | ((ty::kind_of(p) == Kind::ANY) | ((k == Kind::ERROR) | (k == Kind::ANY)))
+        || ty::is_kind(p, Kind::Any)
+        || ty::is_kind(x, Kind::Error)
+        || ty::is_kind(x, Kind::Any)
 }
 
 // The check by index: each argument against the parameter at its place, as far as there are both.
@@ -95,7 +96,7 @@ pub fn by_index(
         let p = area::part(table, params.starts[i], params.lens[i]);
         let x = area::slot(area, lens, node);
         let passes = passes_by_index(table, index, p, x, params.varargs[i]);
-        reported = report_if(!passes, Diagnostic::MISMATCH, node, i + 1, buf, reported);
+        reported = report_if(!passes, DiagnosticKind::Mismatch, node, i + 1, buf, reported);
     }
     reported
 }

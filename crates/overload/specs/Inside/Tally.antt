@@ -1,5 +1,6 @@
 -- What the walk over a function list keeps.
 use Rattle.std.specs.Prelude.{ℕ, ◌+◌, ◌≤◌, List, [], ◌∷◌, map, eqb, ltb, length, Option as Maybe, Some, None}
+use Rattle.std.specs.Option.{option_or}
 use Rattle.std.proofs.Math.Option.{Option, none, some}
 use Rattle.ty.specs.Choose.{choose}
 use Rattle.symbol.specs.Lookup.{symbols_of}
@@ -7,8 +8,7 @@ use Rattle.symbol.specs.Inside.LookupAnswer.{overload_at}
 use Rattle.symbol.specs.Inside.FunctionFields.{function_at}
 use Rattle.symbol.specs.Inside.Places.{first_place}
 use Rattle.index.specs.declared.index.Place.{Place}
-use Rattle.index.specs.declared.index.Found.{Found}
-use Rattle.index.specs.declared.index.Found.TheVariants.{Nothing, Here}
+use Rattle.index.specs.Inside.Found.{Found}
 use Rattle.area.specs.Diagnostic.{Diag, count_limit}
 use Rattle.scoring.specs.Arg.{Arg}
 use Rattle.scoring.specs.Score.{score}
@@ -46,11 +46,6 @@ higher_with start len (some s) (Some h) =
 
 -- ---- the tally
 
--- the first that fits, once one more does
-abbrev pub first_of : Found → Place → Found
-first_of Nothing p = Here p
-first_of (Here q) p = Here q
-
 -- the unknown names among the arguments xs, of the overload at a place and of those at some places
 abbrev pub unknowns_at : List ℕ → Place → List Arg → List Diag
 unknowns_at t p xs = unknowns (overload_at t p).params 1 xs
@@ -62,7 +57,7 @@ all_unknown_at t ps xs = all_unknown (map (overload_at t) ps) xs
 abbrev pub tally_with : List ℕ → List Arg → Tally → Place → Tally
 tally_with t xs w p =
     record {
-      first = first_of w.first p;
+      first = option_or w.first (Some p);
       fitting = w.fitting + 1;
       highest = higher_with (function_at t p).start (function_at t p).len (score (symbols_of t) (overload_at t p) xs) w.highest;
       count = w.count + length (unknowns_at t p xs);

@@ -12,17 +12,17 @@ none_fits-requires c = let room = walked_room _ _ _ _ _ _ _ _ _ c.requires.0 c.w
 pub settle-requires : goal.settle-requires
 settle-requires c = (
   c.requires.0,
-  tally_place _ c.requires.0.clean _ _ _ _ _ _ _ _ c.walk-w.ensures.0 c.in-Here.is,
+  tally_place _ c.requires.0.clean _ _ _ _ _ _ _ _ c.walk-w.ensures.0 c.in-Some.is,
   c.requires.1,
   walked_room _ _ _ _ _ _ _ _ _ c.requires.0 c.walk-w.ensures.0 (args_short _ _ _ c.requires.1) c.requires.2,
 )
 
-pub returns-in-Nothing : goal.returns-in-Nothing
-returns-in-Nothing c = answered_none _ c.requires.0.clean _ _ _ _ _ _ c.any_own-own.ensures (sym (args_length _ _ _ 0 _)) _ _ _ _ _ _
+pub returns-in-None : goal.returns-in-None
+returns-in-None c = answered_none _ c.requires.0.clean _ _ _ _ _ _ c.any_own-own.ensures (sym (args_length _ _ _ 0 _)) _ _ _ _ _ _
     c.walk-w.ensures.0 c.walk-w.ensures.1
-    c.in-Nothing.is c.none_fits.ensures.0 c.none_fits.ensures.1
+    c.in-None.is c.none_fits.ensures.0 c.none_fits.ensures.1
 
-pub returns-in-Here : goal.returns-in-Here
-returns-in-Here c = answered_some _ c.requires.0.clean _ _ _ _ _ _ c.any_own-own.ensures (sym (args_length _ _ _ 0 _)) _ _ _ _ _ _ c.walk-w.ensures.0
+pub returns-in-Some : goal.returns-in-Some
+returns-in-Some c = answered_some _ c.requires.0.clean _ _ _ _ _ _ c.any_own-own.ensures (sym (args_length _ _ _ 0 _)) _ _ _ _ _ _ c.walk-w.ensures.0
     c.walk-w.ensures.1
-    _ c.in-Here.is c.settle.ensures.0 c.settle.ensures.1
+    _ c.in-Some.is c.settle.ensures.0 c.settle.ensures.1

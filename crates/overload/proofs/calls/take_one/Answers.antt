@@ -18,7 +18,7 @@ score_function-score-requires c = (c.requires.0, (read_is _ _ c.requires.1 _ c.r
 pub returns : goal.returns
 returns c = let told = c.unknown_names-count.ensures c.args.table.now c.args.area.now c.args.lens.now in
     let read = read_is _ _ c.requires.1 _ c.requires.2 in (
-      tally_taken _ _ c.args.w _ _ c.requires.2 read.same _ _ _ _ c.first_of.ensures (score_of_lem _ _ c.score_function-score.ensures)
+      tally_taken _ _ c.args.w _ _ c.requires.2 read.same _ _ _ _ c.or.ensures (score_of_lem _ _ c.score_function-score.ensures)
           c.higher.ensures told.count,
       told.buffer
           ∙ ap (λ (o : Overload). put_all c.args.buf.now c.args.w.count (unknowns o.params 1 (args_in c.args.area.now c.args.lens.now c.args.args)))

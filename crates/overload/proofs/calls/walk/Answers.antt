@@ -17,7 +17,7 @@ pub turn-w-requires : goal.turn-w-requires
 turn-w-requires c = (
   c.requires.0,
   walk_place _ _ _ _ _ _ _ _ _ _ _ c.loop-p.invariant.1 _
-      (cursor_here c.args.table.now c.loop-p.c c.found.result _ c.found.ensures c.in-Here.is),
+      (cursor_here c.args.table.now c.loop-p.c c.found.result _ c.found.ensures c.in-Some.is),
   c.requires.1,
   walk_room _ _ _ _ _ _ _ _ _ _ _ c.loop-p.invariant.1 _ c.requires.0 (args_short _ _ _ c.requires.1) c.requires.2,
 )
@@ -25,25 +25,25 @@ turn-w-requires c = (
 pub next-c-requires : goal.next-c-requires
 next-c-requires c = (
   c.requires.0,
-  cursor_stands c.args.table.now c.loop-p.c c.found.result _ c.found.ensures c.in-Here.is
+  cursor_stands c.args.table.now c.loop-p.c c.found.result _ c.found.ensures c.in-Some.is
       c.loop-p.invariant.2,
 )
 
 pub loop-p-smaller : goal.loop-p-smaller
-loop-p-smaller c = left_less _ _ _ _ (cursor_here c.args.table.now c.loop-p.c c.found.result _ c.found.ensures c.in-Here.is)
+loop-p-smaller c = left_less _ _ _ _ (cursor_here c.args.table.now c.loop-p.c c.found.result _ c.found.ensures c.in-Some.is)
     (next_placed _ c.requires.0.clean _ (walk_place _ _ _ _ _ _ _ _ _ _ _ c.loop-p.invariant.1 _
-    (cursor_here c.args.table.now c.loop-p.c c.found.result _ c.found.ensures c.in-Here.is)) _
-    (cursor_next c.args.table.now c.loop-p.c c.found.result _ c.found.ensures c.in-Here.is c.next-c.result c.next-c.ensures))
+    (cursor_here c.args.table.now c.loop-p.c c.found.result _ c.found.ensures c.in-Some.is)) _
+    (cursor_next c.args.table.now c.loop-p.c c.found.result _ c.found.ensures c.in-Some.is c.next-c.result c.next-c.ensures))
 
 pub loop-p-preserved : goal.loop-p-preserved
 loop-p-preserved c = (
   c.turn-w.auto.buf ∙ c.loop-p.invariant.0,
   walk_on _ _ _ _ _ _ _ _ _ _ _ c.loop-p.invariant.1 _ (cursor_here c.args.table.now c.loop-p.c c.found.result _ c.found.ensures
-      c.in-Here.is) _ _ _ c.turn-w.ensures.0 c.turn-w.ensures.1
+      c.in-Some.is) _ _ _ c.turn-w.ensures.0 c.turn-w.ensures.1
       (next_placed _ c.requires.0.clean _ (walk_place _ _ _ _ _ _ _ _ _ _ _ c.loop-p.invariant.1 _
-      (cursor_here c.args.table.now c.loop-p.c c.found.result _ c.found.ensures c.in-Here.is)) _
-      (cursor_next c.args.table.now c.loop-p.c c.found.result _ c.found.ensures c.in-Here.is c.next-c.result c.next-c.ensures)),
+      (cursor_here c.args.table.now c.loop-p.c c.found.result _ c.found.ensures c.in-Some.is)) _
+      (cursor_next c.args.table.now c.loop-p.c c.found.result _ c.found.ensures c.in-Some.is c.next-c.result c.next-c.ensures)),
   along_next c.args.table.now c.requires.0.clean c.loop-p.c
-      (cursor_stands c.args.table.now c.loop-p.c c.found.result _ c.found.ensures c.in-Here.is c.loop-p.invariant.2) c.next-c.result
+      (cursor_stands c.args.table.now c.loop-p.c c.found.result _ c.found.ensures c.in-Some.is c.loop-p.invariant.2) c.next-c.result
       c.next-c.ensures,
 )
