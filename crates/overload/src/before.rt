@@ -74,6 +74,13 @@ pub fn before_method(
         (at_node node (method_reports (symbols_of table.now) header vis owner id)) }
 {
     let blocked = check_access(table, index, header, vis, owner);
-    let more = report_if(blocked, DiagnosticKind::Access, node, vis as usize, buf, count);
+    let more = report_if(
+        blocked,
+        DiagnosticKind::Access,
+        node,
+        vis as usize,
+        buf,
+        count,
+    );
     report_suspend(table, index, header, owner, id, node, buf, more)
 }

@@ -96,7 +96,14 @@ pub fn by_index(
         let p = area::part(table, params.starts[i], params.lens[i]);
         let x = area::slot(area, lens, node);
         let passes = passes_by_index(table, index, p, x, params.varargs[i]);
-        reported = report_if(!passes, DiagnosticKind::Mismatch, node, i + 1, buf, reported);
+        reported = report_if(
+            !passes,
+            DiagnosticKind::Mismatch,
+            node,
+            i + 1,
+            buf,
+            reported,
+        );
     }
     reported
 }

@@ -8,7 +8,6 @@ use Rattle.symbol.specs.Inside.LookupAnswer.{overload_at}
 use Rattle.symbol.specs.Inside.FunctionFields.{function_at}
 use Rattle.symbol.specs.Inside.Places.{first_place}
 use Rattle.index.specs.declared.index.Place.{Place}
-use Rattle.index.specs.Inside.Found.{Found}
 use Rattle.area.specs.Diagnostic.{Diag, count_limit}
 use Rattle.scoring.specs.Arg.{Arg}
 use Rattle.scoring.specs.Score.{score}
