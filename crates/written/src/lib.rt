@@ -38,8 +38,8 @@ pub fn put_two(n: usize, out: &mut [u8], at: usize)
     requires { at + 2 ≤ length out.old }
     ensures { out.new ≡ sets out.old at (two_bytes n) }
 {
-    out[at] = (n % 256) as u8;
-    out[at + 1] = (n / 256 % 256) as u8;
+    let low = (n % 65_536) as u16;
+    copy_in(out, at, &low.to_le_bytes());
 }
 
 // Refuses: nothing is written.
