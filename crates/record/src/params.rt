@@ -65,8 +65,7 @@ impl Reading {
                 top: self.top.max(top),
                 repeated: self.repeated,
             }),
-            Err(TypeFault::Cut) => Err(ReadFault::Broken),
-            Err(TypeFault::Malformed) => Err(ReadFault::Broken),
+            Err(TypeFault::Cut | TypeFault::Malformed) => Err(ReadFault::Broken),
         }
     }
 
@@ -112,7 +111,7 @@ fn read_params(s: &[u8], count: usize) -> Result<Reading, ReadFault>
 {
     let high = or_none(id_at(s, 1)).max(id_at(s, 3));
     let mut c = Reading::new(high).typed(s, 8)?;
-    for n in 0..count {
+    for _n in 0..count {
         c = c.step(s)?;
     }
     Ok(c)
