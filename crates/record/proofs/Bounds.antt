@@ -1,14 +1,16 @@
 -- A record has at least a byte, and no more than there are.
 use Prim.Native.Nat.{ℕ, ◌≤◌, ◌<◌}
-use borrow.Author.Tests.{ltb-false}
+use borrow.Author.Tests.{ltb-false, lt-ltb}
 use lib.Dec.{eqb, ltb}
 use lib.ListN.{length, get_or, drop}
 use mathlib.Core.Bool.{Bool}
 use mathlib.Core.List.{List}
+use mathlib.Core.Path.{◌≡◌, refl}
 use native.Mathlib.Omega.{arith}
 use Rattle.std.proofs.Common.{Result, Ok, Err}
-use Rattle.ty.proofs.Choice.{by_choice}
+use Rattle.ty.proofs.Choice.{by_choice, choose_yes}
 use Rattle.ty.specs.Bytes.{id_at}
+use Rattle.ty.specs.Choose.{choose}
 use Rattle.ty.specs.Read.{read_type, longest_type}
 use Rattle.ty.specs.declared.read.TypeFault.TheVariants.{Cut, Malformed, Endless}
 use Rattle.ty.specs.declared.read.TypeFault.{TypeFault}
@@ -97,3 +99,22 @@ module _ (s : List ℕ) (some : 0 < length s) where
       by_choice (Bounded s) (eqb (get_or s 0 0) 6) (λ _. visibility) λ _.
       by_choice (Bounded s) (eqb (get_or s 0 0) 7) (λ _. suspend) λ _.
       by_choice (Bounded s) (eqb (get_or s 0 0) 8) (λ _. variant) (λ _. broken)
+
+-- and one of less than 5 bytes is malformed
+pub short_head : (kind : ℕ) (s : List ℕ) → length s < 5 → head_by kind s ≡ broken_head s
+unfolding head_by name_head class_head operators_head function_head field_head visibility_head suspend_head variant_head plain_head
+short_head kind s h =
+    by_choice Is (eqb kind 1) (λ _. cut 26 _ (omega arith)) λ _.
+    by_choice Is (eqb kind 2) (λ _. cut 8 _ (omega arith)) λ _.
+    by_choice Is (eqb kind 3) (λ _. cut 5 _ h) λ _.
+    by_choice Is (eqb kind 4) (λ _. cut 8 _ (omega arith)) λ _.
+    by_choice Is (eqb kind 5) (λ _. cut 5 _ h) λ _.
+    by_choice Is (eqb kind 6) (λ _. cut 6 _ (omega arith)) λ _.
+    by_choice Is (eqb kind 7) (λ _. cut 5 _ h) λ _.
+    by_choice Is (eqb kind 8) (λ _. cut 5 _ h) (λ _. refl)
+  where
+    Is : Front → Type 0
+    Is f = f ≡ broken_head s
+
+    cut : (n : ℕ) (f : Front) → length s < n → choose (ltb (length s) n) (broken_head s) f ≡ broken_head s
+    cut n f l = choose_yes _ _ _ (lt-ltb (length s) n l)

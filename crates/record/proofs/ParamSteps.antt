@@ -1,6 +1,6 @@
 -- The reading of a function's parameters: where it stands after each, and one turn of it.
 use Prim.Native.Nat.{ℕ, zero, suc, ◌+◌, ◌-◌, ◌≤◌, ◌<◌, max}
-use borrow.Author.Tests.{eqb-true, ltb-false}
+use borrow.Author.Tests.{eqb-true, ltb-false, le-ltb}
 use lib.Dec.{eqb, ltb}
 use lib.ListN.{length, get_or, take, drop}
 use mathlib.Core.Bool.{Bool, true, false, not, ◌||◌}
@@ -8,7 +8,7 @@ use mathlib.Core.List.{List}
 use mathlib.Core.Path.{◌≡◌, refl, sym, ap, ◌∙◌}
 use native.Mathlib.Numerals.{add-one}
 use native.Mathlib.Omega.{arith}
-use Rattle.ty.proofs.Choice.{by_choice}
+use Rattle.ty.proofs.Choice.{by_choice, passed}
 use Rattle.ty.specs.Bytes.{id_at}
 use Rattle.ty.specs.Read.{read_type, longest_type}
 use Rattle.ty.specs.declared.read.TypeFault.TheVariants.{Cut, Malformed, Endless}
@@ -20,7 +20,7 @@ use Rattle.record.proofs.RecordParts.{or_true}
 use Rattle.record.proofs.Types.{ends_in}
 use Rattle.record.specs.Inside.Front.{param_step, param_with, run_params, result_with, first_reading, or_none, stopped, params_read}
 use Rattle.record.specs.Inside.Walk.{EndsIn}
-use Rattle.record.specs.Inside.Front.{Front, Run, run_of, reading_answer, unread, param_named, type_passed, typed_answer, among, broken_head, function_read, function_with, field_with}
+use Rattle.record.specs.Inside.Front.{Front, Run, run_of, reading_answer, unread, param_named, type_passed, typed_answer, among, broken_head, function_read, function_with, field_with, field_head}
 use Rattle.record.specs.declared.params.Reading.{Reading}
 use Rattle.record.specs.declared.params.ReadFault.{ReadFault}
 use Rattle.record.specs.declared.params.ReadFault.TheVariants.{Broken, Endless as without_end}
@@ -84,13 +84,18 @@ pub answer_first : (s : List ℕ) (c : Reading) (high : ℕ) → run_of c ≡ un
 answer_first s c high e h = rw (e, h) (answer_result (max (or_none (id_at s 1)) (id_at s 3)) (read_type (drop 8 s) longest_type))
 
 -- a record with types by what the code answers for them
-pub answer_field : (s : List ℕ) (r : Result TypeRead TypeFault)
+field_answer : (s : List ℕ) (r : Result TypeRead TypeFault)
     → typed_answer s 5 (reading_answer (type_passed (unread (max (id_at s 1) (id_at s 3))) 5 r)) ≡ field_with s (id_at s 1) (id_at s 3) r
 unfolding reading_answer choose
-answer_field s (Ok found) = refl
-answer_field s (Err Cut) = refl
-answer_field s (Err Malformed) = refl
-answer_field s (Err (Endless top e)) = refl
+field_answer s (Ok found) = refl
+field_answer s (Err Cut) = refl
+field_answer s (Err Malformed) = refl
+field_answer s (Err (Endless top e)) = refl
+
+pub answer_field : (s : List ℕ) → 5 ≤ length s
+    → typed_answer s 5 (reading_answer (type_passed (unread (max (id_at s 1) (id_at s 3))) 5 (read_type (drop 5 s) longest_type))) ≡ field_head s
+unfolding field_head
+answer_field s h = passed (ltb (length s) 5) _ _ _ (le-ltb _ _ h) (field_answer s (read_type (drop 5 s) longest_type))
 
 -- a type without end is an error
 abbrev pub Endlessly : Run → Type 0

@@ -1,7 +1,7 @@
 // Reading one record from the front of a slice.
 ghost use Rattle.std.specs.Prelude.{◌≡◌, ◌<◌, length};
 ghost use Rattle.record.specs.RecordKind.{record_kind_number, RecordKindIs};
-ghost use Rattle.record.specs.Inside.Front.{front_at, plain_head, or_none, good_byte, good_bytes, name_head, field_head, head_by};
+ghost use Rattle.record.specs.Inside.Front.{front_at, plain_head, or_none, good_byte, good_bytes, name_head, head_by};
 ghost use Rattle.record.specs.Inside.Walk.{HeadIs};
 
 use crate::params::{Reading, read_function_head, typed_record};
@@ -152,16 +152,6 @@ fn read_name(s: &[u8]) -> Option<Head>
     )
 }
 
-fn read_field(s: &[u8]) -> Option<Head>
-    ensures { front_at s.now result ≡ field_head s.now }
-{
-    if s.len() < 5 {
-        return None;
-    }
-    let high = id_at(s, 1).max(id_at(s, 3));
-    typed_record(s, RecordKind::Field, Reading::new(high).typed(s, 5))
-}
-
 // The record at the front of s, and none where it is malformed or cut.
 #[tactic(auto, using(crate::proofs::Bounds::head_bounded, crate::proofs::RecordSizes::no_kind), unfolding(crate::specs::Inside::Front::front_of))]
 pub fn read_record(s: &[u8]) -> Option<Head>
@@ -174,10 +164,13 @@ pub fn read_record(s: &[u8]) -> Option<Head>
     }
 }
 
-#[tactic(auto, unfolding(crate::specs::Inside::Front::head_by, crate::specs::Inside::Front::class_head, crate::specs::Inside::Front::operators_head, crate::specs::Inside::Front::visibility_head, crate::specs::Inside::Front::suspend_head, crate::specs::Inside::Front::variant_head, ty::specs::Choose::choose))]
+#[tactic(auto, unfolding(crate::specs::Inside::Front::head_by, ty::specs::Choose::choose))]
 fn read_kind(s: &[u8], kind: RecordKind) -> Option<Head>
     ensures { front_at s.now result ≡ head_by (record_kind_number kind) s.now }
 {
+    if s.len() < 5 {
+        return None;
+    }
     let one = id_at(s, 1);
     let two = id_at(s, 3);
     match kind {
@@ -188,7 +181,7 @@ fn read_kind(s: &[u8], kind: RecordKind) -> Option<Head>
         }
         RecordKind::Operators => plain(s, 5, 2047 < two, kind, one, two, one),
         RecordKind::Function => read_function_head(s),
-        RecordKind::Field => read_field(s),
+        RecordKind::Field => typed_record(s, kind, Reading::new(one.max(two)).typed(s, 5)),
         RecordKind::Visibility => plain(s, 6, 3 < byte_at(s, 5), kind, one, two, one.max(two)),
         RecordKind::Suspend => plain(s, 5, false, kind, one, two, or_none(one).max(two)),
         RecordKind::Variant => plain(s, 5, false, kind, one, two, one.max(two)),

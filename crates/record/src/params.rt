@@ -7,7 +7,7 @@ ghost use Rattle.record.specs.Inside.Front.{first_reading, params_read, typed_an
 
 use crate::front::{Head, LONGEST, RecordKind, or_none};
 use ty::read::read_type;
-use ty::{TypeFault, byte_at, id_at, tail};
+use ty::{TypeFault, byte_at, id_at};
 
 // The result and the parameters read so far: the bytes passed, the highest id, whether a name was repeated, whether Error was met, how many parameters there
 // are, and their names.
@@ -54,7 +54,7 @@ impl Reading {
         requires { at ≤ length s.now }
         ensures { result ≡ reading_answer (type_passed (run_of self) at (read_type (drop at s.now) longest_type)) }
     {
-        match read_type(tail(s, at), LONGEST) {
+        match read_type(&s[at..], LONGEST) {
             Ok(found) => Ok(Reading {
                 len: at + found.len,
                 top: self.top.max(found.top),
