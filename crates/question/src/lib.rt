@@ -60,6 +60,7 @@ const LONGEST_QUESTION: usize = 16384;
 const HEADER_BYTES: usize = 5;
 
 // The header of a question, with 0 for each byte that is not there.
+#[tactic(auto, unfolding(crate::specs::Header::header_of))]
 pub fn read_header(question: &[u8]) -> Header
     ensures { result ≡ header_of question.now }
 {
@@ -77,6 +78,7 @@ fn none_or_defined(id: u16, names: Names) -> bool
 }
 
 // The header is there, and its ids are none or defined.
+#[tactic(auto, unfolding(crate::specs::QuestionRefused::header_fault, ty::specs::Choose::choose))]
 fn check_header(question: &[u8], names: Names) -> Result<(), QuestionFault>
     ensures { number_of result ≡ header_fault names question.now }
 {
@@ -90,6 +92,7 @@ fn check_header(question: &[u8], names: Names) -> Result<(), QuestionFault>
     Err(QuestionFault::UndefinedId)
 }
 
+#[tactic(auto, unfolding(crate::specs::Inside::Top::id_fault, ty::specs::Choose::choose))]
 fn check_id(id: u16, names: Names) -> Result<(), QuestionFault>
     ensures { number_of result ≡ id_fault names id }
 {
@@ -151,6 +154,7 @@ fn more(read: Result<Node, NodeFault>) -> QuestionFault
 }
 
 // What stands where the tree ends.
+#[tactic(auto, unfolding(crate::specs::QuestionRefused::end_fault, ty::specs::Choose::choose))]
 fn check_end(question: &[u8], at: usize) -> Result<(), QuestionFault>
     ensures { number_of result ≡ end_fault question.now at }
 {
@@ -182,6 +186,7 @@ fn check_tree(question: &[u8], names: Names) -> Result<(), QuestionFault>
 }
 
 // Whether a question is accepted, or why it is refused.
+#[tactic(auto, using(crate::proofs::Faults::failed, crate::proofs::Faults::some_number), unfolding(crate::specs::QuestionRefused::question_fault, ty::specs::Choose::choose))]
 pub fn check_question(question: &[u8], names: Names) -> Result<(), QuestionFault>
     ensures { number_of result ≡ question_fault names question.now }
 {

@@ -47,6 +47,7 @@ const LONGEST_TYPE: u16 = 192;
 pub const MOST_NODES: usize = 64;
 
 // A leaf, whose type stands at the front of some bytes.
+#[tactic(auto, unfolding(crate::specs::NodeRead::leaf_of))]
 fn leaf(s: &[u8]) -> Result<Node, NodeFault>
     ensures { read_of result ≡ leaf_of (read_type s.now longest_type) }
 {
@@ -74,6 +75,7 @@ fn if_there(there: bool, node: Node) -> Result<Node, NodeFault>
 }
 
 // A binary node of which so many bytes are there.
+#[tactic(auto, using(crate::proofs::Operators::known_binary, crate::proofs::Operators::unknown_binary))]
 fn binary(there: usize, op: u8) -> Result<Node, NodeFault>
     ensures { read_of result ≡ choose (leb 2 there && leb op last_binary) (Binary op) Bad }
 {
@@ -84,6 +86,7 @@ fn binary(there: usize, op: u8) -> Result<Node, NodeFault>
 }
 
 // A unary one.
+#[tactic(auto, using(crate::proofs::Operators::known_unary, crate::proofs::Operators::unknown_unary))]
 fn unary(there: usize, op: u8) -> Result<Node, NodeFault>
     ensures { read_of result ≡ choose (leb 2 there && leb op last_unary) (Unary op) Bad }
 {
@@ -111,6 +114,7 @@ fn node_of(k: u8, there: usize, op: u8, id: u16, count: u8) -> Result<Node, Node
 }
 
 // The node at the front of some bytes. Its kind is the first byte, as a type's is.
+#[tactic(auto, unfolding(crate::specs::NodeRead::node_in, ty::specs::Choose::choose))]
 fn node_in(s: &[u8]) -> Result<Node, NodeFault>
     ensures { read_of result ≡ node_in s.now }
 {
@@ -122,6 +126,7 @@ fn node_in(s: &[u8]) -> Result<Node, NodeFault>
 }
 
 // The node at a position.
+#[tactic(auto, unfolding(crate::specs::NodeRead::node_at))]
 pub fn node_at(q: &[u8], at: usize) -> Result<Node, NodeFault>
     ensures { read_of result ≡ node_at q.now at }
 {
