@@ -1,8 +1,9 @@
 -- The kinds of diagnostics. Document 01, "Answer": kinds 1 to 23. The number beside a kind is 0 where none is given.
 use Rattle.std.specs.Prelude.{ℕ}
 use Rattle.area.specs.declared.DiagnosticKind.{DiagnosticKind}
-use Rattle.area.specs.declared.DiagnosticKind.TheVariants.{NullableOperands, Plus, Numeric, Unrelated, NotComparable, Logical, Bitwise, NullableUnary, Minus, Not}
-use Rattle.area.specs.declared.DiagnosticKind.TheVariants.{Step, Dereference, NotNull, Suspend, ArgumentCount, UnknownName, Mismatch, NoMatch, Tie, Access, NullableMember, Unresolved, NoMembers}
+use Rattle.area.specs.declared.DiagnosticKind.TheVariants.{NullableOperands, Plus, Numeric, Unrelated, NotComparable, Logical, Bitwise, NullableUnary}
+use Rattle.area.specs.declared.DiagnosticKind.TheVariants.{Minus, Not, Step, Dereference, NotNull, Suspend, ArgumentCount, UnknownName}
+use Rattle.area.specs.declared.DiagnosticKind.TheVariants.{Mismatch, NoMatch, Tie, Access, NullableMember, Unresolved, NoMembers}
 
 -- nullable operands
 abbrev pub nullable_operands_diag : ℕ
