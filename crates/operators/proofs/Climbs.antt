@@ -4,7 +4,7 @@ use borrow.Author.Tests.{eqb-true, eqb-false, ne_eqb}
 use lib.Dec.{eqb}
 use mathlib.Core.Bool.{Bool, true, false}
 use mathlib.Core.List.{List}
-use mathlib.Core.Option.{Option, none}
+use mathlib.Core.Option.{Option, none, some}
 use Rattle.std.specs.Prelude.{None, Some}
 use mathlib.Core.Path.{◌≡◌, refl, ap, ◌∙◌}
 use native.Mathlib.Nat.{not-suc-le-zero}
@@ -104,16 +104,17 @@ module _ (t : List ℕ) (op class : ℕ) where
     unfolding class_place
     no_set g r h e = (stepped g.fuel g.left g.same).2 ∙ rw (← h, e)
 
-    module _ (g : Going t op class c) (r : Mask) (m : ℕ) (h : mask_of r ≡ (symbols_of t).operators_of c) (e : r ≡ mask.Is m) where
-      pub has_method : has_operator m op ≡ true → climb_place_from t op class ≡ Some (first_result_place t c (method_id op))
+    -- where there is a set m, u says whether the operator is in it
+    module _ (g : Going t op class c) (m : ℕ) (h : some m ≡ (symbols_of t).operators_of c) (u : Bool) (v : u ≡ has_operator m op) where
+      pub has_method : u ≡ true → climb_place_from t op class ≡ Some (first_result_place t c (method_id op))
       unfolding class_place choose
-      has_method b = (stepped g.fuel g.left g.same).2 ∙ rw (← h, e, b)
+      has_method b = (stepped g.fuel g.left g.same).2 ∙ rw (← h, ← v, b)
 
-      pub going_up : table_fault t ≡ 0 → has_operator m op ≡ false → Going t op class ((symbols_of t).super_of c)
+      pub going_up : u ≡ false → table_fault t ≡ 0 → (d : ℕ) → d ≡ (symbols_of t).super_of c → Going t op class d
       unfolding class_place choose
-      going_up a b =
+      going_up b a d q =
           let s = stepped g.fuel g.left g.same in
-          record { fuel = s.0; left = omega (arith, super_below t a c n, s.1, g.left); same = s.2 ∙ rw (← h, e, b) }
+          rw q (record { fuel = s.0; left = omega (arith, super_below t a c n, s.1, g.left); same = s.2 ∙ rw (← h, ← v, b) })
 
--- the loop's start, its ends and its measure
-pub ruleset climb_steps = (going_first, going_end, no_set, super_below)
+-- the loop's start, its steps, its ends and its measure
+pub ruleset climb_steps = (going_first, going_end, no_set, has_method, going_up, super_below)

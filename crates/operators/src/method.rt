@@ -45,17 +45,12 @@ fn climb(table: &[u8], index: &[u16], op: u8, class: u16) -> Option<Source>
 {
     let mut at = class;
     while at != NameId::NONE {
-        let set = operators_of(table, index, at);
-        match set {
-            Mask::Nothing => {
-                return None;
+        match operators_of(table, index, at) {
+            Mask::Nothing => return None,
+            Mask::Is(mask) if has_operator(mask, op) => {
+                return Some(first_result(table, index, at, NameId::PLUS + op as u16));
             }
-            Mask::Is(mask) => {
-                if has_operator(mask, op) {
-                    return Some(first_result(table, index, at, NameId::PLUS + op as u16));
-                }
-                at = superclass_of(table, index, at);
-            }
+            Mask::Is(_) => at = superclass_of(table, index, at),
         }
     }
     None
