@@ -16,10 +16,13 @@ use Rattle.overload.specs.Inside.Picked.{taken, picked}
 use Rattle.overload.specs.Inside.Tally.{all_unknown_at, tally_more, tally_of, most_diagnostics, Room}
 use Rattle.overload.specs.declared.calls.Tally.{Tally}
 use Rattle.symbol.proofs.AcceptedTable.{functions_few as list-few}
+use Rattle.symbol.proofs.FunctionCursors.{first-here, along_first, along_next, cursor_here, cursor_stands, cursor_next}
 use Rattle.symbol.proofs.FunctionLists.{overloads_placed, first-placed, next_placed}
 use Rattle.index.specs.Inside.IndexedTable.{IndexedTable}
 use Rattle.index.specs.Inside.Found.{FunctionAt}
 use Rattle.record.specs.TableRefused.{table_fault}
+use Rattle.symbol.specs.Inside.FunctionCursor.{functions_first, functions_next, found_here, AtFunction, Along}
+use Rattle.symbol.specs.declared.lookups.Functions.{Functions}
 use Rattle.symbol.specs.Inside.LookupAnswer.{overload_at}
 use Rattle.symbol.specs.Inside.Places.{first_place, function_places, places_behind, FirstPlaceIs, PlaceFound}
 use Rattle.symbol.specs.Lookup.{symbols_of}
@@ -52,8 +55,37 @@ module _ (t : List ℕ) where
       let e : length (places_behind t p) ≡ suc (length (places_behind t q)) = ap (λ (ps : List Place). length ps) w.first in
       omega arith
 
-  pub left_less : (f g : Found) (p : Place) → f ≡ Some p → PlaceFound t (places_behind t p) g → left_of t g < left_of t f
-  left_less f g p e w = subst (λ (z : Found). left_of t g < left_of t z) (sym e) (left_falls p g w)
+-- ---- a cursor at the first of the places that are left
+pub record CursorAt (t : List ℕ) (left : List Place) (c : Functions) : Type 0 where
+  pub rest : PlaceFound t left (found_here c)
+  pub along : Along t c
+
+module _ (t : List ℕ) (clean : table_fault t ≡ 0) where
+  cursor_first : (owner id : ℕ) (c : Functions) → c ≡ functions_first t owner id → CursorAt t (function_places t owner id) c
+  cursor_first owner id c e =
+      record { rest = first-placed t clean owner id (found_here c) (first-here t owner id c e); along = along_first t clean owner id c e }
+
+  module _ (left : List Place) (c : Functions) (w : CursorAt t left c) (r : Found) (e : r ≡ found_here c) where
+    cursor_end : r ≡ None → left ≡ []
+    cursor_end f = subst (λ (z : Found). PlaceFound t left z) (sym e ∙ f) w.rest
+
+    module _ (p : Place) (f : r ≡ Some p) where
+      cursor_is : FirstPlaceIs t left p
+      cursor_is = subst (λ (z : Found). PlaceFound t left z) (cursor_here t c r p e f) w.rest
+
+      cursor_at_function : AtFunction t c
+      cursor_at_function = cursor_stands t c r p e f w.along
+
+      module _ (n : Functions) (q : n ≡ functions_next t c) where
+        cursor_on : CursorAt t (places_behind t p) n
+        cursor_on =
+            record {
+              rest = next_placed t clean p cursor_is.here (found_here n) (cursor_next t c r p e f n q);
+              along = along_next t clean c cursor_at_function n q;
+            }
+
+        cursor_less : left_of t (found_here n) < left_of t (found_here c)
+        cursor_less = subst (λ (z : Found). left_of t (found_here n) < left_of t z) (sym (cursor_here t c r p e f)) (left_falls t p (found_here n) cursor_on.rest)
 
 -- ---- functions stand at some places
 unfoldable pub AllStand : List ℕ → List Place → Type 0
@@ -79,121 +111,123 @@ module _ (t : List ℕ) where
   append_stand (p ∷ ps) qs v w = (v.0, append_stand ps qs v.1 w)
 
 -- ---- is one not a builtin?
-pub record OwnFrom (t : List ℕ) (all : List Overload) (f : Found) : Type 0 where
+pub record OwnFrom (t : List ℕ) (owner id : ℕ) (c : Functions) : Type 0 where
   pub left : List Place
-  pub rest : PlaceFound t left f
-  pub same : any_own (map (overload_at t) left) ≡ any_own all
+  pub cursor : CursorAt t left c
+  pub same : any_own (map (overload_at t) left) ≡ any_own ((symbols_of t).functions_of owner id)
 
-module _ (t : List ℕ) (all : List Overload) where
-  pub own-start : (clean : table_fault t ≡ 0) (owner id : ℕ) (f : Found) → f ≡ first_place (function_places t owner id)
-      → all ≡ (symbols_of t).functions_of owner id → OwnFrom t all f
-  own-start clean owner id f e g =
+module _ (t : List ℕ) (clean : table_fault t ≡ 0) (owner id : ℕ) where
+  pub own_start : (c : Functions) → c ≡ functions_first t owner id → OwnFrom t owner id c
+  own_start c e =
       record {
         left = function_places t owner id;
-        rest = first-placed t clean owner id f e;
-        same = ap (λ (os : List Overload). any_own os) (overloads_placed t clean owner id ∙ sym g);
+        cursor = cursor_first t clean owner id c e;
+        same = ap (λ (os : List Overload). any_own os) (overloads_placed t clean owner id);
       }
 
-  pub own_none : (f : Found) → f ≡ None → OwnFrom t all f → false ≡ any_own all
-  unfolding any_own
-  own_none f e w =
-      let h : w.left ≡ [] = subst (λ (z : Found). PlaceFound t w.left z) e w.rest in
-      sym (ap (λ (ps : List Place). any_own (map (overload_at t) ps)) h) ∙ w.same
+  module _ (c : Functions) (w : OwnFrom t owner id c) (r : Found) (e : r ≡ found_here c) where
+    pub own_none : r ≡ None → false ≡ any_own ((symbols_of t).functions_of owner id)
+    unfolding any_own
+    own_none f = sym (ap (λ (ps : List Place). any_own (map (overload_at t) ps)) (cursor_end t clean w.left c w.cursor r e f)) ∙ w.same
 
-  module _ (f : Found) (p : Place) (e : f ≡ Some p) (w : OwnFrom t all f) where
-    own_is : FirstPlaceIs t w.left p
-    own_is = subst (λ (z : Found). PlaceFound t w.left z) e w.rest
+    module _ (p : Place) (f : r ≡ Some p) where
+      own_split : any_own (overload_at t p ∷ map (overload_at t) (places_behind t p)) ≡ any_own ((symbols_of t).functions_of owner id)
+      own_split = sym (ap (λ (ps : List Place). any_own (map (overload_at t) ps)) (cursor_is t clean w.left c w.cursor r e p f).first) ∙ w.same
 
-    pub own-place : FunctionAt t p
-    own-place = own_is.here
+      pub own_stands : AtFunction t c
+      own_stands = cursor_at_function t clean w.left c w.cursor r e p f
 
-    own_split : any_own (overload_at t p ∷ map (overload_at t) (places_behind t p)) ≡ any_own all
-    own_split = sym (ap (λ (ps : List Place). any_own (map (overload_at t) ps)) own_is.first) ∙ w.same
+      module _ (b : Bool) (read : b ≡ (overload_at t p).builtin) where
+        pub own_found : b ≡ false → true ≡ any_own ((symbols_of t).functions_of owner id)
+        own_found h = own-here (overload_at t p) (map (overload_at t) (places_behind t p)) (sym read ∙ h) ∙ own_split
 
-    module _ (b : Bool) (read : b ≡ (overload_at t p).builtin) where
-      pub own-found : b ≡ false → true ≡ any_own all
-      own-found h = own-here (overload_at t p) (map (overload_at t) (places_behind t p)) (sym read ∙ h) ∙ own_split
+        pub own_on : b ≡ true → (n : Functions) → n ≡ functions_next t c → OwnFrom t owner id n
+        own_on h n q =
+            record {
+              left = places_behind t p;
+              cursor = cursor_on t clean w.left c w.cursor r e p f n q;
+              same = own_later (overload_at t p) (map (overload_at t) (places_behind t p)) (sym read ∙ h) ∙ own_split;
+            }
 
-      pub own_on : b ≡ true → (g : Found) → PlaceFound t (places_behind t p) g → OwnFrom t all g
-      own_on h g v =
-          record {
-            left = places_behind t p;
-            rest = v;
-            same = own_later (overload_at t p) (map (overload_at t) (places_behind t p)) (sym read ∙ h) ∙ own_split;
-          }
+      pub own_less : (n : Functions) → n ≡ functions_next t c → left_of t (found_here n) < left_of t (found_here c)
+      own_less n q = cursor_less t clean w.left c w.cursor r e p f n q
 
 -- ---- the walk
 -- of the list, some are done and the others are left; n arguments
-pub record Walking (t : List ℕ) (owner id : ℕ) (k : Bool) (n : ℕ) (xs : List Arg) (b₀ : List ℕ) (n₀ : ℕ) (b : List ℕ) (f : Found) (w : Tally) : Type 0 where
+pub record Walking (t : List ℕ) (owner id : ℕ) (k : Bool) (n : ℕ) (xs : List Arg) (b₀ : List ℕ) (n₀ : ℕ) (b : List ℕ) (c : Functions) (w : Tally) : Type 0 where
   pub done : List Place
   pub left : List Place
   pub all : done ++ left ≡ function_places t owner id
-  pub rest : PlaceFound t left f
+  pub cursor : CursorAt t left c
   pub tally : w ≡ tally_of t xs n₀ (picked t k n done)
   pub buffer : b ≡ put_all b₀ n₀ (all_unknown_at t (picked t k n done) xs)
 
-module _ (t : List ℕ) (owner id : ℕ) (k : Bool) (n : ℕ) (xs : List Arg) (b₀ : List ℕ) (n₀ : ℕ) where
-  pub walk_start : (f : Found) → PlaceFound t (function_places t owner id) f
-      → Walking t owner id k n xs b₀ n₀ b₀ f (record { first = None; fitting = 0; highest = None; count = n₀ })
+module _ (t x : List ℕ) (h : IndexedTable t x) (owner id : ℕ) (k : Bool) (n : ℕ) (xs : List Arg) (b₀ : List ℕ) (n₀ : ℕ) where
+  pub walk_start : (c : Functions) → c ≡ functions_first t owner id
+      → Walking t owner id k n xs b₀ n₀ b₀ c (record { first = None; fitting = 0; highest = None; count = n₀ })
   unfolding picked all_unknown
-  walk_start f v =
+  walk_start c e =
       record {
         done = [];
         left = function_places t owner id;
         all = refl;
-        rest = v;
+        cursor = cursor_first t h.clean owner id c e;
         tally = tally_start t xs n₀;
         buffer = sym (put_all_none b₀ n₀);
       }
 
-  module _ (b : List ℕ) (f : Found) (w : Tally) (is : Walking t owner id k n xs b₀ n₀ b f w) where
-    pub walk_room : (x : List ℕ) → IndexedTable t x → length xs ≤ 16 → n₀ + most_diagnostics ≤ count_limit → Room w
-    walk_room x h short room =
+  module _ (b : List ℕ) (c : Functions) (w : Tally) (is : Walking t owner id k n xs b₀ n₀ b c w) where
+    pub walk_room : length xs ≤ 16 → n₀ + most_diagnostics ≤ count_limit → Room w
+    walk_room short room =
         let e : length (is.done ++ is.left) ≡ length (function_places t owner id) = ap (λ (ps : List Place). length ps) is.all in
         let l = length-append is.done is.left in
         let m = picked_few t k n is.done in
         let few = places_few t x owner id h in
         tally_room t xs n₀ w (picked t k n is.done) is.tally (omega arith) short room
 
-    module _ (e : f ≡ None) where
-      walk_all : is.done ≡ function_places t owner id
-      walk_all =
-          let h : is.left ≡ [] = subst (λ (z : Found). PlaceFound t is.left z) e is.rest in
-          sym (append-nil is.done) ∙ ap (λ (ps : List Place). is.done ++ ps) (sym h) ∙ is.all
+    module _ (r : Found) (e : r ≡ found_here c) where
+      -- at the end
+      pub walk_ended : r ≡ None → (w ≡ tally_of t xs n₀ (picked t k n (function_places t owner id)))
+          × (b ≡ put_all b₀ n₀ (all_unknown_at t (picked t k n (function_places t owner id)) xs))
+      walk_ended f =
+          let all = sym (append-nil is.done) ∙ ap (λ (ps : List Place). is.done ++ ps) (sym (cursor_end t h.clean is.left c is.cursor r e f)) ∙ is.all in (
+            is.tally ∙ ap (λ (ps : List Place). tally_of t xs n₀ (picked t k n ps)) all,
+            is.buffer ∙ ap (λ (ps : List Place). put_all b₀ n₀ (all_unknown_at t (picked t k n ps) xs)) all,
+          )
 
-      pub walk_tally : w ≡ tally_of t xs n₀ (picked t k n (function_places t owner id))
-      walk_tally = is.tally ∙ ap (λ (ps : List Place). tally_of t xs n₀ (picked t k n ps)) walk_all
+      module _ (p : Place) (f : r ≡ Some p) where
+        walk_is : FirstPlaceIs t is.left p
+        walk_is = cursor_is t h.clean is.left c is.cursor r e p f
 
-      pub walk_buffer : b ≡ put_all b₀ n₀ (all_unknown_at t (picked t k n (function_places t owner id)) xs)
-      walk_buffer = is.buffer ∙ ap (λ (ps : List Place). put_all b₀ n₀ (all_unknown_at t (picked t k n ps) xs)) walk_all
+        pub walk_place : FunctionAt t p
+        walk_place = walk_is.here
 
-    module _ (p : Place) (e : f ≡ Some p) where
-      walk_is : FirstPlaceIs t is.left p
-      walk_is = subst (λ (z : Found). PlaceFound t is.left z) e is.rest
+        pub walk_stands : AtFunction t c
+        walk_stands = cursor_at_function t h.clean is.left c is.cursor r e p f
 
-      pub walk_place : FunctionAt t p
-      walk_place = walk_is.here
+        module _ (m : Functions) (q : m ≡ functions_next t c) where
+          pub walk_less : left_of t (found_here m) < left_of t (found_here c)
+          walk_less = cursor_less t h.clean is.left c is.cursor r e p f m q
 
-      pub walk_on : (b' : List ℕ) (g : Found) (w' : Tally) → w' ≡ tally_more t xs w (taken t k n p)
-          → b' ≡ put_all b w.count (all_unknown_at t (taken t k n p) xs) → PlaceFound t (places_behind t p) g
-          → Walking t owner id k n xs b₀ n₀ b' g w'
-      walk_on b' g w' tally buffer v =
-          let ps = picked t k n is.done in
-          let us = taken t k n p in
-          let more : ps ++ us ≡ picked t k n (is.done ++ (p ∷ [])) = sym (picked_snoc t k n is.done p) in
-          record {
-            done = is.done ++ (p ∷ []);
-            left = places_behind t p;
-            all = append_assoc is.done (p ∷ []) (places_behind t p) ∙ ap (λ (qs : List Place). is.done ++ qs) (sym walk_is.first) ∙ is.all;
-            rest = v;
-            tally = tally ∙ ap (λ (z : Tally). tally_more t xs z us) is.tally ∙ tally_more_lem t xs n₀ ps us
-                ∙ ap (λ (qs : List Place). tally_of t xs n₀ qs) more;
-            buffer = buffer ∙ ap (λ (m : ℕ). put_all b m (all_unknown_at t us xs)) (ap (λ (z : Tally). z.count) is.tally)
-                ∙ ap (λ (c : List ℕ). put_all c (n₀ + length (all_unknown_at t ps xs)) (all_unknown_at t us xs)) is.buffer
-                ∙ sym (put_all-append b₀ n₀ (all_unknown_at t ps xs) (all_unknown_at t us xs))
-                ∙ ap (λ (ds : List Diag). put_all b₀ n₀ ds) (sym (unknown_append t ps us xs))
-                ∙ ap (λ (qs : List Place). put_all b₀ n₀ (all_unknown_at t qs xs)) more;
-          }
+          pub walk_on : (b' : List ℕ) (w' : Tally) → w' ≡ tally_more t xs w (taken t k n p) → b' ≡ put_all b w.count (all_unknown_at t (taken t k n p) xs)
+              → Walking t owner id k n xs b₀ n₀ b' m w'
+          walk_on b' w' tally buffer =
+              let ps = picked t k n is.done in
+              let us = taken t k n p in
+              let more : ps ++ us ≡ picked t k n (is.done ++ (p ∷ [])) = sym (picked_snoc t k n is.done p) in
+              record {
+                done = is.done ++ (p ∷ []);
+                left = places_behind t p;
+                all = append_assoc is.done (p ∷ []) (places_behind t p) ∙ ap (λ (qs : List Place). is.done ++ qs) (sym walk_is.first) ∙ is.all;
+                cursor = cursor_on t h.clean is.left c is.cursor r e p f m q;
+                tally = tally ∙ ap (λ (z : Tally). tally_more t xs z us) is.tally ∙ tally_more_lem t xs n₀ ps us
+                    ∙ ap (λ (qs : List Place). tally_of t xs n₀ qs) more;
+                buffer = buffer ∙ ap (λ (m : ℕ). put_all b m (all_unknown_at t us xs)) (ap (λ (z : Tally). z.count) is.tally)
+                    ∙ ap (λ (c : List ℕ). put_all c (n₀ + length (all_unknown_at t ps xs)) (all_unknown_at t us xs)) is.buffer
+                    ∙ sym (put_all-append b₀ n₀ (all_unknown_at t ps xs) (all_unknown_at t us xs))
+                    ∙ ap (λ (ds : List Diag). put_all b₀ n₀ ds) (sym (unknown_append t ps us xs))
+                    ∙ ap (λ (qs : List Place). put_all b₀ n₀ (all_unknown_at t qs xs)) more;
+              }
 
 -- no count wraps
 pub walked_room : (t x : List ℕ) (owner id : ℕ) (k : Bool) (n : ℕ) (xs : List Arg) (n₀ : ℕ) (w : Tally) → IndexedTable t x

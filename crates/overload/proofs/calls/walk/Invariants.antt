@@ -1,13 +1,10 @@
-use lib.ListN.{length}
-use mathlib.Core.Path.{◌≡◌}
 use Rattle.overload.proofs.FunctionListWalk.{left_of, Walking}
 use Rattle.scoring.specs.Inside.Args.{args_in}
-use Rattle.symbol.specs.Inside.FunctionCursor.{found_here, Along}
+use Rattle.symbol.specs.Inside.FunctionCursor.{found_here}
 use Rattle.overload.proofs.calls.walk.Given as goal
 
 abbrev pub invariant-loop-p : goal.invariant-loop-p
-invariant-loop-p l = (length l.buf ≡ length l.initial.buf) × Walking l.table l.owner l.id l.own l.args.count (args_in l.area l.lens l.args)
-    l.initial.buf l.count l.buf (found_here l.c) l.w × Along l.table l.c
+invariant-loop-p l = Walking l.table l.owner l.id l.own l.args.count (args_in l.area l.lens l.args) l.initial.buf l.count l.buf l.c l.w
 
 abbrev pub decreases-loop-p : goal.decreases-loop-p
 decreases-loop-p l = left_of l.table (found_here l.c)
