@@ -20,7 +20,7 @@ use Rattle.record.proofs.RecordParts.{or_true}
 use Rattle.record.proofs.Types.{ends_in}
 use Rattle.record.specs.Inside.Front.{param_step, param_with, run_params, result_with, first_reading, or_none, stopped, params_read}
 use Rattle.record.specs.Inside.Walk.{EndsIn}
-use Rattle.record.specs.Inside.Front.{Front, Run, run_of, reading_answer, unread, param_named, type_passed, typed_answer, among, broken_head, function_read, function_with, field_with, field_head}
+use Rattle.record.specs.Inside.Front.{Front, Run, run_of, reading_answer, unread, name_passed, type_passed, typed_answer, among, broken_head, function_read, function_with, field_with, field_head}
 use Rattle.record.specs.declared.params.Reading.{Reading}
 use Rattle.record.specs.declared.params.ReadFault.{ReadFault}
 use Rattle.record.specs.declared.params.ReadFault.TheVariants.{Broken, Endless as without_end}
@@ -65,7 +65,7 @@ answer_err c f = go (eqb c.state 0)
 
 -- a parameter's name and its type are the parameter
 pub answer_param : (c : Run) (id : ℕ) (r : Result TypeRead TypeFault)
-    → reading_answer (type_passed (param_named c id) (c.len + 3) r) ≡ reading_answer (param_with c id r)
+    → reading_answer (type_passed (name_passed c id) (c.len + 3) r) ≡ reading_answer (param_with c id r)
 unfolding reading_answer choose
 answer_param c id (Ok found) = refl
 answer_param c id (Err Cut) = refl
@@ -145,7 +145,7 @@ unfolding run_params
 run_endless zero s c h = h
 run_endless (suc n) s c h = run_endless n s (param_step s c) (step_endless s c h)
 
-read_endless : (s : List ℕ) → Endlessly (params_read s)
+pub read_endless : (s : List ℕ) → Endlessly (params_read s)
 unfolding params_read
 read_endless s = run_endless (get_or s 7 0) s (first_reading s) (first_endless s)
 

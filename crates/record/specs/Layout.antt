@@ -1,6 +1,7 @@
 -- What a record is. Document 01, "Table and question": a byte of kind, then fields one behind the other. Ids have 2 bytes, low byte first; flags, visibilities,
 -- counts and name lengths 1.
-use Rattle.std.specs.Prelude.{ℕ, zero, suc, ◌+◌, ltb, leb, eqb, length, get_or, take, drop, Bool, true, false, not, ◌&&◌, ◌||◌, List, [], ◌∷◌, ◌++◌, Result, Ok, Err}
+use Rattle.std.specs.Prelude.{ℕ, zero, suc, ◌+◌, ltb, leb, eqb, length, get_or, take, drop, Bool, true, false, not, ◌&&◌, ◌||◌, List, [], ◌∷◌, ◌++◌}
+use Rattle.std.specs.Prelude.{Result, Ok, Err}
 use Rattle.ty.specs.Bytes.{id_at}
 use Rattle.ty.specs.Choose.{choose}
 use Rattle.ty.specs.Ids.{ids_in}

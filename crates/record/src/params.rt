@@ -2,7 +2,7 @@
 ghost use Rattle.std.specs.Prelude.{◌≡◌, ◌≤◌, ◌<◌, length, get_or, drop};
 ghost use Rattle.ty.specs.Read.{read_type, longest_type};
 ghost use Rattle.record.specs.RecordKind.{record_kind_number};
-ghost use Rattle.record.specs.Inside.Front.{front_at, run_of, reading_answer, unread, param_named, type_passed, param_step};
+ghost use Rattle.record.specs.Inside.Front.{front_at, run_of, reading_answer, unread, name_passed, type_passed, param_step};
 ghost use Rattle.record.specs.Inside.Front.{first_reading, params_read, typed_answer, function_head};
 
 use crate::front::{Head, LONGEST, RecordKind, or_none};
@@ -73,7 +73,7 @@ impl Reading {
     #[inline(always)]
     fn named(self, id: u16) -> Reading
         requires { self.count < 16 }
-        ensures { run_of result ≡ param_named (run_of self) id }
+        ensures { run_of result ≡ name_passed (run_of self) id }
     {
         let count = self.count;
         let mut names = self.names;

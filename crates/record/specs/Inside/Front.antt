@@ -1,7 +1,8 @@
 -- What definitions say of the record at the front of some bytes: kind, first two numbers, length, highest id, whether it is malformed, repeats a parameter's
 -- name or has Error or no end in a type; and the parameters read so far. `front_at` and `reading_answer` say what the code answers for that. Law `head_laid`
 -- (proofs LaidHead): the front is what the record's fields (`Layout`) say.
-use Rattle.std.specs.Prelude.{ℕ, zero, suc, ◌+◌, ◌-◌, max, List, Bool, true, false, not, ◌&&◌, ◌||◌, length, get_or, drop, set, replicate, ltb, leb, eqb, Option, Some, None, Result, Ok, Err}
+use Rattle.std.specs.Prelude.{ℕ, zero, suc, ◌+◌, ◌-◌, max, List, Bool, true, false, not, ◌&&◌, ◌||◌, length, get_or, drop, set, replicate, ltb, leb, eqb}
+use Rattle.std.specs.Prelude.{Option, Some, None, Result, Ok, Err}
 use Rattle.ty.specs.Choose.{choose}
 use Rattle.ty.specs.Name.{no_id}
 use Rattle.ty.specs.Bytes.{id_at}
@@ -133,8 +134,8 @@ abbrev pub unread : ℕ → Run
 unread top = record { len = 0; top = top; repeated = false; error = false; state = 0; count = 0; names = replicate 16 0 }
 
 -- one parameter's name more,
-abbrev pub param_named : Run → ℕ → Run
-param_named c id =
+abbrev pub name_passed : Run → ℕ → Run
+name_passed c id =
     record {
       len = c.len;
       top = max c.top id;
