@@ -10,7 +10,7 @@ use ty::read::read_type;
 use ty::{TypeFault, byte_at, id_at};
 
 // The result and the parameters read so far: the bytes passed, the highest id, whether a name was repeated, whether Error was met, how many parameters there
-// are, and their names.
+// are, and their names: an array with its count, since there is no heap.
 #[derive(Clone, Copy)]
 pub struct Reading {
     pub len: usize,

@@ -19,7 +19,7 @@ pub struct Step {
     pub next: Cursor,
 }
 
-// How many bytes are behind then: all that is left, where the record is malformed or cut.
+// How many bytes the record at the front of s takes: all of them, where it is malformed or cut.
 fn taken(s: &[u8], head: Option<Head>) -> usize
     ensures { result ≡ (front_at s.now head).len }
 {
