@@ -212,3 +212,9 @@ digit_low r d = go (eqb (front_of r).kind 1)
 
 pub tree_digit_low : (n : ℕ) (r : Record) (d : ℕ) → digit_of r d < ways_in n (tree_in n r)
 tree_digit_low n r d = subst (λ (w : ℕ). digit_of r d < w) (ways_tree n r) (digit_low r d)
+
+-- the functions of index.rt
+pub ruleset buckets = (buckets_sized, lists_sized, base_sized, buckets_bound, lists_bound)
+
+-- the digits of a key
+pub ruleset digit_rules = (digits-first, digits_later, digits-kept)

@@ -28,6 +28,7 @@ pub enum TableSize {
 
 impl TableSize {
     // That of a table of n bytes.
+    #[tactic(auto, unfolding(crate::specs::Inside::Index::size_of, ty::specs::Choose::choose))]
     pub fn of(n: usize) -> TableSize
         ensures { result ≡ size_of n }
     {
@@ -68,6 +69,7 @@ pub fn put(x: &mut [u16], i: usize, v: u16)
 }
 
 // How many buckets of names there are for a table of n bytes, and as many of other keys.
+#[tactic(auto, using(crate::proofs::Buckets::buckets))]
 pub fn bucket_count(n: usize) -> usize
     ensures { (result ≡ bucket_count n) × (result ≤ 8192) }
 {
@@ -75,6 +77,7 @@ pub fn bucket_count(n: usize) -> usize
 }
 
 // How many buckets of lists there are.
+#[tactic(auto, using(crate::proofs::Buckets::buckets))]
 pub fn list_count(n: usize) -> usize
     ensures { (result ≡ list_count n) × (result ≤ 1024) }
 {
@@ -96,6 +99,7 @@ pub fn list_reduced(h: usize, n: usize) -> usize
 }
 
 // Where the entry of a list's first function stands.
+#[tactic(auto, using(crate::proofs::Buckets::buckets))]
 pub fn first_at(n: usize, b: usize) -> usize
     requires { b < list_count n }
     ensures { result ≡ first_at n b }
@@ -112,6 +116,7 @@ pub fn last_at(n: usize, b: usize) -> usize
 }
 
 // Where the entry c of the record at p stands.
+#[tactic(auto, using(crate::proofs::Buckets::buckets))]
 pub fn child_at(n: usize, p: usize, c: usize) -> usize
     requires { c < 8 }
     ensures { result ≡ child_at n p c }
@@ -128,6 +133,7 @@ pub fn has_ids(t: &[u8], p: usize, kind: u8, one: u16, two: u16) -> bool
 }
 
 // A number for the key of a record of kind 2 or more.
+#[tactic(auto, unfolding(crate::specs::Inside::Bucket::key_bucket, ty::specs::Choose::choose))]
 pub fn key_bucket(kind: u8, one: u16, two: u16) -> usize
     ensures { (result ≡ key_bucket kind one two) × (result < 65536) }
 {

@@ -12,6 +12,7 @@ use crate::index::{
 };
 
 // Where the entry for a function stands that comes into bucket b behind its last function, or as its first.
+#[tactic(auto, unfolding(crate::specs::Inside::Entered::link_at, ty::specs::Choose::choose))]
 fn link_at(n: usize, b: usize, last: usize) -> usize
     requires { b < list_count n }
     ensures { result ≡ link_at n b last }
@@ -23,6 +24,7 @@ fn link_at(n: usize, b: usize, last: usize) -> usize
 }
 
 // A function at p, in bucket b of a table of n bytes, comes into the index.
+#[tactic(auto, using(crate::proofs::Chains::link_low), unfolding(crate::specs::Inside::Entered::entered))]
 pub fn enter(x: &mut [u16], n: usize, b: usize, p: usize)
     requires { EntryAsked x.old n b p }
     ensures { x.new ≡ entered n b p x.old }
@@ -44,6 +46,7 @@ pub struct ListCursor {
 
 impl ListCursor {
     // At the first function of the bucket of an owner and a name.
+    #[tactic(auto, unfolding(crate::specs::Inside::ListWalk::list_start))]
     pub fn new(t: &[u8], x: &[u16], owner: u16, name: u16) -> ListCursor
         ensures { result ≡ list_start (length t.now) x.now owner name }
     {
@@ -67,6 +70,7 @@ impl ListCursor {
     }
 
     // The function here has the owner and the name.
+    #[tactic(auto, unfolding(crate::specs::Inside::ListWalk::here_has_key))]
     pub fn has_key(self, t: &[u8]) -> bool
         requires { (0 < self.here) × (self.here ≤ 60000) }
         ensures { result ≡ here_has_key t.now self }
@@ -75,6 +79,7 @@ impl ListCursor {
     }
 
     // At the next function of the bucket.
+    #[tactic(auto, unfolding(crate::specs::Inside::ListWalk::list_step))]
     pub fn step(self, t: &[u8], x: &[u16]) -> ListCursor
         requires { 0 < self.here }
         ensures { result ≡ list_step (length t.now) x.now self }
@@ -101,6 +106,7 @@ impl ListCursor {
         c
     }
     // At the first function with an owner and a name.
+    #[tactic(auto, using(crate::proofs::ListWalks::start_at))]
     pub fn first(t: &[u8], x: &[u16], owner: u16, name: u16) -> ListCursor
         requires { IndexedTable t.now x.now }
         ensures { result ≡ list_followed t.now (list_start (length t.now) x.now owner name) }
@@ -109,6 +115,7 @@ impl ListCursor {
     }
 
     // At the first function with the owner and the name behind the one here.
+    #[tactic(auto, using(crate::proofs::ListWalks::next_at_list))]
     pub fn next(self, t: &[u8], x: &[u16]) -> ListCursor
         requires { IndexedTable t.now x.now × NextAsked t.now x.now self }
         ensures { result ≡ list_followed t.now (list_step (length t.now) x.now self) }

@@ -33,6 +33,7 @@ pub fn name_at(t: &[u8], p: usize) -> &[u8]
 }
 
 // A number for 24 bytes of a name: the bytes times weights that depend on the place alone, so that no product waits for another.
+#[tactic(auto, unfolding(crate::specs::Inside::Bucket::weight_of, crate::specs::Inside::Bucket::weighed_of, crate::specs::Inside::Bucket::hash_of))]
 fn hash(name: &[u8]) -> usize
     ensures { (result ≡ hash_of 24 name.now) × (result < 65536) }
 {
@@ -58,6 +59,7 @@ pub fn tree_of(t: &[u8], key: Key) -> usize
 }
 
 // Four bytes of a name as a number, low byte first, with 0 past the end.
+#[tactic(auto, unfolding(crate::specs::Inside::Bucket::word_at))]
 fn word_at(name: &[u8], i: usize) -> usize
     requires { i < 4294967296 }
     ensures { (result ≡ word_at name.now i) × (result < 4294967296) }
@@ -68,6 +70,7 @@ fn word_at(name: &[u8], i: usize) -> usize
 }
 
 // A round of the digest.
+#[tactic(auto, unfolding(crate::specs::Inside::Bucket::product_of, crate::specs::Inside::Bucket::round_of))]
 fn digest_round(s: usize, w: usize) -> usize
     requires { w < 4294967296 }
     ensures { result ≡ round_of s w }
@@ -78,6 +81,7 @@ fn digest_round(s: usize, w: usize) -> usize
 }
 
 // A number of 64 bits for 24 bytes of a name, each of which is used twice or more, so that no part of the name sets it alone.
+#[tactic(auto, unfolding(crate::specs::Inside::Bucket::digest_of))]
 fn digest(name: &[u8]) -> usize
     ensures { result ≡ digest_of 15 name.now }
 {
@@ -89,6 +93,7 @@ fn digest(name: &[u8]) -> usize
 }
 
 // The second id where it belongs to the key, else 0.
+#[tactic(auto, unfolding(ty::specs::Choose::choose))]
 fn second(kind: u8, two: u16) -> usize
     ensures { (result ≡ choose (ltb kind 4) 0 two) × (result < 65536) }
 {
@@ -99,6 +104,7 @@ fn second(kind: u8, two: u16) -> usize
 }
 
 // The number that a key's digits are taken from behind d records; h is that behind one record less.
+#[tactic(auto, using(crate::proofs::Buckets::digit_rules), unfolding(crate::specs::Inside::Bucket::key_digits))]
 fn digits(t: &[u8], key: Key, h: usize, d: usize) -> usize
     requires { KeyIn t.now key × (0 < d → h ≡ digits_for t.now key (d - 1)) }
     ensures { result ≡ digits_for t.now key d }
@@ -118,6 +124,7 @@ fn digits(t: &[u8], key: Key, h: usize, d: usize) -> usize
 }
 
 // Which way a search goes behind d records.
+#[tactic(auto, using(crate::proofs::Buckets::digit_mixed, crate::proofs::Buckets::digit_own), unfolding(crate::specs::Inside::Bucket::key_digit))]
 fn digit(t: &[u8], key: Key, h: usize, d: usize) -> usize
     requires { KeyIn t.now key × (h ≡ digits_for t.now key d) }
     ensures { (result ≡ digit_for t.now key d) × (result < 8) }
@@ -139,6 +146,7 @@ fn digit(t: &[u8], key: Key, h: usize, d: usize) -> usize
 }
 
 // The record at p has a key.
+#[tactic(auto, using(crate::proofs::Earlier::has_other, crate::proofs::Earlier::has_name, crate::proofs::Earlier::has_ids, crate::proofs::Earlier::has_room))]
 fn has(t: &[u8], p: usize, key: Key) -> bool
     requires { WholeRecordAt t.now p × KeyIn t.now key × (length t.now ≤ 60000) }
     ensures { result ≡ key_matches t.now key (front_record (drop p t.now)) }
@@ -166,6 +174,7 @@ pub struct TreeCursor {
 
 impl TreeCursor {
     // At the root of tree b.
+    #[tactic(auto, unfolding(crate::specs::Inside::TreeWalk::tree_start))]
     pub fn new(x: &[u16], b: usize) -> TreeCursor
         requires { b < 16384 }
         ensures { result ≡ tree_start x.now b }
@@ -190,6 +199,7 @@ impl TreeCursor {
     }
 
     // One record down, as the key's next digit says.
+    #[tactic(auto, unfolding(crate::specs::Inside::TreeWalk::tree_step))]
     pub fn step(self, t: &[u8], x: &[u16], key: Key) -> TreeCursor
         requires { TreeStepAsked t.now key self }
         ensures { result ≡ tree_step t.now x.now key self }
@@ -221,6 +231,7 @@ pub fn search(t: &[u8], x: &[u16], key: Key, b: usize) -> Result<Place, usize>
 }
 
 // The only record of a kind, from 2 on and not 4, with a key.
+#[tactic(auto, using(crate::proofs::Single::accepted_open, crate::proofs::Single::single_ok))]
 pub fn seek(t: &[u8], x: &[u16], kind: RecordKind, one: u16, two: u16) -> Option<Place>
     requires { IndexedTable t.now x.now × Single (record_kind_number kind) }
     ensures { result ≡ found_at (first_with t.now (record_kind_number kind) one two) }

@@ -24,11 +24,3 @@ returns-else-d-lt21 c = (
       ∙ sym (ap (λ (z : Key). digit_for c.args.t.now z c.args.d) c.in-Name.is),
   omega arith,
 )
-
-pub returns-in-Ids : goal.returns-in-Ids
-unfolding key_digit
-returns-in-Ids c = (
-  ap (λ (z : ℕ). z / 2 ^ (c.args.d % 32) % 2) (c.requires.1 ∙ ap (λ (z : Key). digits_for c.args.t.now z c.args.d) c.in-Ids.is)
-      ∙ sym (ap (λ (z : Key). digit_for c.args.t.now z c.args.d) c.in-Ids.is),
-  omega arith,
-)

@@ -4,7 +4,3 @@ use Rattle.index.proofs.tree.seek.Goals as goal
 
 pub search-requires : goal.search-requires
 search-requires c = (accepted_open c.args.t.now c.args.x.now c.requires.0, rw c.number.ensures c.requires.1.low, c.tree_of.ensures.0)
-
-pub returns : goal.returns
-returns c = rw (← c.number.ensures) (c.ok.ensures.value
-    ∙ single_ok c.args.t.now c.args.x.now c.requires.0 c.number.result c.args.one c.args.two (rw c.number.ensures c.requires.1) c.search.result c.search.ensures)
