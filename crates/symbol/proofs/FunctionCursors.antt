@@ -148,3 +148,6 @@ module _ (t : List ℕ) (clean : table_fault t ≡ 0) where
     unfolding functions_next
     along_next n e =
         subst (λ (z : Functions). Along t z) (sym e) (record { stands = λ h. at_next (first_place (places_behind t (place_here c))) refl h })
+
+-- the first function of an owner and a name, as a place
+pub ruleset first_here = (first-here)

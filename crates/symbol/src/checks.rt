@@ -67,6 +67,7 @@ pub enum Entry {
 }
 
 // The record h at me is a name with a built-in spelling.
+#[tactic(auto, using(record::proofs::RecordSizes::stands_own, record::proofs::RecordSizes::name_room, record::proofs::RecordSizes::name_bytes_lem, index::proofs::KindTests::kinds_differ, index::proofs::KindTests::kinds_agree))]
 fn builtin_name(t: &[u8], me: Cursor, h: Head) -> bool
     requires { Stands t.now me h }
     ensures { result ≡ is_builtin_name (record_at t.now me) }
@@ -91,6 +92,7 @@ fn class_before(t: &[u8], x: &[u16], me: Cursor, id: u16) -> bool
 }
 
 // The record h at me is a class whose superclass has no earlier record.
+#[tactic(auto, using(record::proofs::RecordSizes::stands_own, index::proofs::KindTests::kinds_differ, index::proofs::KindTests::kinds_agree), unfolding(record::specs::Inside::HeadFault::super_missing))]
 fn super_missing(t: &[u8], x: &[u16], me: Cursor, h: Head) -> bool
     requires { Prepared t.now x.now me h }
     ensures { result ≡ super_missing_at t.now me }
@@ -105,6 +107,7 @@ fn super_missing(t: &[u8], x: &[u16], me: Cursor, h: Head) -> bool
 }
 
 // Looks ahead for the classes, once, where a superclass has no earlier record; answers whether that was done.
+#[tactic(auto, using(crate::proofs::LateMakes::look_before, crate::proofs::LateMakes::look_none, crate::proofs::LateMakes::look_made))]
 fn look(t: &[u8], me: Cursor, late: &mut [u16], missing: bool, looked: bool) -> bool
     requires { CursorAt t.now me × (length t.now ≤ 60000) }
     ensures { (result ≡ (looked || missing)) × (late.new ≡ late_looked t.now me.at missing looked late.old) }
@@ -120,6 +123,7 @@ fn look(t: &[u8], me: Cursor, late: &mut [u16], missing: bool, looked: bool) -> 
 }
 
 // The record h at me by itself; `kind` is the kind before it, `names` how many names are before it.
+#[tactic(auto, using(record::proofs::RecordSizes::stands_own), unfolding(record::specs::Inside::HeadFault::own_fault, ty::specs::Choose::choose))]
 fn check_own(t: &[u8], me: Cursor, h: Head, kind: u8, names: u16) -> Result<(), TableFault>
     requires { Asked t.now me h kind names }
     ensures { checked_number result ≡ own_fault_at t.now me }
@@ -139,6 +143,7 @@ fn check_own(t: &[u8], me: Cursor, h: Head, kind: u8, names: u16) -> Result<(), 
     Ok(())
 }
 
+#[tactic(auto, using(index::proofs::KindTests::kinds_same, index::proofs::KindTests::kinds_apart), unfolding(index::specs::Inside::SearchKey::key_at, ty::specs::Choose::choose))]
 fn key_of(me: Cursor, h: Head) -> Key
     ensures { result ≡ key_at me (front_of_head h) }
 {
@@ -172,6 +177,7 @@ fn entry_for(t: &[u8], x: &[u16], me: Cursor, h: Head) -> Option<Entry>
 }
 
 // The record h at me beside the others. Its superclass, if `missing`, has no earlier record.
+#[tactic(auto, using(record::proofs::RecordSizes::stands_own, crate::proofs::Joins::none_taken, crate::proofs::SuperLate::late_is), unfolding(record::specs::Inside::HeadFault::key_fault, ty::specs::Choose::choose))]
 fn check_key(
     t: &[u8],
     late: &[u16],
@@ -240,6 +246,7 @@ fn check_records(t: &[u8], x: &mut [u16], late: &mut [u16]) -> Result<u16, Table
 }
 
 // The same with as many entries for the classes ahead as the table's length asks.
+#[tactic(auto, using(index::proofs::Rooms::late_room))]
 fn check_sized<const N: usize>(t: &[u8], x: &mut [u16]) -> Result<u16, TableFault>
     requires { (length t.now ≤ 60000) × (late_size (length t.now) ≤ N) × (N ≤ 60000) × IndexRoom t.now x.old }
     ensures number { checked_number result ≡ table_fault t.now }
@@ -252,6 +259,7 @@ fn check_sized<const N: usize>(t: &[u8], x: &mut [u16]) -> Result<u16, TableFaul
 }
 
 // Checks a table: how many names it has, or why it is refused. The lent index becomes that of an accepted table.
+#[tactic(auto, using(record::proofs::Faults::long_fault, crate::proofs::IndexMakes::made_long))]
 pub fn check_table(table: &[u8], index: &mut [u16]) -> Result<u16, TableFault>
     requires { IndexRoom table.now index.old }
     ensures number { checked_number result ≡ table_fault table.now }

@@ -90,6 +90,7 @@ fn whole_length(read: Result<TypeRead, TypeFault>) -> usize
 }
 
 // The length of the type that begins at from, in the bytes before end.
+#[tactic(auto, unfolding(record::specs::Inside::Keyed::type_length))]
 fn type_length(t: &[u8], from: usize, end: usize) -> usize
     requires { (from ≤ end) × (end ≤ length t.now) }
     ensures { result ≡ type_length (part t.now from end) }
@@ -153,6 +154,7 @@ pub fn read_function(t: &[u8], p: Place) -> Function
 }
 
 // Whether the function at a place is a builtin.
+#[tactic(auto, using(crate::proofs::FunctionsRead::function_builtin))]
 pub fn is_builtin_function(t: &[u8], p: Place) -> bool
     requires { FunctionAt t.now p }
     ensures { result ≡ (overload_at t.now p).builtin }

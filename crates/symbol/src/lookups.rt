@@ -40,6 +40,7 @@ pub enum Visibility {
 }
 
 // The only record of a kind, from 2 on and not 4, with a key.
+#[tactic(auto, using(index::proofs::Firsts::found_first))]
 fn place_of(t: &[u8], x: &[u16], kind: RecordKind, one: u16, two: u16) -> Option<Place>
     requires { IndexedTable t.now x.now × Single (record_kind_number kind) }
     ensures { FoundIs t.now (records_with (record_kind_number kind) one two (records_of t.now)) (record_kind_number kind) one two result }
@@ -120,6 +121,7 @@ pub fn visibility_of(t: &[u8], x: &[u16], owner: u16, name: u16) -> Visibility
 }
 
 // Whether there is such a suspend function; its owner may be NameId::NONE.
+#[tactic(auto, using(crate::proofs::LaidLookups::suspend_told, crate::proofs::PlacesFound::found_some))]
 pub fn is_suspend(t: &[u8], x: &[u16], owner: u16, name: u16) -> bool
     requires { IndexedTable t.now x.now }
     ensures { result ≡ (symbols_of t.now).is_suspend owner name }
@@ -128,6 +130,7 @@ pub fn is_suspend(t: &[u8], x: &[u16], owner: u16, name: u16) -> bool
 }
 
 // Whether there is such an enum variant.
+#[tactic(auto, using(crate::proofs::LaidLookups::variant_told, crate::proofs::PlacesFound::found_some))]
 pub fn is_variant(t: &[u8], x: &[u16], owner: u16, name: u16) -> bool
     requires { IndexedTable t.now x.now }
     ensures { result ≡ (symbols_of t.now).is_variant owner name }
@@ -143,6 +146,7 @@ pub struct Functions {
 
 impl Functions {
     // At the first of them.
+    #[tactic(auto, using(crate::proofs::FunctionCursors::first_is))]
     pub fn first(t: &[u8], x: &[u16], owner: u16, name: u16) -> Functions
         requires { IndexedTable t.now x.now }
         ensures { result ≡ functions_first t.now owner name }
@@ -153,6 +157,7 @@ impl Functions {
     }
 
     // At the next of them.
+    #[tactic(auto, using(crate::proofs::FunctionCursors::next_asked, crate::proofs::FunctionCursors::next_is))]
     pub fn next(self, t: &[u8], x: &[u16]) -> Functions
         requires { IndexedTable t.now x.now × AtFunction t.now self }
         ensures { result ≡ functions_next t.now self }
@@ -163,6 +168,7 @@ impl Functions {
     }
 
     // The function here.
+    #[tactic(auto, unfolding(crate::specs::Inside::FunctionCursor::found_here))]
     pub fn found(self) -> Option<Place>
         ensures { result ≡ found_here self }
     {
@@ -171,6 +177,7 @@ impl Functions {
 }
 
 // The first function of an owner, which may be NameId::NONE, and a name.
+#[tactic(auto, using(crate::proofs::FunctionCursors::first_here))]
 pub fn first_function(t: &[u8], x: &[u16], owner: u16, name: u16) -> Option<Place>
     requires { IndexedTable t.now x.now }
     ensures { result ≡ first_place (function_places t.now owner name) }

@@ -6,10 +6,6 @@ use Rattle.record.specs.Inside.HeadFault.{key_fault}
 use Rattle.ty.proofs.Choice.{chosen, passed}
 use Rattle.symbol.proofs.checks.check_key.Goals as goal
 
-pub returns-then-is_none : goal.returns-then-is_none
-unfolding key_fault
-returns-then-is_none c = chosen _ _ _ _ (sym c.requires.key ∙ none_taken c.args.entry _ c.is_none.ensures ∙ c.if-is_none.true) refl
-
 pub returns-then-missing-class_ahead : goal.returns-then-missing-class_ahead
 unfolding key_fault
 returns-then-missing-class_ahead c = passed _ _ _ _ (sym c.requires.key ∙ none_taken c.args.entry _ c.is_none.ensures ∙ c.if-is_none.false)

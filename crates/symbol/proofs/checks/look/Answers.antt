@@ -3,13 +3,6 @@ use mathlib.Core.Path.{ap}
 use Rattle.symbol.proofs.LateMakes.{look_before, look_none, look_made}
 use Rattle.symbol.proofs.checks.look.Goals as goal
 
-pub returns-then-looked : goal.returns-then-looked
-returns-then-looked c = look_before c.args.t.now c.args.me.at c.args.missing c.args.looked c.args.late.now c.if-looked.true
-
-pub returns-then-not-missing : goal.returns-then-not-missing
-returns-then-not-missing c = look_none c.args.t.now c.args.me.at c.args.missing c.args.looked c.args.late.now c.if-looked.false
-    (ap not c.if-not-missing.true)
-
 pub returns : goal.returns
 returns c = look_made c.args.t.now c.args.me.at c.args.missing c.args.looked c.args.late.now c.if-looked.false (ap not c.if-not-missing.false) _
     c.look_ahead.ensures

@@ -5,10 +5,6 @@ use Rattle.symbol.proofs.LaidLookups.{package_told}
 use Rattle.record.specs.Table.{records_of}
 use Rattle.symbol.proofs.lookups.package_of.Goals as goal
 
-pub overflow_add-p : goal.overflow_add-p
-overflow_add-p c = let h = c.in-Some.ensures in
-    omega (arith, place_inside c.args.t.now _ 2 c.args.class 0 c.in-Some.p h)
-
 pub returns-in-Some : goal.returns-in-Some
 returns-in-Some c = let h = c.in-Some.ensures in
     let n = (place-fits c.args.t.now _ 2 c.args.class 0 c.in-Some.p h).class refl in

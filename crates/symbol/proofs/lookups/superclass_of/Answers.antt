@@ -4,9 +4,6 @@ use Rattle.symbol.proofs.LaidLookups.{super_told}
 use Rattle.record.specs.Table.{records_of}
 use Rattle.symbol.proofs.lookups.superclass_of.Goals as goal
 
-pub overflow_add-p : goal.overflow_add-p
-overflow_add-p c = let h = c.in-Some.ensures in omega (arith, h.some)
-
 pub returns-in-Some : goal.returns-in-Some
 returns-in-Some c = let h = c.in-Some.ensures in
     rw (← super_told (records_of c.args.t.now) c.args.class, h.first, place-two c.args.t.now _ 2 c.args.class 0 c.in-Some.p h (omega arith), c.id_at.ensures)

@@ -5,10 +5,6 @@ use Rattle.symbol.proofs.LaidLookups.{visibility_told}
 use Rattle.record.specs.Table.{records_of}
 use Rattle.symbol.proofs.lookups.visibility_of.Goals as goal
 
-pub overflow_add-p : goal.overflow_add-p
-overflow_add-p c = let h = c.in-Some.ensures
-    in omega (arith, place_inside c.args.t.now _ 6 c.args.owner c.args.name c.in-Some.p h)
-
 pub returns-in-Some : goal.returns-in-Some
 returns-in-Some c = let h = c.in-Some.ensures
     in let n = (place-fits c.args.t.now _ 6 c.args.owner c.args.name c.in-Some.p h).visibility refl in
