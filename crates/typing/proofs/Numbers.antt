@@ -7,8 +7,8 @@ use Rattle.question.specs.Parse.{most_nodes}
 use Rattle.question.specs.NodeRead.{node_at, own_bytes, children}
 use Rattle.question.specs.QuestionRefused.{header_fault, shape_fault, node_fault, more_fault, end_fault, nodes_fault, tree_fault, question_fault}
 use Rattle.question.specs.declared.Names.{Names}
-use Rattle.question.specs.declared.node.NodeRead.TheVariants.{Bad, Leaf, Endless, Binary, Unary, Named, Member, Call, Method}
-use Rattle.question.specs.declared.node.NodeRead.{NodeRead}
+use Rattle.question.specs.NodeRead.{Bad, Leaf, Endless, Binary, Unary, Named, Member, Call, Method}
+use Rattle.question.specs.NodeRead.{NodeRead}
 use Rattle.record.specs.TableRefused.{record_fault, first_fault, table_fault}
 use Rattle.record.specs.Table.{Record, records_of}
 use Rattle.ty.proofs.Choice.{by_choice}
