@@ -1,7 +1,7 @@
 -- The cycle's laws for calls and method calls, on plain values.
 use Prim.Native.Nat.{ℕ, suc, ◌+◌, ◌-◌, ◌*◌, ◌≤◌, ◌<◌}
 use lib.ListN.{length, length-append, replicate}
-use mathlib.Core.Bool.{Bool, true, false, not, true≢false, false≢true}
+use Rattle.std.proofs.Common.{Some, None}
 use mathlib.Core.List.{List, [], ◌++◌, append_assoc, append-nil}
 use mathlib.Core.Option.{Option}
 use mathlib.Core.Path.{◌≡◌, refl, sym, ap, ◌∙◌}
@@ -39,7 +39,7 @@ use Rattle.question.specs.Inside.Skip.{skip_at}
 use Rattle.question.specs.Inside.Stands.{RowStands}
 use Rattle.question.specs.Tree.{Node, Row, call, method, number_after, number_after_row, size, sizes, count, bytes, bytess}
 use Rattle.question.specs.declared.Header.{Header}
-use Rattle.question.specs.declared.node.NodeRead.TheVariants.{Call, Method}
+use Rattle.question.specs.NodeRead.{Call, Method}
 use Rattle.question.specs.declared.node.Skipped.{Skipped}
 use Rattle.operators.specs.Diag.{reported_at as at_node}
 use Rattle.operators.specs.Out.{error_ty, any_ty}
@@ -53,15 +53,6 @@ use Rattle.typing.proofs.Short.{call_short, method_short}
 use Rattle.typing.proofs.Tables.{symbols_fit}
 use Rattle.typing.specs.Callee.{Callee, call_of, method_of}
 use Rattle.typing.specs.Judge.{Given, Judged, RowJudged as Judgements, done, called, call_step, method_step, judge, judges}
-
--- ---- a test of what a call finds
-pub no_test : (b : Bool) → not b ≡ true → b ≡ false
-no_test true e = absurd (false≢true e)
-no_test false e = refl
-
-pub yes_test : (b : Bool) → not b ≡ false → b ≡ true
-yes_test true e = refl
-yes_test false e = absurd (true≢false e)
 
 -- ---- what a row is asked, behind what was judged since
 pub asked_row : {q : List ℕ} {s : State} (x : NodeAsked q s) {r : State} {p n : ℕ} {g : List Given} {d : List Diag} {b b₁ : List ℕ} → Reached s p n g d b b₁ r → (rs : Row) (many : ℕ)
@@ -115,7 +106,7 @@ passed_over_lem q {s} {e} {p} {n} many w rs st small counted =
 
 -- ---- a call that finds a list, behind what was judged since
 module _ {t : List ℕ} {index : List ℕ} (ok : IndexedTable t index) (H : Header) {q : List ℕ} {s : State} (x : NodeAsked q s) {e : State} {p n : ℕ} {g : List Given} {d : List Diag}
-    {b b₁ b₂ : List ℕ} (w : Reached s p n g d b b₁ e) (id : ℕ) (c : Callee) {owner : ℕ} {begun : Begun} (list : ListIs (symbols_of t) owner id s.node c e b₁ b₂ begun) (rs : Row) (many : ℕ)
+    {b b₁ b₂ : List ℕ} (w : Reached s p n g d b b₁ e) (id : ℕ) (c : Callee) {owner of : ℕ} {begun : Begun} (list : ListIs (symbols_of t) owner id s.node c e b₁ b₂ begun of) (rs : Row) (many : ℕ)
     (st : RowStands q rs p) (lg : RowLegal x.names rs) (counted : count rs ≡ many) (fits : many ≤ 16) (later : s.node < n) (room : n + sizes rs ≤ slots_for (length q)) (few : s.count + length d + 2 ≤ most_at_node * n) where
   before : Reached s p n g (d ++ at_node s.node c.before) b b₂ begun.state
   before =
@@ -147,14 +138,14 @@ module _ {t : List ℕ} {index : List ℕ} (ok : IndexedTable t index) (H : Head
     args_few : length (args_in a₁ l₁ row.args) ≤ 16
     args_few = omega (arith, ap (λ (xs : List Arg). length xs) args_is ∙ row_count (symbols_of t) H rs n)
 
-    verdict_is : resolve (symbols_of t) ((symbols_of t).functions_of begun.owner id) s.node (args_in a₁ l₁ row.args)
+    verdict_is : resolve (symbols_of t) ((symbols_of t).functions_of of id) s.node (args_in a₁ l₁ row.args)
         ≡ resolve (symbols_of t) c.overloads s.node (judges (symbols_of t) H rs n).args
     verdict_is = rw (list.owned, list.list, args_is)
 
     row_later : LaterRow t H s p n g (d ++ at_node s.node c.before) a a₁ l l₁ b b₃ row.state rs
     row_later = later_row before row_is
 
-    pub call_ready : CallAsked l₁ s.node row (resolve (symbols_of t) ((symbols_of t).functions_of begun.owner id) s.node (args_in a₁ l₁ row.args))
+    pub call_ready : CallAsked l₁ s.node row (resolve (symbols_of t) ((symbols_of t).functions_of of id) s.node (args_in a₁ l₁ row.args))
     call_ready =
         let J : Judgements = judges (symbols_of t) H rs n in
         let D : List Diag = d ++ at_node s.node c.before in
@@ -172,8 +163,8 @@ module _ {t : List ℕ} {index : List ℕ} (ok : IndexedTable t index) (H : Head
         → judge (symbols_of t) H x.tree s.node
         ≡ called s.node c.before (resolve (symbols_of t) c.overloads s.node (judges (symbols_of t) H rs n).args) (g ++ (judges (symbols_of t) H rs n).typed) d (judges (symbols_of t) H rs n).diags
         → p + bytess rs ≡ s.at + bytes x.tree → number_after_row rs n ≡ number_after x.tree s.node → length d + most_at_node * suc (sizes rs) ≤ most_at_node * size x.tree
-        → Finished row.state s.node (resolve (symbols_of t) ((symbols_of t).functions_of begun.owner id) s.node (args_in a₁ l₁ row.args)).ty
-        (resolve (symbols_of t) ((symbols_of t).functions_of begun.owner id) s.node (args_in a₁ l₁ row.args)).diags a₁ a' l₁ l' b₃ b' r
+        → Finished row.state s.node (resolve (symbols_of t) ((symbols_of t).functions_of of id) s.node (args_in a₁ l₁ row.args)).ty
+        (resolve (symbols_of t) ((symbols_of t).functions_of of id) s.node (args_in a₁ l₁ row.args)).diags a₁ a' l₁ l' b₃ b' r
         → NodeIs t H s a₀ a' l₀ l' b b' r x.tree
     call_close fill eq ep en size f =
         let J : Judgements = judges (symbols_of t) H rs n in
@@ -195,7 +186,7 @@ module _ {t : List ℕ} {index : List ℕ} (ok : IndexedTable t index) (fit : Ca
       reached_as (ap (λ (z : State). z.at) i) (ap (λ (z : State). z.node) i) refl refl (reached_inside 4 i (reached_here s₁ b))
 
   -- no list
-  module _ (no : begun.listed ≡ false) where
+  module _ (no : begun.list ≡ None) where
     over_call : let rs = (is_call q s.at x.tree id many x.stands h).0 in Reached s (s.at + 4 + bytess rs) (number_after_row rs (suc s.node)) [] [] b b (passed_over q begun.state many)
     unfolding size
     over_call =
@@ -225,7 +216,7 @@ module _ {t : List ℕ} {index : List ℕ} (ok : IndexedTable t index) (fit : Ca
         rw n.buffer (close ok H x _ j over_call (filled_none _ _) (f b) refl refl (omega arith) (sym num) (omega arith))
 
   -- a list
-  module _ (yes : begun.listed ≡ true) where
+  module _ {of : ℕ} (yes : begun.list ≡ Some of) where
     pub asked_args : RowAsked q begun.state 0 many
     unfolding size Legal
     asked_args =
@@ -247,7 +238,7 @@ module _ {t : List ℕ} {index : List ℕ} (ok : IndexedTable t index) (fit : Ca
 
     module _ {a a₁ l l₁ b₂ : List ℕ} {row : RowJudged} (lent : Space q a₁ l₁)
         (js : (y : RowAsked q begun.state 0 many) → RowIs t H begun.state 0 many (replicate 16 0) (replicate 16 0) a a₁ l l₁ b₁ b₂ row y.trees) where
-      pub args_ready : CallAsked l₁ s.node row (resolve (symbols_of t) ((symbols_of t).functions_of begun.owner id) s.node (args_in a₁ l₁ row.args))
+      pub args_ready : CallAsked l₁ s.node row (resolve (symbols_of t) ((symbols_of t).functions_of of id) s.node (args_in a₁ l₁ row.args))
       unfolding size Legal
       args_ready =
           let (rs, e, counted, st) = is_call q s.at x.tree id many x.stands h in
@@ -255,11 +246,11 @@ module _ {t : List ℕ} {index : List ℕ} (ok : IndexedTable t index) (fit : Ca
           let sz : size x.tree ≡ suc (sizes rs) = ap size e in
           let lg : Legal x.names (call id rs) = rw e at x.legal in
           call_ready ok H x inside-call id c list rs many st lg.1 counted (room_of q s.at _ h).1 (omega arith) (omega (arith, x.room)) (omega (arith, x.within.few)) lent js
-          (λ xs. call_short (symbols_of t) (symbols_fit t ok.clean) H id c s.node xs found) (λ xs k. rw (list.owned, list.list) at (fit.most begun.owner id s.node xs k))
+          (λ xs. call_short (symbols_of t) (symbols_fit t ok.clean) H id c s.node xs found) (λ xs k. rw (list.owned, list.list) at (fit.most of id s.node xs k))
 
       pub ret_call : {a' l' b' : List ℕ} {r : State}
-          → Finished row.state s.node (resolve (symbols_of t) ((symbols_of t).functions_of begun.owner id) s.node (args_in a₁ l₁ row.args)).ty
-          (resolve (symbols_of t) ((symbols_of t).functions_of begun.owner id) s.node (args_in a₁ l₁ row.args)).diags a₁ a' l₁ l' b₂ b' r
+          → Finished row.state s.node (resolve (symbols_of t) ((symbols_of t).functions_of of id) s.node (args_in a₁ l₁ row.args)).ty
+          (resolve (symbols_of t) ((symbols_of t).functions_of of id) s.node (args_in a₁ l₁ row.args)).diags a₁ a' l₁ l' b₂ b' r
           → NodeIs t H s a a' l l' b b' r x.tree
       unfolding judge size Legal bytes number_after call_step
       ret_call f =
@@ -270,7 +261,7 @@ module _ {t : List ℕ} {index : List ℕ} (ok : IndexedTable t index) (fit : Ca
           let sz : size x.tree ≡ suc (sizes rs) = ap size e in
           let lg : Legal x.names (call id rs) = rw e at x.legal in
           call_close ok H x inside-call id c list rs many st lg.1 counted (room_of q s.at _ h).1 (omega arith) (omega (arith, x.room)) (omega (arith, x.within.few)) lent js
-          (λ xs. call_short (symbols_of t) (symbols_fit t ok.clean) H id c s.node xs found) (λ xs k. rw (list.owned, list.list) at (fit.most begun.owner id s.node xs k))
+          (λ xs. call_short (symbols_of t) (symbols_fit t ok.clean) H id c s.node xs found) (λ xs k. rw (list.owned, list.list) at (fit.most of id s.node xs k))
           (filled_none _ _) (ap (λ (z : Node). judge (symbols_of t) H z s.node) e ∙ ap (λ (o : Option Callee). call_step (symbols_of t) s.node o (judges (symbols_of t) H rs (suc s.node))) found) (omega arith) (sym num) (omega arith) f
 
 -- ---- method calls
@@ -309,7 +300,7 @@ module _ {t : List ℕ} {index : List ℕ} (ok : IndexedTable t index) (fit : Ca
           rw top.is at bs
 
       -- no list
-      module _ (no : begun.listed ≡ false) where
+      module _ (no : begun.list ≡ None) where
         over_method : let (c, rs, e, counted, sc, st) = is_method q s.at x.tree id many x.stands h in
             Reached s (s.at + 4 + bytes c + bytess rs) (number_after_row rs (number_after c (suc s.node))) (judge (symbols_of t) H c (suc s.node)).typed (judge (symbols_of t) H c (suc s.node)).diags b₀ b (passed_over q begun.state many)
         unfolding size
@@ -341,7 +332,7 @@ module _ {t : List ℕ} {index : List ℕ} (ok : IndexedTable t index) (fit : Ca
             rw n.buffer (close ok H x _ j over_method object_is.filled (f b) refl (append-nil C.diags) (omega arith) (sym num) (omega (arith, object_is.few)))
 
       -- a list
-      module _ (yes : begun.listed ≡ true) where
+      module _ {of : ℕ} (yes : begun.list ≡ Some of) where
         pub asked_method : RowAsked q begun.state 0 many
         unfolding size Legal
         asked_method =
@@ -365,7 +356,7 @@ module _ {t : List ℕ} {index : List ℕ} (ok : IndexedTable t index) (fit : Ca
 
         module _ {a₁ l₁ b₂ : List ℕ} {row : RowJudged} (lent : Space q a₁ l₁)
             (js : (y : RowAsked q begun.state 0 many) → RowIs t H begun.state 0 many (replicate 16 0) (replicate 16 0) a a₁ l l₁ b₁ b₂ row y.trees) where
-          pub method_ready : CallAsked l₁ s.node row (resolve (symbols_of t) ((symbols_of t).functions_of begun.owner id) s.node (args_in a₁ l₁ row.args))
+          pub method_ready : CallAsked l₁ s.node row (resolve (symbols_of t) ((symbols_of t).functions_of of id) s.node (args_in a₁ l₁ row.args))
           unfolding size Legal
           method_ready =
               let (c, rs, e, counted, sc, st) = is_method q s.at x.tree id many x.stands h in
@@ -374,11 +365,11 @@ module _ {t : List ℕ} {index : List ℕ} (ok : IndexedTable t index) (fit : Ca
               let lg : Legal x.names (method id c rs) = rw e at x.legal in
               let num = after_size c (suc s.node) in
               call_ready ok H x object_is.reached id f list rs many st lg.2 counted (room_of q s.at _ h).1 (omega arith) (omega (arith, x.room)) (omega (arith, x.within.few, object_is.few, some_size c)) lent js
-              (λ xs. method_short (symbols_of t) (symbols_fit t ok.clean) H id (judge (symbols_of t) H c (suc s.node)).ty f s.node xs found) (λ xs k. rw (list.owned, list.list) at (fit.most begun.owner id s.node xs k))
+              (λ xs. method_short (symbols_of t) (symbols_fit t ok.clean) H id (judge (symbols_of t) H c (suc s.node)).ty f s.node xs found) (λ xs k. rw (list.owned, list.list) at (fit.most of id s.node xs k))
 
           pub ret_method : {a' l' b' : List ℕ} {r : State}
-              → Finished row.state s.node (resolve (symbols_of t) ((symbols_of t).functions_of begun.owner id) s.node (args_in a₁ l₁ row.args)).ty
-              (resolve (symbols_of t) ((symbols_of t).functions_of begun.owner id) s.node (args_in a₁ l₁ row.args)).diags a₁ a' l₁ l' b₂ b' r
+              → Finished row.state s.node (resolve (symbols_of t) ((symbols_of t).functions_of of id) s.node (args_in a₁ l₁ row.args)).ty
+              (resolve (symbols_of t) ((symbols_of t).functions_of of id) s.node (args_in a₁ l₁ row.args)).diags a₁ a' l₁ l' b₂ b' r
               → NodeIs t H s a₀ a' l₀ l' b₀ b' r x.tree
           unfolding judge size Legal bytes number_after method_step
           ret_method w =
@@ -390,5 +381,5 @@ module _ {t : List ℕ} {index : List ℕ} (ok : IndexedTable t index) (fit : Ca
               let lg : Legal x.names (method id c rs) = rw e at x.legal in
               let k = after_size c (suc s.node) in
               call_close ok H x object_is.reached id f list rs many st lg.2 counted (room_of q s.at _ h).1 (omega arith) (omega (arith, x.room)) (omega (arith, x.within.few, object_is.few, some_size c)) lent js
-              (λ xs. method_short (symbols_of t) (symbols_fit t ok.clean) H id (judge (symbols_of t) H c (suc s.node)).ty f s.node xs found) (λ xs k. rw (list.owned, list.list) at (fit.most begun.owner id s.node xs k))
+              (λ xs. method_short (symbols_of t) (symbols_fit t ok.clean) H id (judge (symbols_of t) H c (suc s.node)).ty f s.node xs found) (λ xs k. rw (list.owned, list.list) at (fit.most of id s.node xs k))
               object_is.filled (ap (λ (z : Node). judge (symbols_of t) H z s.node) e ∙ ap (λ (o : Option Callee). method_step (symbols_of t) s.node (judge (symbols_of t) H c (suc s.node)) o (judges (symbols_of t) H rs (number_after c (suc s.node)))) found) (omega arith) (sym num) (omega (arith, object_is.few)) w

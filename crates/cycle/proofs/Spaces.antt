@@ -13,12 +13,22 @@ use Rattle.question.proofs.NodeReading.{room_of}
 use Rattle.question.specs.Inside.Stands.{TreeStands, RowStands}
 use Rattle.question.specs.Tree.{Node, Row, leaf, binary, unary, named, member, call, method, nil, cons, size, sizes, bytes, bytess}
 use Rattle.ty.proofs.Choice.{by_choice, choose_yes}
+use Rattle.ty.specs.Choose.{choose}
 
 pub slots_few : (n : ℕ) → slots_for n ≤ 64
 unfolding slots_for
 slots_few n =
     by_choice (λ (m : ℕ). m ≤ 64) _ (λ _. omega arith) λ _.
     by_choice (λ (m : ℕ). m ≤ 64) _ (λ _. omega arith) (λ _. omega arith)
+
+pub slots_short : (n : ℕ) → n ≤ short_question → slots_for n ≤ few_slots
+unfolding slots_for
+slots_short n h = omega (arith, choose_yes (leb n short_question) few_slots (choose (leb n middle_question) some_slots slot_count) (le-leb n short_question h))
+
+pub slots_middle : (n : ℕ) → n ≤ middle_question → slots_for n ≤ some_slots
+unfolding slots_for
+slots_middle n h =
+    by_choice (λ (m : ℕ). m ≤ some_slots) _ (λ _. omega arith) (λ _. omega (arith, choose_yes (leb n middle_question) some_slots slot_count (le-leb n middle_question h)))
 
 slots_some : (n : ℕ) → 1 ≤ slots_for n
 unfolding slots_for
@@ -32,22 +42,6 @@ some_slots_lem {q} w = omega (arith, w.enough, slots_some (length q))
 
 pub space_still : {q a a' l l' : List ℕ} → length a' ≡ length a → length l' ≡ length l → Space q a l → Space q a' l'
 space_still {a = a} {a' = a'} {l = l} {l' = l'} e f w = record { lent = lent_still a a' l l' e f w.lent; enough = omega (arith, w.enough) }
-
-pub space_few : (q a l : List ℕ) → length q ≤ short_question → length a ≡ 2048 → length l ≡ few_slots → Space q a l
-unfolding slots_for
-space_few q a l h e f =
-    let n : slots_for (length q) ≡ few_slots = choose_yes _ _ _ (le-leb (length q) short_question h) in
-    record { lent = record { wide = omega arith; long = omega arith }; enough = omega arith }
-
-pub space_some : (q a l : List ℕ) → length q ≤ middle_question → length a ≡ 8192 → length l ≡ some_slots → Space q a l
-unfolding slots_for
-space_some q a l h e f =
-    let n : slots_for (length q) ≤ some_slots
-    = by_choice (λ (m : ℕ). m ≤ some_slots) _ (λ _. omega arith) (λ _. omega (arith, choose_yes (leb (length q) middle_question) some_slots slot_count (le-leb (length q) middle_question h))) in
-    record { lent = record { wide = omega arith; long = omega arith }; enough = omega arith }
-
-pub space_many : (q a l : List ℕ) → length a ≡ 16384 → length l ≡ 64 → Space q a l
-space_many q a l e f = record { lent = record { wide = omega arith; long = omega arith }; enough = omega (arith, slots_few (length q)) }
 
 -- ---- a node has at least 2 bytes
 mutual

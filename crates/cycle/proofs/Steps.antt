@@ -21,11 +21,14 @@ use Rattle.question.proofs.NodeReading.{room_of}
 use Rattle.question.proofs.Standing.{is_bad, is_endless_lem, is_leaf, is_binary, is_unary, is_named_lem, is_member, at_ends}
 use Rattle.question.proofs.Trees.{after_size, some_size}
 use Rattle.question.specs.Legal.{Legal}
-use Rattle.question.specs.NodeRead.{node_at}
+use Rattle.question.specs.Node.{node_read, fault_read}
 use Rattle.question.specs.Inside.Stands.{TreeStands}
 use Rattle.question.specs.Tree.{Node, binary, unary, named, member, number_after, size, bytes}
 use Rattle.question.specs.declared.Header.{Header}
-use Rattle.question.specs.declared.node.NodeRead.TheVariants.{Bad, Leaf, Endless, Binary, Unary, Named, Member}
+use Rattle.question.specs.NodeRead.{node_at, Leaf, Binary, Unary, Named, Member}
+use Rattle.question.specs.declared.node.Node.{Node as CodeNode}
+use Rattle.question.specs.declared.node.NodeFault.{NodeFault}
+use Rattle.question.specs.declared.node.NodeFault.TheVariants.{Bad as BadNode, Endless as EndlessNode}
 use Rattle.operators.specs.Binary.{binary_out}
 use Rattle.operators.specs.Diag.{reported_at as at_node}
 use Rattle.rules.specs.Member.{member_out}
@@ -35,6 +38,10 @@ use Rattle.symbol.specs.Lookup.{symbols_of}
 use Rattle.index.specs.Inside.IndexedTable.{IndexedTable}
 use Rattle.ty.specs.Bytes.{Ty}
 use Rattle.typing.specs.Judge.{Given, Judged, done, closed, judge}
+
+-- ---- what stands at a position, by what is read there
+pub read_as : (q : List ℕ) (at : ℕ) {x y : CodeNode} → node_read x ≡ node_at q at → x ≡ y → node_at q at ≡ node_read y
+read_as q at e f = sym e ∙ ap node_read f
 
 -- ---- what a call of the node judge is asked
 module _ {q : List ℕ} {s : State} (x : NodeAsked q s) where
@@ -146,11 +153,10 @@ module _ {t : List ℕ} {index : List ℕ} (ok : IndexedTable t index) (H : Head
       → AreaFilled a a' l l' j.typed → length j.diags ≤ most_at_node * size x.tree → NodeIs t H s a a' l l' b b' r x.tree
   node_is j e re ea en fill few = record { reached = rw e (reached_as ea en refl refl re); filled = rw e fill; few = rw e few }
 
-  pub ret_bad : {a l b : List ℕ} {r : State} → node_at q s.at ≡ Bad → NodeIs t H s a a l l b b r x.tree
-  ret_bad h = absurd (is_bad q s.at x.tree x.stands h)
-
-  pub ret_endless : {a l b : List ℕ} {r : State} (top : ℕ) → node_at q s.at ≡ Endless top → NodeIs t H s a a l l b b r x.tree
-  ret_endless top h = absurd (is_endless_lem q s.at x.tree top x.stands h)
+  -- there is a node
+  pub ret_unread : {a l b : List ℕ} {r : State} (fault : NodeFault) → node_at q s.at ≡ fault_read fault → NodeIs t H s a a l l b b r x.tree
+  ret_unread BadNode h = absurd (is_bad q s.at x.tree x.stands h)
+  ret_unread (EndlessNode top) h = absurd (is_endless_lem q s.at x.tree top x.stands h)
 
   -- by the finished node behind its children, which reported at most so many
   pub close : (j : Judged) → judge (symbols_of t) H x.tree s.node ≡ j → {p m : ℕ} {g : List Given} {d ds : List Diag} {a a₁ a' l l₁ l' b b₁ b' : List ℕ} {r₁ r : State}

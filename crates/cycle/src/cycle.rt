@@ -6,7 +6,7 @@ use nodes::calls::{RowJudged, begin_call, begin_method, finish_call, unlisted};
 use nodes::progress::{State, argument_name, inside};
 use nodes::rule::{finish_binary, finish_member, finish_named, finish_unary, judge_leaf};
 use question::Header;
-use question::node::{NodeRead, node_at};
+use question::node::{Node, node_at};
 use scoring::args::Args;
 use ty::Kind;
 
@@ -26,44 +26,48 @@ pub fn judge_node(
     ensures { JudgesNode table.now q.now header s area lens buf result }
 {
     let node = s.node;
-    let read = node_at(q, s.at);
+    let Ok(read) = node_at(q, s.at) else {
+        return s; // an accepted question has a node here
+    };
     match read {
-        NodeRead::Bad => s,
-        NodeRead::Endless { top: _ } => s,
-        NodeRead::Leaf { len, top: _ } => judge_leaf(q, len, s, area, lens),
-        NodeRead::Binary { op } => {
+        Node::Leaf { len, top: _ } => judge_leaf(q, len, s, area, lens),
+        Node::Binary { op } => {
             let l = judge_node(table, index, q, header, inside(s, 2), area, lens, buf);
             let r = judge_node(table, index, q, header, l, area, lens, buf);
             finish_binary(table, index, op, node, l.node, r, area, lens, buf)
         }
-        NodeRead::Unary { op } => {
+        Node::Unary { op } => {
             let x = judge_node(table, index, q, header, inside(s, 2), area, lens, buf);
             finish_unary(table, op, node, x, area, lens, buf)
         }
-        NodeRead::Named { id: _ } => {
+        Node::Named { id: _ } => {
             let x = judge_node(table, index, q, header, inside(s, 3), area, lens, buf);
             finish_named(table, node, x, area, lens)
         }
-        NodeRead::Member { id } => {
+        Node::Member { id } => {
             let x = judge_node(table, index, q, header, inside(s, 3), area, lens, buf);
             finish_member(table, index, header, id, node, x, area, lens, buf)
         }
-        NodeRead::Call { id, count } => {
+        Node::Call { id, count } => {
             let c = begin_call(table, index, header, id, node, inside(s, 4), buf);
-            if !c.listed {
-                return unlisted(table, q, Kind::ERROR, count, node, c.state, area, lens);
+            match c.list {
+                None => unlisted(table, q, Kind::Error, count, node, c.state, area, lens),
+                Some(owner) => {
+                    let r = judge_row(table, index, q, header, c.state, count, area, lens, buf);
+                    finish_call(table, index, owner, id, node, r, area, lens, buf)
+                }
             }
-            let r = judge_row(table, index, q, header, c.state, count, area, lens, buf);
-            finish_call(table, index, c.owner, id, node, r, area, lens, buf)
         }
-        NodeRead::Method { id, count } => {
+        Node::Method { id, count } => {
             let x = judge_node(table, index, q, header, inside(s, 4), area, lens, buf);
             let c = begin_method(table, index, header, id, node, x, area, lens, buf);
-            if !c.listed {
-                return unlisted(table, q, Kind::ANY, count, node, c.state, area, lens);
+            match c.list {
+                None => unlisted(table, q, Kind::Any, count, node, c.state, area, lens),
+                Some(owner) => {
+                    let r = judge_row(table, index, q, header, c.state, count, area, lens, buf);
+                    finish_call(table, index, owner, id, node, r, area, lens, buf)
+                }
             }
-            let r = judge_row(table, index, q, header, c.state, count, area, lens, buf);
-            finish_call(table, index, c.owner, id, node, r, area, lens, buf)
         }
     }
 }
@@ -88,12 +92,10 @@ fn judge_row(
     let mut nodes = [0usize; 16];
     let mut names = [0u16; 16];
     let mut e = s;
-    let mut k: usize = 0;
-    while k < count {
+    for k in 0..count {
         nodes[k] = e.node;
         names[k] = argument_name(q, e.at);
         e = judge_node(table, index, q, header, e, area, lens, buf);
-        k += 1;
     }
     let args = Args {
         count,

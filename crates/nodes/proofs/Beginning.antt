@@ -2,9 +2,11 @@
 use Prim.Native.Nat.{ℕ, ◌+◌, ◌≤◌}
 use lib.Dec.{eqb}
 use lib.ListN.{length, length-append}
-use mathlib.Core.Bool.{Bool, true, false, true≢false, false≢true}
+use mathlib.Core.Bool.{Bool, true, false}
 use mathlib.Core.List.{List, [], ◌∷◌}
 use mathlib.Core.Option.{Option, none, some}
+use Rattle.std.proofs.Common as std
+use Rattle.std.proofs.Common.{Some, None}
 use mathlib.Core.Path.{◌≡◌, refl, sym, ap, ◌∙◌}
 use native.Mathlib.Omega.{arith}
 use Rattle.nodes.proofs.Reaching.{and_true, state_path}
@@ -13,7 +15,6 @@ use Rattle.nodes.specs.Inside.Call.{no_list_at, list_at, owner_of, method_owner,
 use Rattle.nodes.specs.Inside.Progress.{Reached}
 use Rattle.nodes.specs.Inside.Row.{id_of}
 use Rattle.nodes.specs.declared.calls.Begun.{Begun}
-use Rattle.nodes.specs.declared.calls.Owner.{Owner}
 use Rattle.nodes.specs.declared.progress.State.{State}
 use Rattle.operators.specs.Diag.{reported_at as at_node}
 use Rattle.operators.specs.DiagnosticKind.{suspend_diag}
@@ -34,8 +35,15 @@ use Rattle.typing.specs.Callee.{Callee, base_name, call_in, call_of, method_in, 
 use Rattle.typing.specs.Mark.{no_error}
 
 -- ---- what is read of the object
-pub owner_by : {k n : ℕ} {v u t : Ty} → k ≡ kind_of v → n ≡ name_of v → v ≡ non_null u → u ≡ t → ◌≡◌ {A = Owner} (record { named = eqb k named_kind; id = n }) (owner_of t)
-owner_by e f g h = rw (e, f, g, h) refl
+chosen_none : (x : ℕ) (b : Bool) → choose b (Some x) None ≡ None → b ≡ false
+unfolding choose
+chosen_none x true e = absurd (cc)
+chosen_none x false e = refl
+
+chosen_some : (x y : ℕ) (b : Bool) → choose b (Some x) None ≡ Some y → (b ≡ true) × (x ≡ y)
+unfolding choose
+chosen_some x y true e = (refl, cc)
+chosen_some x y false e = absurd (cc)
 
 -- ---- the contract of what begins a call
 list_is : {node : ℕ} {s : State} {r : Begun} (owner : ℕ) {b b' : List ℕ} {count : ℕ} (rs : List Report) (os : List Overload) → Reported b s.count b' count (at_node node rs)
@@ -68,23 +76,21 @@ module _ (S : Symbols) (H : Header) (id node : ℕ) (s : State) (r : Begun) wher
   unfolding method_in
   method_some owner vis {o = o} {os = os} e v x f = rw e (list_is owner (method_reports S H o.visibility owner id) (o ∷ os) (rw v at x) f)
 
-  pub owner_none : (b : List ℕ) (t : Ty) {o : Owner} → o ≡ owner_of t → o.named ≡ false → r ≡ no_list_at s → BegunIs (method_owner t) node (method_of S H id t) s b b r
+  pub owner_none : (b : List ℕ) (t : Ty) {o : std.Option ℕ} → o ≡ owner_of t → o ≡ None → r ≡ no_list_at s → BegunIs (method_owner t) node (method_of S H id t) s b b r
   unfolding method_by base_name choose
-  owner_none b t e n f =
-      let k : eqb (kind_of (non_null t)) named_kind ≡ false = sym (ap (λ (z : Owner). z.named) e) ∙ n in
-      rw k (no_list f)
+  owner_none b t e n f = rw (chosen_none (name_of (non_null t)) (eqb (kind_of (non_null t)) named_kind) (sym e ∙ n)) (no_list f)
 
-  pub owner_some : (b b' : List ℕ) (t : Ty) {o : Owner} → o ≡ owner_of t → o.named ≡ true
-      → BegunIs o.id node (method_in S H o.id id (S.functions_of o.id id)) s b b' r → BegunIs (method_owner t) node (method_of S H id t) s b b' r
+  pub owner_some : (b b' : List ℕ) (t : Ty) (owner : ℕ) {o : std.Option ℕ} → o ≡ owner_of t → o ≡ Some owner
+      → BegunIs owner node (method_in S H owner id (S.functions_of owner id)) s b b' r → BegunIs (method_owner t) node (method_of S H id t) s b b' r
   unfolding method_by base_name choose id_of
-  owner_some b b' t e n x =
-      let k : eqb (kind_of (non_null t)) named_kind ≡ true = sym (ap (λ (z : Owner). z.named) e) ∙ n in
-      rw k (rw e at x)
+  owner_some b b' t owner e n x =
+      let w = chosen_some (name_of (non_null t)) owner (eqb (kind_of (non_null t)) named_kind) (sym e ∙ n) in
+      rw (w.0, w.1) x
 
 -- ---- for the judge of a node
--- the list of the call at `node` is the owner's, and what is reported before the arguments has been reported
-pub record ListIs (S : Symbols) (owner id node : ℕ) (c : Callee) (s : State) (b b' : List ℕ) (r : Begun) : Type 0 where
-  pub owned : r.owner ≡ owner
+-- the list that is found for the call at `node` is the owner's, and what is reported before the arguments has been reported
+pub record ListIs (S : Symbols) (owner id node : ℕ) (c : Callee) (s : State) (b b' : List ℕ) (r : Begun) (of : ℕ) : Type 0 where
+  pub owned : of ≡ owner
   pub list : S.functions_of owner id ≡ c.overloads
   pub reached : Reached s s.at s.node [] (at_node node c.before) b b' r.state
   pub few : length c.before ≤ 2
@@ -142,21 +148,21 @@ module _ (S : Symbols) (H : Header) (id : ℕ) where
   method_listed (some owner) c f = owned_listed owner c f
 
 module _ {owner node : ℕ} {s : State} {b b' : List ℕ} {r : Begun} where
-  pub begun_none : (found : Option Callee) → BegunIs owner node found s b b' r → r.listed ≡ false → (found ≡ none) × NoList s b b' r
+  pub begun_none : (found : Option Callee) → BegunIs owner node found s b b' r → r.list ≡ None → (found ≡ none) × NoList s b b' r
   unfolding begun_as buffer_begun
   begun_none none x e = (refl, record { state = ap (λ (z : Begun). z.state) x.result; buffer = x.buffer })
-  begun_none (some c) x e = absurd (true≢false (sym (ap (λ (z : Begun). z.listed) x.result) ∙ e))
+  begun_none (some c) x e = let f = ap (λ (z : Begun). z.list) x.result in absurd (cc)
 
-  begun_some : (S : Symbols) (id : ℕ) (found : Option Callee) → ((c : Callee) → found ≡ some c → Listed S owner id c) → BegunIs owner node found s b b' r → r.listed ≡ true
-      → (c : Callee) × (found ≡ some c) × ListIs S owner id node c s b b' r
+  begun_some : (S : Symbols) (id : ℕ) (found : Option Callee) → ((c : Callee) → found ≡ some c → Listed S owner id c) → BegunIs owner node found s b b' r → {of : ℕ} → r.list ≡ Some of
+      → (c : Callee) × (found ≡ some c) × ListIs S owner id node c s b b' r of
   unfolding begun_as buffer_begun no_error
-  begun_some S id none k x e = absurd (false≢true (sym (ap (λ (z : Begun). z.listed) x.result) ∙ e))
+  begun_some S id none k x e = let f = ap (λ (z : Begun). z.list) x.result in absurd (cc)
   begun_some S id (some c) k x e =
       let w = k c refl in (
         c,
         refl,
         record {
-          owned = ap (λ (z : Begun). z.owner) x.result;
+          owned = (let f = ap (λ (z : Begun). z.list) x.result in cc);
           list = w.list;
           reached = record {
             result = ap (λ (z : Begun). z.state) x.result ∙ state_path _ _ refl refl (ap (λ (n : ℕ). s.count + n) (sym (at_length node c.before))) (sym (and_true s.fine));
@@ -167,10 +173,10 @@ module _ {owner node : ℕ} {s : State} {b b' : List ℕ} {r : Begun} where
       )
 
 -- a call, and a method call on an object of the type t, that find a list
-pub call_begun : (S : Symbols) (H : Header) (id : ℕ) {node : ℕ} {s : State} {b b' : List ℕ} {r : Begun} → BegunIs no_id node (call_of S H id) s b b' r → r.listed ≡ true
-    → (c : Callee) × (call_of S H id ≡ some c) × ListIs S no_id id node c s b b' r
+pub call_begun : (S : Symbols) (H : Header) (id : ℕ) {node : ℕ} {s : State} {b b' : List ℕ} {r : Begun} → BegunIs no_id node (call_of S H id) s b b' r → {of : ℕ} → r.list ≡ Some of
+    → (c : Callee) × (call_of S H id ≡ some c) × ListIs S no_id id node c s b b' r of
 call_begun S H id = begun_some S id (call_of S H id) (call_listed S H id)
 
-pub method_begun : (S : Symbols) (H : Header) (id : ℕ) (t : Ty) {node : ℕ} {s : State} {b b' : List ℕ} {r : Begun} → BegunIs (method_owner t) node (method_of S H id t) s b b' r → r.listed ≡ true
-    → (c : Callee) × (method_of S H id t ≡ some c) × ListIs S (method_owner t) id node c s b b' r
+pub method_begun : (S : Symbols) (H : Header) (id : ℕ) (t : Ty) {node : ℕ} {s : State} {b b' : List ℕ} {r : Begun} → BegunIs (method_owner t) node (method_of S H id t) s b b' r → {of : ℕ} → r.list ≡ Some of
+    → (c : Callee) × (method_of S H id t ≡ some c) × ListIs S (method_owner t) id node c s b b' r of
 method_begun S H id t = begun_some S id (method_of S H id t) (method_listed S H id (base_name t))

@@ -3,3 +3,4 @@ pub mod Working
 pub mod Beginning
 pub mod Filling
 pub mod Storing
+pub mod Naming

@@ -1,5 +1,5 @@
 -- Laws of the work at one node, on plain values.
-use Prim.Native.Nat.{ℕ, zero, suc, ◌+◌, ◌≤◌, ◌<◌}
+use Prim.Native.Nat.{ℕ, suc, ◌+◌, ◌≤◌, ◌<◌}
 use lib.ListN.{length, take, drop, length-append, length-take}
 use mathlib.Core.Bool.{Bool, true, not, ◌&&◌}
 use mathlib.Core.List.{List, [], ◌∷◌, ◌++◌}
@@ -29,14 +29,18 @@ use Rattle.question.specs.Inside.Skip.{skip_at}
 use Rattle.question.specs.declared.node.Skipped.{Skipped}
 use Rattle.operators.specs.Diag.{diag, reported_at as at_node}
 use Rattle.operators.specs.Out.{Report, Out, error_ty}
-use Rattle.operators.specs.Inside.Ruled.{report_of, out_of}
+use Rattle.operators.specs.Inside.Ruled.{reports_of, out_of}
+use Rattle.operators.specs.declared.ruled.Diagnostic.{Diagnostic}
+use Rattle.area.specs.DiagnosticKind.{diagnostic_number}
+use Rattle.std.proofs.Common.{Option, None, Some}
 use Rattle.operators.specs.declared.ruled.Ruled.{Ruled}
 use Rattle.symbol.specs.Inside.LookupAnswer.{FunctionIs, FunctionFound}
 use Rattle.symbol.specs.Symbols.{Overload}
-use Rattle.index.specs.declared.index.Found.TheVariants.{Nothing, Here}
-use Rattle.index.specs.declared.index.Found.{Found}
+use Rattle.index.specs.Inside.Found.{Found}
 use Rattle.index.specs.declared.index.Place.{Place}
 use Rattle.ty.specs.Bytes.{Ty, plain_ty, same_bytes}
+use Rattle.ty.specs.KindNumber.{kind_number}
+use Rattle.ty.specs.declared.Kind.{Kind as TyKind}
 use Rattle.typing.specs.Mark.{no_error}
 
 -- ---- what is reported at a node
@@ -50,35 +54,29 @@ unfolding at_node
 at_append n [] ss = refl
 at_append n (r ∷ rs) ss = ap (λ (ds : List Diag). diag r.kind n r.number ∷ ds) (at_append n rs ss)
 
-report_few : (k m : ℕ) → length (report_of k m) ≤ 1
-unfolding report_of
-report_few zero m = omega arith
-report_few (suc k) m = omega arith
+report_few : (o : Option Diagnostic) → length (reports_of o) ≤ 1
+unfolding reports_of
+report_few None = omega arith
+report_few (Some d) = omega arith
 
 -- a rule reports at most two
 pub rule_few : (table : List ℕ) (x y : Ty) (r : Ruled) → length (out_of table x y r).reports ≤ 2
 unfolding out_of
 rule_few table x y r =
-    let k = r.first.kind in
-    let m = r.first.number in
-    let j = r.second.kind in
-    let i = r.second.number in
-    omega (arith, length-append (report_of k m) (report_of j i), report_few k m, report_few j i)
+    omega (arith, length-append (reports_of r.first) (reports_of r.second), report_few r.first, report_few r.second)
 
 -- ---- the buffer
 pub none_reported : (b : List ℕ) (n : ℕ) → Reported b n b n []
 none_reported b n = record { count = sym (add-zero n); buffer = sym (put_all_none b n) }
 
-pub reported_none : (b : List ℕ) (n node kind number : ℕ) → kind ≡ 0 → Reported b n b n (at_node node (report_of kind number))
-unfolding at_node report_of
-reported_none b n node zero number e = none_reported b n
-reported_none b n node (suc k) number e = absurd (omega arith)
+pub reported_none : (b : List ℕ) (n node : ℕ) (o : Option Diagnostic) → o ≡ None → Reported b n b n (at_node node (reports_of o))
+unfolding at_node reports_of
+reported_none b n node o e = rw e (none_reported b n)
 
-pub reported_one : (b b' : List ℕ) (n m node kind number : ℕ) → (kind ≡ 0 → ⊥) → m ≡ n + 1 → b' ≡ put_one b n (record { kind = kind; node = node; number = number })
-    → Reported b n b' m (at_node node (report_of kind number))
-unfolding at_node report_of
-reported_one b b' n m node zero number h e f = absurd (h refl)
-reported_one b b' n m node (suc k) number h e f = record { count = e; buffer = f ∙ sym (put_all-one b n _) }
+pub reported_one : (b b' : List ℕ) (n m node : ℕ) (o : Option Diagnostic) (d : Diagnostic) → o ≡ Some d → m ≡ n + 1
+    → b' ≡ put_one b n (record { kind = diagnostic_number d.kind; node = node; number = d.number }) → Reported b n b' m (at_node node (reports_of o))
+unfolding at_node reports_of
+reported_one b b' n m node o d z e f = rw z (record { count = e; buffer = f ∙ sym (put_all-one b n _) })
 
 pub reported_join : {b b₁ b₂ : List ℕ} {n m k : ℕ} {ds es : List Diag} → Reported b n b₁ m ds → Reported b₁ m b₂ k es → Reported b n b₂ k (ds ++ es)
 reported_join {b} {n = n} {m = m} {ds = ds} {es = es} x y =
@@ -130,20 +128,20 @@ module _ (table : List ℕ) {a l : List ℕ} (node : ℕ) where
   finish_named {s = s} lent h st f b =
       finish lent (omega (arith, h.past, h.inside)) (omega (arith, slot_length a l lent node (node + 1) h, h.small)) (omega arith) st (none_reported b s.count) f
 
-pub kind_store : (table a l : List ℕ) (node kind : ℕ) → Lent a l → node < length l → Lent a l × Storable table a l node node node (Kind kind)
+pub kind_store : (table a l : List ℕ) (node : ℕ) (kind : TyKind) → Lent a l → node < length l → Lent a l × Storable table a l node node node (Kind kind)
 unfolding Reads type_from
 kind_store table a l node kind lent h = (lent, record { room = h; reads = tt; short = omega arith })
 
-module _ (q table : List ℕ) {a a' l l' : List ℕ} (n node kind : ℕ) (s : State) {r : State} {p : Skipped} where
+module _ (q table : List ℕ) {a a' l l' : List ℕ} (n node : ℕ) (kind : TyKind) (s : State) {r : State} {p : Skipped} where
   pub finish_unlisted : Lent a l → node < length l → p ≡ skip_at q s.at n → Stored a a' l l' node (type_from table (slot_of a l node) (slot_of a l node) (Kind kind))
       → r ≡ finished_as (record { at = p.at; node = s.node + p.nodes; count = s.count; fine = s.fine }) s.count (slot_of a' l' node)
-      → (b : List ℕ) → Finished (passed_over q s n) node (plain_ty kind) [] a a' l l' b b r
+      → (b : List ℕ) → Finished (passed_over q s n) node (plain_ty (kind_number kind)) [] a a' l l' b b r
   unfolding type_from
   finish_unlisted lent h e st f b = finish lent h (omega arith) (omega arith) st (none_reported b s.count) (rw e at f)
 
 -- ---- rules
-pub one_more : {b b' : List ℕ} {n m : ℕ} (node kind number : ℕ) → Reported b n b' m (at_node node (report_of kind number)) → m ≤ n + 1
-one_more node kind number x = omega (arith, x.count, at_length node (report_of kind number), report_few kind number)
+pub one_more : {b b' : List ℕ} {n m : ℕ} (node : ℕ) (o : Option Diagnostic) → Reported b n b' m (at_node node (reports_of o)) → m ≤ n + 1
+one_more node o x = omega (arith, x.count, at_length node (reports_of o), report_few o)
 
 module _ (table : List ℕ) (a l : List ℕ) (node second : ℕ) (s : State) (ruled : Ruled) where
   abbrev out : Out
@@ -161,15 +159,15 @@ module _ (table : List ℕ) (a l : List ℕ) (node second : ℕ) (s : State) (ru
   )
 
   pub finish_ruled : {a' l' b b₁ b' : List ℕ} {m k : ℕ} {r : State} → RuleAsked a l node second s out
-      → Reported b s.count b₁ m (at_node node (report_of ruled.first.kind ruled.first.number))
-      → Reported b₁ m b' k (at_node node (report_of ruled.second.kind ruled.second.number))
+      → Reported b s.count b₁ m (at_node node (reports_of ruled.first))
+      → Reported b₁ m b' k (at_node node (reports_of ruled.second))
       → Stored a a' l l' node (type_from table (slot_of a l (node + 1)) (slot_of a l second) ruled.source) → r ≡ finished_as s k (slot_of a' l' node)
       → Finished s node out.ty (at_node node out.reports) a a' l l' b b' r
   unfolding out_of
   finish_ruled x u v st f =
       let few : length (at_node node out.reports) ≤ 1048576 = omega (arith, at_length node out.reports, rule_few table (slot_of a l (node + 1)) (slot_of a l second) ruled) in
       finish x.lent (omega (arith, x.left.past, x.left.inside)) x.short few st
-      (rw (at_append node (report_of ruled.first.kind ruled.first.number) (report_of ruled.second.kind ruled.second.number)) (reported_join u v)) f
+      (rw (at_append node (reports_of ruled.first) (reports_of ruled.second)) (reported_join u v)) f
 
 pub asked_as : {a l : List ℕ} {node second : ℕ} {s : State} {o p : Out} → p ≡ o → RuleAsked a l node second s o → RuleAsked a l node second s p
 asked_as e x = rw e x
@@ -191,8 +189,8 @@ module _ {table a l : List ℕ} {node : ℕ} {row : RowJudged} {v : Verdict} {b 
 
 -- ---- a search for functions
 module _ (t : List ℕ) (all : List Overload) where
-  pub found_none : (r : Found) → FunctionFound t all r → r ≡ Nothing → all ≡ []
+  pub found_none : (r : Found) → FunctionFound t all r → r ≡ None → all ≡ []
   found_none r x e = rw e at x
 
-  pub found_here_lem : (r : Found) (p : Place) → FunctionFound t all r → r ≡ Here p → FunctionIs t all p
+  pub found_here_lem : (r : Found) (p : Place) → FunctionFound t all r → r ≡ Some p → FunctionIs t all p
   found_here_lem r p x e = rw e at x

@@ -5,6 +5,7 @@ ghost use Rattle.scoring.specs.Inside.Args.{args_in};
 ghost use Rattle.area.specs.Inside.Slot.{Lent, slot_of, slot_count};
 ghost use Rattle.index.specs.Inside.IndexedTable.{IndexedTable};
 ghost use Rattle.ty.specs.Bytes.{plain_ty};
+ghost use Rattle.ty.specs.KindNumber.{kind_number};
 ghost use Rattle.ty.specs.Name.{no_id};
 ghost use Rattle.nodes.specs.Inside.Call.{no_list_at, list_at, owner_of, callee_at, owned_at, Begins, BeginsMethod, verdict_at, CallReady, FinishesCall};
 ghost use Rattle.nodes.specs.Inside.Progress.{FinishesSilently, passed_over};
@@ -12,7 +13,6 @@ ghost use Rattle.nodes.specs.Inside.Slices.{slot_at};
 
 use crate::progress::{State, finished};
 use area::{Source, slot, store};
-use index::index::Found;
 use overload::before::{before_call, before_method};
 use overload::calls::check_call_args;
 use question::Header;
@@ -22,19 +22,11 @@ use symbol::functions::read_function;
 use symbol::lookups::first_function;
 use ty::{Kind, NameId};
 
-// What a call finds: whether there is a list of functions, whose it is, and how far the judgement is before its arguments.
+// What a call finds: whose list of functions, NameId::NONE for nobody's, if there is one, and how far the judgement is before its arguments.
 #[derive(Clone, Copy)]
 pub struct Begun {
-    pub listed: bool,
-    pub owner: u16,
+    pub list: Option<u16>,
     pub state: State,
-}
-
-// The owner of a method: whether the base is Named, and its name.
-#[derive(Clone, Copy)]
-pub struct Owner {
-    pub named: bool,
-    pub id: u16,
 }
 
 // A judged argument row: its arguments, and how far the judgement is behind it.
@@ -49,8 +41,7 @@ fn no_list(s: State) -> Begun
     ensures { result ≡ no_list_at s }
 {
     Begun {
-        listed: false,
-        owner: NameId::NONE,
+        list: None,
         state: s,
     }
 }
@@ -66,8 +57,7 @@ fn listed(owner: u16, count: usize, s: State) -> Begun
         fine: s.fine,
     };
     Begun {
-        listed: true,
-        owner,
+        list: Some(owner),
         state,
     }
 }
@@ -87,23 +77,24 @@ pub fn begin_call(
 {
     let found = first_function(table, index, NameId::NONE, id);
     match found {
-        Found::Nothing => no_list(s),
-        Found::Here(_) => {
+        None => no_list(s),
+        Some(_) => {
             let count = before_call(table, index, header, id, node, buf, s.count);
             listed(NameId::NONE, count, s)
         }
     }
 }
 
-// The owner of a method of the object in a slot.
-fn owner_of(area: &[u8], lens: &[usize], m: usize) -> Owner
+// The owner of a method of the object in a slot, whose base is Named, or none.
+#[tactic(auto, unfolding(ty::specs::Choose::choose))]
+fn owner_of(area: &[u8], lens: &[usize], m: usize) -> Option<u16>
     ensures { result ≡ owner_of (slot_at area.now lens.now m) }
 {
     let base = ty::non_null(slot(area, lens, m));
-    Owner {
-        named: ty::kind_of(base) == Kind::NAMED,
-        id: ty::name_of(base),
+    if ty::is_kind(base, Kind::Named) {
+        return Some(ty::name_of(base));
     }
+    None
 }
 
 // A method call of a list of functions, if there is one.
@@ -122,8 +113,8 @@ fn begin_owned(
 {
     let found = first_function(table, index, owner, id);
     match found {
-        Found::Nothing => no_list(s),
-        Found::Here(p) => {
+        None => no_list(s),
+        Some(p) => {
             let f = read_function(table, p);
             let count = before_method(
                 table,
@@ -156,18 +147,17 @@ pub fn begin_method(
     requires { IndexedTable table.now index.now × (node < slot_count) × (s.count + 2 ≤ count_limit) }
     ensures { BeginsMethod table.now header id node (slot_at area.now lens.now (node + 1)) s buf result }
 {
-    let owner = owner_of(area, lens, node + 1);
-    if owner.named {
-        return begin_owned(table, index, header, owner.id, id, node, s, buf);
+    match owner_of(area, lens, node + 1) {
+        Some(owner) => begin_owned(table, index, header, owner, id, node, s, buf),
+        None => no_list(s),
     }
-    no_list(s)
 }
 
 // A call without a list: its arguments stay unvisited, and its type is one without body.
 pub fn unlisted(
     table: &[u8],
     q: &[u8],
-    kind: u8,
+    kind: Kind,
     n: u8,
     node: usize,
     s: State,
@@ -175,7 +165,7 @@ pub fn unlisted(
     lens: &mut [usize],
 ) -> State
     requires { Lent area.old lens.old × (node < length lens.old) × ((passed_over q.now s n).node ≤ slot_count) }
-    ensures { FinishesSilently (passed_over q.now s n) node (plain_ty kind) area lens result }
+    ensures { FinishesSilently (passed_over q.now s n) node (plain_ty (kind_number kind)) area lens result }
 {
     let p = skip(q, s.at, n);
     let e = State {

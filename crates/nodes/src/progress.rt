@@ -6,7 +6,7 @@ ghost use Rattle.nodes.specs.Inside.Slices.{slot_at};
 ghost use Rattle.area.specs.Inside.Slot.{slot_of, slot_count};
 
 use area::{is_error, slot};
-use question::node::{NodeRead, node_at};
+use question::node::{Node, node_at};
 use ty::NameId;
 
 // How far a judgement is: the next position in the question, the next node's number, how many diagnostics were reported,
@@ -49,16 +49,11 @@ pub fn finished(s: State, node: usize, count: usize, area: &[u8], lens: &[usize]
 pub fn argument_name(q: &[u8], at: usize) -> u16
     ensures { result ≡ name_at q.now at }
 {
-    let read = node_at(q, at);
-    match read {
-        NodeRead::Bad => NameId::NONE,
-        NodeRead::Leaf { len: _, top: _ } => NameId::NONE,
-        NodeRead::Endless { top: _ } => NameId::NONE,
-        NodeRead::Binary { op: _ } => NameId::NONE,
-        NodeRead::Unary { op: _ } => NameId::NONE,
-        NodeRead::Named { id } => id,
-        NodeRead::Member { id: _ } => NameId::NONE,
-        NodeRead::Call { id: _, count: _ } => NameId::NONE,
-        NodeRead::Method { id: _, count: _ } => NameId::NONE,
+    let Ok(node) = node_at(q, at) else {
+        return NameId::NONE;
+    };
+    match node {
+        Node::Named { id } => id,
+        _ => NameId::NONE,
     }
 }

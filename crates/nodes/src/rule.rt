@@ -3,12 +3,13 @@ ghost use Rattle.std.specs.Prelude.{◌+◌, ◌<◌};
 ghost use Rattle.area.specs.Diagnostic.{count_limit};
 ghost use Rattle.overload.specs.Inside.Reported.{Reported};
 ghost use Rattle.operators.specs.Diag.{reported_at as at_node};
-ghost use Rattle.operators.specs.Inside.Ruled.{report_of, out_of};
+ghost use Rattle.operators.specs.Inside.Ruled.{reports_of, out_of};
+ghost use Rattle.question.specs.OperatorNumber.{binary_number, unary_number};
 ghost use Rattle.area.specs.Inside.Slot.{Lent, Slot, slot_of};
 ghost use Rattle.index.specs.Inside.IndexedTable.{IndexedTable};
 ghost use Rattle.nodes.specs.Inside.Progress.{inside_of, FinishesSilently};
 ghost use Rattle.nodes.specs.Inside.Rule.{LeafAsked, RuleAsked, leaf_at, ruled_at, binary_at, unary_at, member_at};
-ghost use Rattle.nodes.specs.Inside.Rule.{BinaryRuledAt, UnaryRuledAt, MemberRuledAt, FinishesAs};
+ghost use Rattle.nodes.specs.Inside.Rule.{FinishesAs};
 ghost use Rattle.nodes.specs.Inside.Slices.{slot_at};
 
 use crate::progress::{State, finished, inside};
@@ -17,6 +18,7 @@ use operators::binary::check_binary;
 use operators::ruled::{Diagnostic, Ruled};
 use operators::unary::check_unary;
 use question::Header;
+use question::operator::{BinOp, UnOp};
 use rules::member::check_member;
 
 // A leaf's type is its own.
@@ -48,14 +50,14 @@ pub fn finish_named(
 }
 
 // A diagnostic of a rule, if there is one; answers the new count.
-fn report_one(buf: &mut [u8], count: usize, node: usize, d: Diagnostic) -> usize
+fn report_one(buf: &mut [u8], count: usize, node: usize, d: Option<Diagnostic>) -> usize
     requires { count < count_limit }
-    ensures { Reported buf.old count buf.new result (at_node node (report_of d.kind d.number)) }
+    ensures { Reported buf.old count buf.new result (at_node node (reports_of d)) }
 {
-    if d.kind == Diagnostic::NONE {
-        return count;
+    match d {
+        None => count,
+        Some(d) => report(buf, count, d.kind, node, d.number as usize),
     }
-    report(buf, count, d.kind, node, d.number as usize)
 }
 
 // A node whose children are judged and whose rule has answered.
@@ -81,32 +83,12 @@ fn finish_rule(
     finished(s, node, all, area, lens)
 }
 
-fn binary_rule(
-    table: &[u8],
-    index: &[u16],
-    op: u8,
-    first: usize,
-    second: usize,
-    area: &[u8],
-    lens: &[usize],
-) -> Ruled
-    requires { IndexedTable table.now index.now }
-    ensures { BinaryRuledAt table.now area.now lens.now op first second result }
-{
-    check_binary(
-        table,
-        index,
-        op,
-        slot(area, lens, first),
-        slot(area, lens, second),
-    )
-}
-
 // A binary operator; the right operand's number is `second`.
+#[tactic(auto, using(crate::proofs::Working::asked_as, crate::proofs::Working::finished_as_lem, operators::proofs::Ruling::binary_is))]
 pub fn finish_binary(
     table: &[u8],
     index: &[u16],
-    op: u8,
+    op: BinOp,
     node: usize,
     second: usize,
     s: State,
@@ -114,53 +96,37 @@ pub fn finish_binary(
     lens: &mut [usize],
     buf: &mut [u8],
 ) -> State
-    requires { IndexedTable table.now index.now × RuleAsked area.old lens.old node second s (binary_at table.now area.old lens.old op (node + 1) second) }
-    ensures { FinishesAs s node (binary_at table.now area.old lens.old op (node + 1) second) area lens buf result }
+    requires { IndexedTable table.now index.now
+        × RuleAsked area.old lens.old node second s (binary_at table.now area.old lens.old (binary_number op) (node + 1) second) }
+    ensures { FinishesAs s node (binary_at table.now area.old lens.old (binary_number op) (node + 1) second) area lens buf result }
 {
-    let ruled = binary_rule(table, index, op, node + 1, second, area, lens);
+    let left = slot(area, lens, node + 1);
+    let right = slot(area, lens, second);
+    let ruled = check_binary(table, index, op, left, right);
     finish_rule(table, ruled, node, second, s, area, lens, buf)
 }
 
-fn unary_rule(op: u8, first: usize, area: &[u8], lens: &[usize]) -> Ruled
-    ensures { UnaryRuledAt area.now lens.now op first result }
-{
-    check_unary(op, slot(area, lens, first))
-}
-
 // A unary operator.
+#[tactic(auto, using(crate::proofs::Working::asked_as, crate::proofs::Working::finished_as_lem, operators::proofs::Ruling::unary_is))]
 pub fn finish_unary(
     table: &[u8],
-    op: u8,
+    op: UnOp,
     node: usize,
     s: State,
     area: &mut [u8],
     lens: &mut [usize],
     buf: &mut [u8],
 ) -> State
-    requires { RuleAsked area.old lens.old node (node + 1) s (unary_at area.old lens.old op (node + 1)) }
-    ensures { FinishesAs s node (unary_at area.old lens.old op (node + 1)) area lens buf result }
+    requires { RuleAsked area.old lens.old node (node + 1) s (unary_at area.old lens.old (unary_number op) (node + 1)) }
+    ensures { FinishesAs s node (unary_at area.old lens.old (unary_number op) (node + 1)) area lens buf result }
 {
     let first = node + 1;
-    let ruled = unary_rule(op, first, area, lens);
+    let ruled = check_unary(op, slot(area, lens, first));
     finish_rule(table, ruled, node, first, s, area, lens, buf)
 }
 
-fn member_rule(
-    table: &[u8],
-    index: &[u16],
-    header: Header,
-    id: u16,
-    first: usize,
-    area: &[u8],
-    lens: &[usize],
-) -> Ruled
-    requires { IndexedTable table.now index.now }
-    ensures { MemberRuledAt table.now area.now lens.now header id first result }
-{
-    check_member(table, index, header, id, slot(area, lens, first))
-}
-
 // A member of an object.
+#[tactic(auto, using(crate::proofs::Working::asked_as, crate::proofs::Working::finished_as_lem, rules::proofs::MemberRuling::member_is))]
 pub fn finish_member(
     table: &[u8],
     index: &[u16],
@@ -176,6 +142,6 @@ pub fn finish_member(
     ensures { FinishesAs s node (member_at table.now area.old lens.old header id (node + 1)) area lens buf result }
 {
     let first = node + 1;
-    let ruled = member_rule(table, index, header, id, first, area, lens);
+    let ruled = check_member(table, index, header, id, slot(area, lens, first));
     finish_rule(table, ruled, node, first, s, area, lens, buf)
 }

@@ -1,5 +1,6 @@
 -- What a call finds before its arguments are visited, and what it asks and gives behind them.
-use Rattle.std.specs.Prelude.{ℕ, ◌+◌, ◌≤◌, ◌<◌, eqb, length, true, false, List, ◌≡◌}
+use Rattle.std.specs.Prelude.{ℕ, ◌+◌, ◌≤◌, ◌<◌, eqb, length, List, ◌≡◌, Some, None}
+use Rattle.std.specs.Prelude as std
 use Rattle.std.proofs.Math.Option.{Option, none, some}
 use Rattle.area.specs.Diagnostic.{put_all, count_limit}
 use Rattle.area.specs.Inside.Slot.{Lent, slot_size}
@@ -7,7 +8,6 @@ use Rattle.nodes.specs.Inside.Progress.{Finishes}
 use Rattle.nodes.specs.Inside.Row.{id_of}
 use Rattle.ty.specs.Slice.{Slice, Borrowed}
 use Rattle.nodes.specs.declared.calls.Begun.{Begun}
-use Rattle.nodes.specs.declared.calls.Owner.{Owner}
 use Rattle.nodes.specs.declared.calls.RowJudged.{RowJudged}
 use Rattle.nodes.specs.declared.progress.State.{State}
 use Rattle.scoring.specs.Arg.{Verdict}
@@ -19,22 +19,22 @@ use Rattle.operators.specs.Diag.{reported_at as at_node}
 use Rattle.index.specs.Inside.IndexedTable.{IndexedTable}
 use Rattle.symbol.specs.Lookup.{symbols_of}
 use Rattle.ty.specs.Bytes.{Ty, kind_of, name_of, non_null}
+use Rattle.ty.specs.Choose.{choose}
 use Rattle.ty.specs.Kind.{named_kind}
-use Rattle.ty.specs.Name.{no_id}
 use Rattle.typing.specs.Callee.{Callee, base_name, call_of, method_in, method_of}
 
 -- no list of functions: nothing is reported
 abbrev pub no_list_at : State → Begun
-no_list_at s = record { listed = false; owner = no_id; state = s }
+no_list_at s = record { list = None; state = s }
 
 -- the list of an owner; so many diagnostics have been reported
 abbrev pub list_at : ℕ → ℕ → State → Begun
 list_at owner count s =
-    record { listed = true; owner = owner; state = record { at = s.at; node = s.node; count = count; fine = s.fine } }
+    record { list = Some owner; state = record { at = s.at; node = s.node; count = count; fine = s.fine } }
 
--- what is read of the object's type t: whether its base is Named, and the base's name
-abbrev pub owner_of : Ty → Owner
-owner_of t = record { named = eqb (kind_of (non_null t)) named_kind; id = name_of (non_null t) }
+-- what is read of the object's type t: the base's name, if it is Named
+abbrev pub owner_of : Ty → std.Option ℕ
+owner_of t = choose (eqb (kind_of (non_null t)) named_kind) (Some (name_of (non_null t))) None
 
 -- whose list a method call on an object of the type t looks for: the base's name, 65,535 for none
 abbrev pub method_owner : Ty → ℕ

@@ -1,5 +1,5 @@
 -- What the work at a leaf, an operator or a member asks, and what it gives.
-use Rattle.std.specs.Prelude.{ℕ, ◌+◌, ◌≤◌, ◌<◌, length, take, drop, List, ◌≡◌}
+use Rattle.std.specs.Prelude.{ℕ, ◌+◌, ◌≤◌, ◌<◌, length, take, drop, List}
 use Rattle.area.specs.Diagnostic.{count_limit}
 use Rattle.area.specs.Inside.Slot.{Lent, Slot, slot_size}
 use Rattle.nodes.specs.Inside.Progress.{Finishes}
@@ -51,20 +51,6 @@ unary_at area lens op first = unary_out op (slot_at area lens first)
 
 abbrev pub member_at : Slice → Slice → Slice → Header → ℕ → ℕ → Out
 member_at table area lens H id first = member_out (symbols_of table) H id (slot_at area lens first)
-
--- a rule has answered what the definition gives; where it has one operand, whatever a second would be, and a unary operator under any table
-abbrev pub BinaryRuledAt : Slice → Slice → Slice → ℕ → ℕ → ℕ → Ruled → Type 0
-BinaryRuledAt table area lens op first second r =
-    ruled_at table area lens r first second ≡ binary_at table area lens op first second
-
-abbrev pub UnaryRuledAt : Slice → Slice → ℕ → ℕ → Ruled → Type 0
-UnaryRuledAt area lens op first r =
-    (t y : List ℕ) → out_of t (slot_at area lens first) y r ≡ unary_at area lens op first
-
-abbrev pub MemberRuledAt : Slice → Slice → Slice → Header → ℕ → ℕ → Ruled → Type 0
-MemberRuledAt table area lens H id first r =
-    (y : List ℕ)
-    → out_of table (slot_at area lens first) y r ≡ member_at table area lens H id first
 
 -- node n is finished with the type and the reports of o
 abbrev pub FinishesAs : State → ℕ → Out → Borrowed → Borrowed → Borrowed → State → Type 0

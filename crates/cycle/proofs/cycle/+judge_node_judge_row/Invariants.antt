@@ -15,6 +15,3 @@ invariant-judge_row-loop-k l =
     (l.n ≤ 16)
     × ((x : RowAsked l.q l.initial.e 0 l.n) → Turn l.table l.header l.q l.initial.e l.n l.initial.nodes l.initial.names l.initial.area l.initial.lens
     l.initial.buf l.nodes l.names l.area l.lens l.buf l.k l.e x.trees)
-
-abbrev pub decreases-judge_row-loop-k : goal.decreases-judge_row-loop-k
-decreases-judge_row-loop-k l = l.n - l.k

@@ -3,10 +3,10 @@ use Rattle.nodes.proofs.Working.{found_here_lem, found_none}
 use Rattle.symbol.proofs.FunctionLists.{first_listed}
 use Rattle.nodes.proofs.calls.begin_call.Goals as goal
 
-pub returns-in-Nothing : goal.returns-in-Nothing
-returns-in-Nothing c = call_none _ _ _ _ _ _ _ (found_none _ _ _ (first_listed _ c.requires.0.clean _ _ _ c.first_function-found.ensures)
-    c.in-Nothing.is) c.no_list.ensures
+pub returns-in-None : goal.returns-in-None
+returns-in-None c = call_none _ _ _ _ _ _ _ (found_none _ _ _ (first_listed _ c.requires.0.clean _ _ _ c.first_function-found.ensures)
+    c.in-None.is) c.no_list.ensures
 
-pub returns-in-Here : goal.returns-in-Here
-returns-in-Here c = call_some _ _ _ _ _ _ (found_here_lem _ _ _ _ (first_listed _ c.requires.0.clean _ _ _ c.first_function-found.ensures)
-    c.in-Here.is).first c.before_call-count.ensures c.listed.ensures
+pub returns-in-Some : goal.returns-in-Some
+returns-in-Some c = call_some _ _ _ _ _ _ (found_here_lem _ _ _ _ (first_listed _ c.requires.0.clean _ _ _ c.first_function-found.ensures)
+    c.in-Some.is).first c.before_call-count.ensures c.listed.ensures

@@ -1,8 +1,8 @@
 use Rattle.nodes.proofs.Beginning.{owner_none, owner_some}
 use Rattle.nodes.proofs.calls.begin_method.Goals as goal
 
-pub returns-then-owner : goal.returns-then-owner
-returns-then-owner c = owner_some _ _ _ _ _ _ _ _ _ c.owner_of-owner.ensures c.if-owner.true c.begin_owned.ensures
+pub returns-in-Some : goal.returns-in-Some
+returns-in-Some c = owner_some _ _ _ _ _ _ _ _ _ _ c.owner_of.ensures c.in-Some.is c.begin_owned.ensures
 
-pub returns : goal.returns
-returns c = owner_none _ _ _ _ _ _ _ _ c.owner_of-owner.ensures c.if-owner.false c.no_list.ensures
+pub returns-in-None : goal.returns-in-None
+returns-in-None c = owner_none _ _ _ _ _ _ _ _ c.owner_of.ensures c.in-None.is c.no_list.ensures

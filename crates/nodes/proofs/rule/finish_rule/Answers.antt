@@ -3,7 +3,7 @@ use Rattle.nodes.proofs.Working.{one_more, rule_store, finish_ruled}
 use Rattle.nodes.proofs.rule.finish_rule.Goals as goal
 
 pub report_one-all-requires : goal.report_one-all-requires
-report_one-all-requires c = omega (arith, one_more _ _ _ c.report_one-count.ensures, c.requires.few)
+report_one-all-requires c = omega (arith, one_more _ _ c.report_one-count.ensures, c.requires.few)
 
 pub store-requires : goal.store-requires
 store-requires c = rule_store _ _ _ _ _ _ _ c.requires
