@@ -12,26 +12,33 @@ use Rattle.area.proofs.Diagnostics.{put_all-length, put_padded}
 use Rattle.written.proofs.ListFacts.{sets-zeros}
 use Rattle.area.specs.Diagnostic.{Diag, record_length, records, put_all}
 use Rattle.cycle.proofs.Spaces.{tree_room}
+use Rattle.std.proofs.Common.{Option, None, Some, Ok, Err}
 use Rattle.judge.specs.Answered.{outcome_is, Answered, AcceptedDemand3}
-use Rattle.judge.specs.Inside.Root.{mark_is, root_number, root_answer, RootIs}
+use Rattle.judge.specs.Inside.Root.{passes_at, root_refusal, root_answer, root_buffer, RootIs}
+use Rattle.judge.specs.declared.Judged.{Judged as Outcome}
+use Rattle.judge.specs.declared.refusal.Refusal.{Refusal}
+use Rattle.judge.specs.declared.refusal.Refusal.TheVariants.{Table, Question, TypeTooLong, ShortBuffer}
 use Rattle.cycle.proofs.Holding.{space_behind, tree_held}
 use Rattle.cycle.specs.Inside.Contract.{Space, NodeAsked, NodeIs}
 use Rattle.index.specs.Inside.IndexedTable.{IndexedTable}
 use Rattle.nodes.specs.Inside.AreaFilled.{AreaFilled}
 use Rattle.written.specs.Padding.{padded_to}
 use Rattle.area.specs.Inside.Slot.{SlotHolds, slot_of}
-use Rattle.judge.specs.declared.Outcome.{Outcome}
 use Rattle.nodes.specs.declared.progress.State.{State}
 use Rattle.question.proofs.Accepted.{accepted}
+use Rattle.question.proofs.Faults.{some_number}
+use Rattle.question.specs.FaultNumber.{question_fault_number}
 use Rattle.question.specs.Header.{header_of}
 use Rattle.question.specs.Parse.{tree_of}
 use Rattle.question.specs.QuestionRefused.{question_fault}
 use Rattle.question.specs.declared.Header.{Header}
+use Rattle.question.specs.declared.QuestionFault.{QuestionFault}
 use Rattle.symbol.proofs.AcceptedTable.{names_few}
+use Rattle.symbol.proofs.Verdicts.{fault_some}
+use Rattle.symbol.specs.TableFault.{table_fault_number}
+use Rattle.symbol.specs.declared.checks.TableFault.{TableFault}
 use Rattle.record.specs.TableRefused.{table_fault}
-use Rattle.symbol.specs.Inside.Checked.{checked_of}
 use Rattle.record.specs.Table.{records_of, name_count}
-use Rattle.symbol.specs.declared.checks.Checked.{Checked}
 use Rattle.ty.proofs.Choice.{by_choice, choose_yes, choose_no}
 use Rattle.ty.specs.Choose.{choose}
 use Rattle.ty.specs.Name.{no_id, first_table_id}
@@ -45,32 +52,24 @@ use Rattle.typing.specs.Judge.{Judged}
 use Rattle.typing.specs.Mark.{no_diag, no_error, passes, mark_of}
 
 -- ---- the root
--- no number: the type has at most 256 bytes
-number_short : (len count lent : ℕ) → root_number len count lent ≡ 0 → len ≤ answer_bytes
-unfolding root_number
-number_short len count lent = by_choice (λ (n : ℕ). n ≡ 0 → len ≤ answer_bytes) _ (λ _ z. absurd (omega arith)) (λ e _. ltb-false answer_bytes len e)
+-- no refusal: the type has at most 256 bytes
+number_short : (len count lent : ℕ) → root_refusal len count lent ≡ None → len ≤ answer_bytes
+unfolding root_refusal
+number_short len count lent = by_choice (λ (o : Option Refusal). o ≡ None → len ≤ answer_bytes) _ (λ _ z. absurd (cc)) (λ e _. ltb-false answer_bytes len e)
 
-module _ (s : State) (a l b : List ℕ) (n : ℕ) (is : n ≡ root_number (get_or l 0 0) s.count (length b)) where
-  pub root_no : (n ≡ 0 → ⊥) → (r : of.Answer) → r ≡ refused n → (b' : List ℕ) → b' ≡ zeros (length b) → RootIs s a l b b' r
-  unfolding root_answer
-  root_no h r e b' f =
-      record { answer = rw (← is) (e ∙ sym (choose_no _ _ _ (ne_eqb n 0 h))); buffer = rw (← is) (f ∙ sym (choose_no _ _ _ (ne_eqb n 0 h))) }
+module _ (s : State) (a l b : List ℕ) (o : Option Refusal) (is : o ≡ root_refusal (get_or l 0 0) s.count (length b)) where
+  pub root_no : (r : Refusal) → o ≡ Some r → (ty : List ℕ) → ty ≡ zeros answer_bytes → (b' : List ℕ) → b' ≡ zeros (length b) → RootIs s a l b b' (outcome_is (Err r) ty)
+  unfolding root_answer root_buffer
+  root_no r e ty f b' g = record { answer = rw (← is, e, f); buffer = rw (← is, e) g }
 
-  pub root_yes : n ≡ 0 → (r : of.Answer) → r ≡ record { number = n; pass = mark_is s; ty = padded_to answer_bytes (slot_of a l 0); len = get_or l 0 0; count = s.count } → RootIs s a l b b r
-  unfolding root_answer
-  root_yes z r e =
-      record {
-        answer = rw (← is) (e ∙ ap (λ (m : ℕ). record { number = m; pass = mark_is s; ty = padded_to answer_bytes (slot_of a l 0); len = get_or l 0 0; count = s.count }) z ∙ sym (choose_yes _ _ _ (eq-eqb n 0 z)));
-        buffer = rw (← is) (sym (choose_yes _ _ _ (eq-eqb n 0 z)));
-      }
+  pub root_yes : o ≡ None → (j : Outcome) → j.len ≡ get_or l 0 0 → j.count ≡ s.count → j.pass ≡ passes_at s → (ty : List ℕ) → ty ≡ padded_to answer_bytes (slot_of a l 0)
+      → RootIs s a l b b (outcome_is (Ok j) ty)
+  unfolding root_answer root_buffer
+  root_yes z j e f g ty h = record { answer = rw (← is, z, e, f, g, h); buffer = rw (← is, z) refl }
 
-  pub root_short : n ≡ 0 → length (slot_of a l 0) ≤ 256
+  pub root_short : o ≡ None → length (slot_of a l 0) ≤ 256
   unfolding slot_of
   root_short z = let h : get_or l 0 0 ≤ answer_bytes = number_short (get_or l 0 0) s.count (length b) (sym is ∙ z) in simp length-take (omega arith)
-
-pub answer_path : {n : ℕ} {t t' : List ℕ} {p p' m c : ℕ} → p ≡ p' → t ≡ t'
-    → ◌≡◌ {A = of.Answer} (record { number = n; pass = p; ty = t; len = m; count = c }) (record { number = n; pass = p'; ty = t'; len = m; count = c })
-answer_path {n} {m = m} {c = c} e f = λ i. record { number = n; pass = e i; ty = f i; len = m; count = c }
 
 -- ---- fewer names than ids
 names_known : (t : List ℕ) → table_fault t ≡ 0 → first_table_id + name_count (records_of t) ≤ no_id
@@ -82,66 +81,50 @@ unfolding no_diag
 no_diag_lem [] = refl
 no_diag_lem (d ∷ ds) = sym (ne_eqb (suc (length ds)) 0 (λ z. omega arith))
 
-mark_by : (b : Bool) → choose b 1 0 ≡ mark_of b
-unfolding choose
-mark_by true = refl
-mark_by false = refl
-
 -- the mark of the state behind the root is that of its judgement
-mark_is_lem : (s : State) (j : Judged) → s.count ≡ length j.diags → s.fine ≡ no_error j.typed → mark_is s ≡ mark_of (passes j)
-unfolding mark_is passes
-mark_is_lem s j e f =
-    let b : eqb s.count 0 && s.fine ≡ no_diag j.diags && no_error j.typed = rw (e, f, no_diag_lem j.diags) in
-    mark_by (eqb s.count 0 && s.fine) ∙ ap mark_of b
+passes_at_lem : (s : State) (j : Judged) → s.count ≡ length j.diags → s.fine ≡ no_error j.typed → passes_at s ≡ passes j
+unfolding passes_at passes
+passes_at_lem s j e f = rw (e, f, no_diag_lem j.diags)
 
 module _ (lent : ℕ) (s : State) (j : Judged) (a l b : List ℕ) (held : SlotHolds a l 0 j.ty) (cnt : s.count ≡ length j.diags) (fine : s.fine ≡ no_error j.typed)
     (is : b ≡ put_all (zeros lent) 0 j.diags) where
   buffer_long : length b ≡ lent
   buffer_long = ap (λ (w : List ℕ). length w) is ∙ put_all-length (zeros lent) 0 j.diags ∙ length-replicate lent 0
 
-  abbrev number : ℕ
-  number = root_number (length j.ty) (length j.diags) lent
+  abbrev refusal : Option Refusal
+  refusal = root_refusal (length j.ty) (length j.diags) lent
 
-  number_is : root_number (get_or l 0 0) s.count (length b) ≡ number
-  number_is = rw (held.len, cnt, buffer_long)
+  refusal_is : root_refusal (get_or l 0 0) s.count (length b) ≡ refusal
+  refusal_is = rw (held.len, cnt, buffer_long)
 
-  by_number : root_answer number s j.ty (length j.ty) ≡ answered lent j
-  unfolding root_answer root_number answered choose
-  by_number =
-      let g : ◌≡◌ {A = of.Answer} (record { number = 0; pass = mark_is s; ty = padded_to answer_bytes j.ty; len = length j.ty; count = s.count }) (given j)
-      = λ i. record { number = 0; pass = mark_is_lem s j cnt fine i; ty = padded_to answer_bytes j.ty; len = length j.ty; count = cnt i } in
+  by_refusal : root_answer refusal s j.ty (length j.ty) ≡ answered lent j
+  unfolding root_answer root_refusal answered choose
+  by_refusal =
+      let g : ◌≡◌ {A = of.Answer} (record { number = 0; pass = mark_of (passes_at s); ty = padded_to answer_bytes j.ty; len = length j.ty; count = s.count }) (given j)
+      = λ i. record { number = 0; pass = mark_of (passes_at_lem s j cnt fine i); ty = padded_to answer_bytes j.ty; len = length j.ty; count = cnt i } in
       go g (ltb answer_bytes (length j.ty)) (ltb lent (record_length * length j.diags))
     where
-      go : {x : of.Answer} → x ≡ given j → (y z : Bool) → choose (eqb (choose y 13 (choose z 12 0)) 0) x (refused (choose y 13 (choose z 12 0))) ≡ choose y (refused 13) (choose z (refused 12) (given j))
+      go : root_answer None s j.ty (length j.ty) ≡ given j → (y z : Bool) → root_answer (choose y (Some TypeTooLong) (choose z (Some ShortBuffer) None)) s j.ty (length j.ty) ≡ choose y (refused 13) (choose z (refused 12) (given j))
       go e true z = refl
       go e false true = refl
       go e false false = e
 
-  pub root_is : root_answer (root_number (get_or l 0 0) s.count (length b)) s (slot_of a l 0) (get_or l 0 0) ≡ answered lent j
-  root_is = rw (number_is, held.is, held.len) by_number
+  pub root_is : root_answer (root_refusal (get_or l 0 0) s.count (length b)) s (slot_of a l 0) (get_or l 0 0) ≡ answered lent j
+  root_is = rw (refusal_is, held.is, held.len) by_refusal
 
-  number_fits : number ≡ 0 → record_length * length j.diags ≤ lent
-  unfolding root_number
-  number_fits =
-      by_choice (λ (n : ℕ). n ≡ 0 → record_length * length j.diags ≤ lent) _ (λ _ z. absurd (omega arith)) λ _.
-      by_choice (λ (n : ℕ). n ≡ 0 → record_length * length j.diags ≤ lent) _ (λ _ z. absurd (omega arith)) (λ e _. ltb-false lent (record_length * length j.diags) e)
-
-  answer_number : (answered lent j).number ≡ number
-  unfolding answered root_number choose
-  answer_number = go (ltb answer_bytes (length j.ty)) (ltb lent (record_length * length j.diags))
+  by_buffer : root_buffer refusal b ≡ choose (eqb (answered lent j).number 0) (padded_to lent (records j.diags)) (zeros lent)
+  unfolding root_buffer root_refusal answered choose
+  by_buffer = go (ltb answer_bytes (length j.ty)) (ltb lent (record_length * length j.diags)) refl
     where
-      go : (y z : Bool) → (choose y (refused 13) (choose z (refused 12) (given j))).number ≡ choose y 13 (choose z 12 0)
-      go true z = refl
-      go false true = refl
-      go false false = refl
+      go : (y z : Bool) → ltb lent (record_length * length j.diags) ≡ z
+          → root_buffer (choose y (Some TypeTooLong) (choose z (Some ShortBuffer) None)) b
+          ≡ choose (eqb (choose y (refused 13) (choose z (refused 12) (given j))).number 0) (padded_to lent (records j.diags)) (zeros lent)
+      go true z e = ap zeros buffer_long
+      go false true e = ap zeros buffer_long
+      go false false e = is ∙ put_padded lent j.diags (ltb-false lent (record_length * length j.diags) e)
 
-  by_buffer : (k : ℕ) → number ≡ k → choose (eqb k 0) b (zeros (length b)) ≡ choose (eqb k 0) (padded_to lent (records j.diags)) (zeros lent)
-  unfolding choose
-  by_buffer zero e = is ∙ put_padded lent j.diags (number_fits e)
-  by_buffer (suc k) e = rw (ne_eqb (suc k) 0 (λ z. omega arith)) (ap zeros buffer_long)
-
-  pub buffer_is : choose (eqb (root_number (get_or l 0 0) s.count (length b)) 0) b (zeros (length b)) ≡ choose (eqb (answered lent j).number 0) (padded_to lent (records j.diags)) (zeros lent)
-  buffer_is = rw (number_is, answer_number) (by_buffer number refl)
+  pub buffer_is : root_buffer (root_refusal (get_or l 0 0) s.count (length b)) b ≡ choose (eqb (answered lent j).number 0) (padded_to lent (records j.diags)) (zeros lent)
+  buffer_is = rw refusal_is by_buffer
 
 -- ---- a refusal before anything is judged
 module _ (t q : List ℕ) (lent : ℕ) where
@@ -153,37 +136,28 @@ module _ (t q : List ℕ) (lent : ℕ) where
       let m : (answer_of t q lent).number ≡ 0 → ⊥ = λ z. h (sym n ∙ z) in
       record { answer = e ∙ sym a; buffer = f ∙ sym (choose_no _ _ _ (ne_eqb (answer_of t q lent).number 0 m)) }
 
-  checked-number : (checked_of t).number ≡ table_fault t
-  unfolding checked_of
-  checked-number = by_choice (λ (c : Checked). c.number ≡ table_fault t) _ (λ e. sym (eqb-true (table_fault t) 0 e)) (λ e. refl)
-
-  pub ret_table : (c : Checked) → c ≡ checked_of t → (c.number ≡ 0 → ⊥) → (r : of.Answer) → r ≡ refused c.number → (b : List ℕ) → b ≡ zeros lent → Answered t q lent r b
+  -- the table's
+  pub ret_table : (f : TableFault) → table_fault_number f ≡ table_fault t → (ty : List ℕ) → ty ≡ zeros answer_bytes → (b : List ℕ) → b ≡ zeros lent
+      → Answered t q lent (outcome_is (Err (Table f)) ty) b
   unfolding fault_of
-  ret_table c e h r f b g =
-      let n : c.number ≡ table_fault t = ap (λ (z : Checked). z.number) e ∙ checked-number in
-      let k : fault_of t q ≡ c.number = choose_no _ _ _ (ne_eqb (table_fault t) 0 (λ z. h (n ∙ z))) ∙ sym n in
-      faulty (λ z. h (sym k ∙ z)) r (f ∙ ap refused (sym k)) b g
+  ret_table f e ty g b h =
+      let k : fault_of t q ≡ table_fault_number f = choose_no _ _ _ (ne_eqb (table_fault t) 0 (λ z. fault_some f (e ∙ z))) ∙ sym e in
+      faulty (λ z. fault_some f (sym k ∙ z)) (outcome_is (Err (Table f)) ty) (rw (k, g)) b h
 
-  module _ (c : Checked) (e : c ≡ checked_of t) (ok : c.number ≡ 0) where
-    pub table_ok : table_fault t ≡ 0
-    table_ok = sym (ap (λ (z : Checked). z.number) e ∙ checked-number) ∙ ok
+  module _ (clean : table_fault t ≡ 0) {m : ℕ} (counted : m ≡ name_count (records_of t)) where
+    names_are : question_fault (record { count = m }) q ≡ question_fault (names_of t) q
+    names_are = ap (λ (k : ℕ). question_fault (record { count = k }) q) counted
 
-    pub names-checked : c.names ≡ name_count (records_of t)
-    unfolding checked_of
-    names-checked = ap (λ (z : Checked). z.names) (e ∙ choose_yes _ _ _ (eq-eqb (table_fault t) 0 table_ok))
-
-  module _ (clean : table_fault t ≡ 0) {m : ℕ} (counted : m ≡ name_count (records_of t)) {n : ℕ} (is : n ≡ question_fault (record { count = m }) q) where
-    names_are : n ≡ question_fault (names_of t) q
-    names_are = is ∙ ap (λ (k : ℕ). question_fault (record { count = k }) q) counted
-
-    pub ret_question : (n ≡ 0 → ⊥) → (r : of.Answer) → r ≡ refused n → (b : List ℕ) → b ≡ zeros lent → Answered t q lent r b
+    -- the question's
+    pub ret_question : (f : QuestionFault) → question_fault_number f ≡ question_fault (record { count = m }) q → (ty : List ℕ) → ty ≡ zeros answer_bytes
+        → (b : List ℕ) → b ≡ zeros lent → Answered t q lent (outcome_is (Err (Question f)) ty) b
     unfolding fault_of
-    ret_question h r g b i =
-        let k : fault_of t q ≡ n = choose_yes _ _ _ (eq-eqb (table_fault t) 0 clean) ∙ sym names_are in
-        faulty (λ z. h (sym k ∙ z)) r (g ∙ ap refused (sym k)) b i
+    ret_question f e ty g b h =
+        let k : fault_of t q ≡ question_fault_number f = choose_yes _ _ _ (eq-eqb (table_fault t) 0 clean) ∙ sym names_are ∙ sym e in
+        faulty (λ z. some_number f (sym k ∙ z)) (outcome_is (Err (Question f)) ty) (rw (k, g)) b h
 
-    pub question_ok : n ≡ 0 → question_fault (names_of t) q ≡ 0
-    question_ok z = sym names_are ∙ z
+    pub question_ok : 0 ≡ question_fault (record { count = m }) q → question_fault (names_of t) q ≡ 0
+    question_ok z = sym names_are ∙ sym z
 
   -- ---- the judgement
   module _ (clean : table_fault t ≡ 0) (fine : question_fault (names_of t) q ≡ 0) where
@@ -235,10 +209,6 @@ module _ (t q : List ℕ) (lent : ℕ) where
                 ∙ ap (λ (z : of.Answer). choose (eqb z.number 0) (padded_to lent (records j.diags)) (zeros lent)) (sym ans);
           }
 
--- ---- a refusal's type is all zero, as the type's bytes were
-pub refused-blank : (r : Outcome) (ty : List ℕ) (n : ℕ) → ty ≡ zeros answer_bytes → outcome_is r (zeros answer_bytes) ≡ refused n → outcome_is r ty ≡ refused n
-refused-blank r ty n e f = ap (λ (w : List ℕ). outcome_is r w) e ∙ f
-
 -- ---- a type goes to the front of zeros
 pub type_padded : (ty ty' u t : List ℕ) → ty ≡ zeros answer_bytes → ty' ≡ sets ty 0 u → u ≡ t → length t ≤ answer_bytes → ty' ≡ padded_to answer_bytes t
 unfolding padded_to
@@ -248,12 +218,6 @@ type_padded ty ty' u t e f g h =
 -- ---- a buffer that is all zero
 pub zeros-length : (b : List ℕ) (n : ℕ) → b ≡ zeros n → length b ≡ n
 zeros-length b n e = ap (λ (w : List ℕ). length w) e ∙ length-replicate n 0
-
-pub zeros-own : (b : List ℕ) (n : ℕ) → b ≡ zeros n → b ≡ zeros (length b)
-zeros-own b n e = e ∙ ap zeros (sym (zeros-length b n e))
-
-pub answered_as : (t q : List ℕ) (m n : ℕ) → m ≡ n → (r : of.Answer) (b : List ℕ) → Answered t q m r b → Answered t q n r b
-answered_as t q m n e r b w = subst (λ (k : ℕ). Answered t q k r b) e w
 
 -- ---- demands 1 and 3 of this very answer
 module _ {t q : List ℕ} {lent : ℕ} {r : of.Answer} {b : List ℕ} (w : Answered t q lent r b) where

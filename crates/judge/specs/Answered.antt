@@ -1,12 +1,15 @@
 -- The answer as document 01 has it, and what a call of the judge promises of it.
-use Rattle.std.specs.Prelude.{ℕ, length, List, ◌≡◌}
+use Rattle.std.specs.Prelude.{ℕ, length, List, ◌≡◌, Result, Ok, Err}
+use Rattle.judge.specs.RefusalNumber.{refusal_number}
 use Rattle.judge.specs.declared.Answer.{Answer}
-use Rattle.judge.specs.declared.Outcome.{Outcome}
+use Rattle.judge.specs.declared.Judged.{Judged}
+use Rattle.judge.specs.declared.refusal.Refusal.{Refusal}
 use Rattle.question.specs.QuestionRefused.{question_fault}
 use Rattle.record.specs.TableRefused.{table_fault}
 use Rattle.typing.specs.Answer as of
 use Rattle.typing.specs.Answer.{names_of, answer_of, buffer_of}
 use Rattle.typing.specs.Demand3.{Demand3}
+use Rattle.typing.specs.Mark.{mark_of}
 use Rattle.ty.specs.Slice.{Slice, Borrowed}
 
 -- number, pass mark, type in 256 bytes, its length, diagnostic count
@@ -14,8 +17,9 @@ abbrev pub answer_is : Answer → of.Answer
 answer_is r = record { number = r.number; pass = r.pass; ty = r.ty; len = r.len; count = r.count }
 
 -- an outcome with the bytes of its type
-abbrev pub outcome_is : Outcome → List ℕ → of.Answer
-outcome_is r ty = record { number = r.number; pass = r.pass; ty = ty; len = r.len; count = r.count }
+abbrev pub outcome_is : Result Judged Refusal → List ℕ → of.Answer
+outcome_is (Ok r) ty = record { number = 0; pass = mark_of r.pass; ty = ty; len = r.len; count = r.count }
+outcome_is (Err r) ty = record { number = refusal_number r; pass = 0; ty = ty; len = 0; count = 0 }
 
 -- the answer and the buffer afterwards are the definition's
 pub record Answered (t q : List ℕ) (lent : ℕ) (r : of.Answer) (b : List ℕ) : Type 0 where
@@ -36,5 +40,5 @@ abbrev pub OfCall : (List ℕ → List ℕ → ℕ → of.Answer → List ℕ �
 OfCall P table question buffer r = P table question (length buffer.entry.now) r buffer.exit.now
 
 -- the same where the 256 bytes of the answer's type are lent too
-abbrev pub AnsweredInto : Slice → Slice → Borrowed → Borrowed → Outcome → Type 0
+abbrev pub AnsweredInto : Slice → Slice → Borrowed → Borrowed → Result Judged Refusal → Type 0
 AnsweredInto table question buffer ty r = OfCall Answered table question buffer (outcome_is r ty.exit.now)

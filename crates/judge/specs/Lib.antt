@@ -1,2 +1,3 @@
+pub mod RefusalNumber
 pub mod Inside
 pub mod Answered

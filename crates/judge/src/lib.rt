@@ -1,6 +1,7 @@
 // The judge: one expression typed against one symbol table, both in bytes.
 #![tactic(auto)]
 
+mod refusal;
 mod room;
 mod root;
 
@@ -8,10 +9,10 @@ ghost use Rattle.std.specs.Prelude.{◌≡◌};
 ghost use Rattle.typing.specs.Answer.{answer_bytes, zeros};
 ghost use Rattle.area.specs.Inside.Slot.{Lent};
 ghost use Rattle.typing.specs.Demand1.{Demand1};
-ghost use Rattle.judge.specs.Answered.{answer_is, Answered, AnsweredInto, AcceptedDemand3, OfCall};
+ghost use Rattle.judge.specs.Answered.{answer_is, outcome_is, Answered, AnsweredInto, AcceptedDemand3, OfCall};
 
+pub use refusal::Refusal;
 use room::judge_sized;
-use written::clear;
 
 // The answer: refusal number (0 for none), pass mark, the type in 256 bytes with zeros behind its length, that length, and how many diagnostics there are.
 #[derive(Clone, Copy)]
@@ -23,13 +24,12 @@ pub struct Answer {
     pub count: usize,
 }
 
-// An answer without its type, whose 256 bytes are lent.
+// An answer that is no refusal, without its type, whose 256 bytes are lent: the type's length, how many diagnostics there are, and whether it passes.
 #[derive(Clone, Copy)]
-pub struct Outcome {
+pub struct Judged {
     pub len: usize,
     pub count: usize,
-    pub number: u8,
-    pub pass: u8,
+    pub pass: bool,
 }
 
 // Judges a question against a table: the answer, and the diagnostics in the lent buffer.
@@ -40,20 +40,41 @@ pub fn judge(table: &[u8], question: &[u8], diagnostics: &mut [u8]) -> Answer
 {
     let mut ty = [0u8; 256];
     let outcome = judge_into(table, question, diagnostics, &mut ty);
-    Answer {
-        number: outcome.number,
-        pass: outcome.pass,
-        ty,
-        len: outcome.len,
-        count: outcome.count,
+    with_type(outcome, ty)
+}
+
+// An outcome with the 256 bytes of its type.
+fn with_type(outcome: Result<Judged, Refusal>, ty: [u8; 256]) -> Answer
+    ensures { answer_is result ≡ outcome_is outcome ty }
+{
+    match outcome {
+        Ok(judged) => Answer {
+            number: 0,
+            pass: u8::from(judged.pass),
+            ty,
+            len: judged.len,
+            count: judged.count,
+        },
+        Err(refusal) => Answer {
+            number: refusal.number(),
+            pass: 0,
+            ty,
+            len: 0,
+            count: 0,
+        },
     }
 }
 
-// Judges a question against a table: the answer, its type in what is lent for it, and the diagnostics in the lent buffer.
-pub fn judge_into(table: &[u8], question: &[u8], diagnostics: &mut [u8], ty: &mut [u8]) -> Outcome
+// Judges a question against a table: what is answered or why nothing is, the type in what is lent for it, and the diagnostics in the lent buffer.
+pub fn judge_into(
+    table: &[u8],
+    question: &[u8],
+    diagnostics: &mut [u8],
+    ty: &mut [u8],
+) -> Result<Judged, Refusal>
     requires { ty.old ≡ zeros answer_bytes }
     ensures { AnsweredInto table.now question.now diagnostics ty result }
 {
-    clear(diagnostics);
+    diagnostics.fill(0);
     judge_sized(table, question, diagnostics, ty)
 }

@@ -1,14 +1,13 @@
-use Rattle.judge.proofs.Answering.{ret_table, table_ok, names-checked, refused-blank}
+use mathlib.Core.Path.{◌≡◌, sym}
+use Rattle.judge.proofs.Answering.{ret_table}
+use Rattle.judge.specs.declared.refusal.Refusal.TheVariants.{Table}
+use Rattle.std.proofs.Common.{rules, Err}
 use Rattle.judge.proofs.room.judge_with.Goals as goal
 
-pub returns-then-checked-ne0-clause-answered_into : goal.returns-then-checked-ne0-clause-answered_into
-returns-then-checked-ne0-clause-answered_into c = (ret_table c.args.table.now c.args.question.now _ _ c.check_table-checked.ensures.value
-    c.if-checked-ne0.true _ (refused-blank _ _ _ c.requires.0.blank c.refused.ensures) _ c.requires.0.buffer)
+pub returns-in_err-names-clause-answered_into : goal.returns-in_err-names-clause-answered_into
+returns-in_err-names-clause-answered_into c =
+    let e : c.from_residual.result ≡ Err (Table c.in_err-names.field-0.0) = search rules in
+    rw e (ret_table _ _ _ _ c.in_err-names.ensures.number _ c.requires.0.blank _ c.requires.0.buffer)
 
 pub judge_checked-requires : goal.judge_checked-requires
-judge_checked-requires c = (
-  c.requires.0,
-  c.check_table-checked.ensures.indexed_table
-      (table_ok c.args.table.now c.args.question.now 0 _ c.check_table-checked.ensures.value c.if-checked-ne0.false),
-  names-checked c.args.table.now c.args.question.now 0 _ c.check_table-checked.ensures.value c.if-checked-ne0.false,
-)
+judge_checked-requires c = (c.requires.0, c.in_ok-names.ensures.indexed_table (sym c.in_ok-names.ensures.number), c.in_ok-names.ensures.names)

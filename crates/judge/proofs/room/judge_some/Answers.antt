@@ -1,7 +1,0 @@
-use Prim.Native.Nat.{ℕ}
-use lib.ListN.{length-replicate}
-use Rattle.cycle.proofs.Spaces.{space_some}
-use Rattle.judge.proofs.room.judge_some.Goals as goal
-
-pub judge_in-requires : goal.judge_in-requires
-judge_in-requires c = (c.requires.0, space_some _ _ _ c.requires.1 (length-replicate {A = ℕ} 8192 0) (length-replicate {A = ℕ} 32 0))
