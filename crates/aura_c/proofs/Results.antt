@@ -8,9 +8,12 @@ use mathlib.Core.Bool.{true, false}
 use mathlib.Core.List.{List, [], ◌++◌}
 use mathlib.Core.Path.{◌≡◌, refl, sym, ap, ◌∙◌, subst}
 use Rattle.aura_c.proofs.Stored.{joined}
-use Rattle.aura_c.specs.AnswerBytes.{bytes_of, answer_size, answer_too_short, result_of, answer_slice, diagnostics_slice}
+use Rattle.aura_c.specs.declared.Front.{Front}
+use Rattle.aura_c.specs.AnswerBytes.{bytes_of, answer_size, front_with, answer_too_short, result_of, answer_slice, diagnostics_slice}
 use Rattle.judge.specs.Answered.{outcome_is}
-use Rattle.judge.specs.declared.Outcome.{Outcome}
+use Rattle.judge.specs.declared.Judged.{Judged}
+use Rattle.judge.specs.declared.refusal.Refusal.{Refusal}
+use Rattle.std.proofs.Common.{Result, Ok, Err}
 use Rattle.ty.proofs.Choice.{chosen, passed}
 use Rattle.typing.proofs.Sized.{Sized, sized}
 use Rattle.typing.specs.Answer.{Answer, zeros, answer_of, buffer_of}
@@ -23,6 +26,14 @@ cleared_length b e = ap length e ∙ length-replicate {A = ℕ} (length b) 0
 abbrev Told : List ℕ → List ℕ → ℕ → ℕ → ℕ → List ℕ → List ℕ → Type 0
 Told t q lent room r b d = (r ≡ result_of t q lent room) × ((b ≡ answer_slice t q lent room) × (d ≡ diagnostics_slice t q lent room))
 
+-- the type is what the front leaves out
+abbrev typed : Answer → List ℕ → Answer
+typed x ty = record { number = x.number; pass = x.pass; ty = ty; len = x.len; count = x.count }
+
+front_typed : (a : Front) (r : Result Judged Refusal) (ty : List ℕ) → front_with a [] ≡ outcome_is r [] → front_with a ty ≡ outcome_is r ty
+front_typed a (Ok j) ty e = ap (λ (x : Answer). typed x ty) e
+front_typed a (Err f) ty e = ap (λ (x : Answer). typed x ty) e
+
 module _ (t q : List ℕ) (lent room : ℕ) where
   pub told_short : {b d : List ℕ} → room < answer_size → b ≡ replicate room 0 → d ≡ replicate lent 0 → Told t q lent room answer_too_short b d
   unfolding result_of answer_slice diagnostics_slice
@@ -30,13 +41,14 @@ module _ (t q : List ℕ) (lent room : ℕ) where
       let k : ltb room answer_size ≡ true = lt-ltb room answer_size h in
       (chosen _ answer_too_short answer_too_short _ k refl, (chosen _ b (zeros room) _ k e, chosen _ d (zeros lent) _ k f))
 
-  pub told : {b d z : List ℕ} (a : Outcome) (ty : List ℕ) → answer_size ≤ room → outcome_is a ty ≡ answer_of t q lent → z ≡ replicate room 0
-      → b ≡ sets (take 12 z ++ (ty ++ drop 256 (drop 12 z))) 0 (bytes_of (outcome_is a [])) → d ≡ buffer_of t q lent → Told t q lent room a.number b d
+  pub told : {b d z : List ℕ} (a : Front) (r : Result Judged Refusal) (ty : List ℕ) → answer_size ≤ room → front_with a [] ≡ outcome_is r [] → outcome_is r ty ≡ answer_of t q lent → z ≡ replicate room 0
+      → b ≡ sets (take 12 z ++ (ty ++ drop 256 (drop 12 z))) 0 (bytes_of (front_with a [])) → d ≡ buffer_of t q lent → Told t q lent room a.number b d
   unfolding result_of answer_slice diagnostics_slice
-  told {b} {d} {z} a ty h e g f k =
+  told {b} {d} {z} a r ty h o i g f k =
+      let e : front_with a ty ≡ answer_of t q lent = front_typed a r ty o ∙ i in
       let w : ltb room answer_size ≡ false = le-ltb room answer_size h in
-      let s : Sized (outcome_is a ty) = subst (λ (x : Answer). Sized x) (sym e) (sized t q lent) in
-      let p : b ≡ padded_to room (bytes_of (outcome_is a ty)) = joined room a ty h s.ty g f in (
+      let s : Sized (front_with a ty) = subst (λ (x : Answer). Sized x) (sym e) (sized t q lent) in
+      let p : b ≡ padded_to room (bytes_of (front_with a ty)) = joined room a ty h s.ty g f in (
         passed _ a.number _ (answer_of t q lent).number w (ap (λ (x : Answer). x.number) e),
         (
           passed _ b _ (padded_to room (bytes_of (answer_of t q lent))) w (p ∙ ap (λ (x : Answer). padded_to room (bytes_of x)) e),

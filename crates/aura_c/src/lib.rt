@@ -1,17 +1,17 @@
 // The judge and the test load for C and Rust: a static library whose functions take numbers and byte slices. include/aura_judge.h declares them.
 #![tactic(auto)]
 
-ghost use Rattle.std.specs.Prelude.{◌≡◌, [], ◌+◌, ◌≤◌, length};
+ghost use Rattle.std.specs.Prelude.{◌≡◌, [], ◌≤◌, length};
 ghost use Rattle.std.proofs.lemmas.List.Edits.{sets};
 ghost use Rattle.judge.specs.Answered.{outcome_is};
-ghost use Rattle.aura_c.specs.AnswerBytes.{little_endian, bytes_of, answer_size, result_of, answer_slice, diagnostics_slice};
+ghost use Rattle.aura_c.specs.AnswerBytes.{bytes_of, answer_size, front_with, result_of, answer_slice, diagnostics_slice};
 ghost use Rattle.aura_c.specs.LoadAccepted.{LoadAccepted};
 ghost use Rattle.load.specs.Load.{load_of};
-ghost use Rattle.written.specs.Output.{written_of, lent_after};
+ghost use Rattle.written.specs.Output.{written_number, written_len, lent_after};
 
-use judge::{Outcome, judge_into};
+use judge::{Judged, Refusal, judge_into};
 use load::write_load;
-use written::{clear, put_two};
+use written::put_two;
 
 const ANSWER_SIZE: usize = 268;
 
@@ -20,33 +20,44 @@ const TYPE_AT: usize = 12;
 
 const TOO_SHORT: u8 = 255;
 
-// n goes into four bytes from `at` on, low byte first.
-fn put_four(n: usize, out: &mut [u8], at: usize)
-    requires { at + 4 ≤ length out.old }
-    ensures { out.new ≡ sets out.old at (little_endian 4 n) }
-{
-    put_two(n, out, at);
-    put_two(n / 256 / 256, out, at + 2);
+// What stands before an answer's type.
+#[derive(Clone, Copy)]
+struct Front {
+    number: u8,
+    pass: u8,
+    len: usize,
+    count: usize,
 }
 
-// n goes into eight bytes.
-fn put_eight(n: usize, out: &mut [u8], at: usize)
-    requires { at + 8 ≤ length out.old }
-    ensures { out.new ≡ sets out.old at (little_endian 8 n) }
+// That of what the judge answers: all but the number is 0 where it refuses.
+fn front_of(outcome: Result<Judged, Refusal>) -> Front
+    ensures { front_with result [] ≡ outcome_is outcome [] }
 {
-    put_four(n, out, at);
-    put_four(n / 256 / 256 / 256 / 256, out, at + 4);
+    match outcome {
+        Ok(judged) => Front {
+            number: 0,
+            pass: u8::from(judged.pass),
+            len: judged.len,
+            count: judged.count,
+        },
+        Err(refusal) => Front {
+            number: refusal.number(),
+            pass: 0,
+            len: 0,
+            count: 0,
+        },
+    }
 }
 
-// What stands before an answer's type goes to the front of `out`.
-fn put_outcome(a: Outcome, out: &mut [u8])
+// It goes to the front of `out`, its numbers low byte first.
+fn put_front(a: Front, out: &mut [u8])
     requires { answer_size ≤ length out.old }
-    ensures { out.new ≡ sets out.old 0 (bytes_of (outcome_is a [])) }
+    ensures { out.new ≡ sets out.old 0 (bytes_of (front_with a [])) }
 {
     out[0] = a.number;
     out[1] = a.pass;
     put_two(a.len, out, 2);
-    put_eight(a.count, out, 4);
+    out[4..12].copy_from_slice(&a.count.to_le_bytes());
 }
 
 // How many bytes an answer has.
@@ -72,18 +83,19 @@ pub extern "C" fn aura_judge(
     ensures diagnostics_after { diagnostics.new
         ≡ diagnostics_slice table.now question.now (length diagnostics.old) (length answer.old) }
 {
-    clear(answer);
+    answer.fill(0);
     if answer.len() < ANSWER_SIZE {
-        clear(diagnostics);
+        diagnostics.fill(0);
         return TOO_SHORT;
     }
-    let a = judge_into(
+    let outcome = judge_into(
         table,
         question,
         diagnostics,
         &mut answer[TYPE_AT..ANSWER_SIZE],
     );
-    put_outcome(a, answer);
+    let a = front_of(outcome);
+    put_front(a, answer);
     a.number
 }
 
@@ -91,12 +103,19 @@ pub extern "C" fn aura_judge(
 // the nodes are not 1 to 64, or 15 where the slice is too short; length and slice are then zero.
 #[unsafe(no_mangle)]
 pub extern "C" fn aura_load(start: u32, nodes: usize, out: &mut [u8], len: &mut usize) -> u8
-    ensures value { result ≡ (written_of (load_of start nodes (length out.old))).number }
-    ensures len_after { len.new ≡ (written_of (load_of start nodes (length out.old))).len }
+    ensures value { result ≡ written_number (load_of start nodes (length out.old)) }
+    ensures len_after { len.new ≡ written_len (load_of start nodes (length out.old)) }
     ensures out_after { out.new ≡ lent_after (length out.old) (load_of start nodes (length out.old)) }
     ensures load_accepted { LoadAccepted start nodes }
 {
-    let w = write_load(start, nodes, out);
-    *len = w.len;
-    w.number
+    match write_load(start, nodes, out) {
+        Ok(n) => {
+            *len = n;
+            0
+        }
+        Err(fault) => {
+            *len = 0;
+            fault.number()
+        }
+    }
 }
