@@ -1,4 +1,5 @@
 pub mod DiagnosticKind
 pub mod Diagnostic
+pub mod Reported
 pub mod Source
 pub mod Inside

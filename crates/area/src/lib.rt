@@ -10,6 +10,9 @@ ghost use Rattle.area.specs.Inside.Slot.{Lent, Slot, Stored, StoredOf, slot_of, 
 ghost use Rattle.area.specs.Source.{bytes_from};
 ghost use Rattle.area.specs.Inside.Storable.{Storable, source_type};
 
+pub mod reports;
+pub mod types;
+
 use ty::Kind;
 use written::{copy_in, put_two};
 

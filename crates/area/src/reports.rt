@@ -1,0 +1,33 @@
+// The diagnostics that were reported, in a lent buffer.
+ghost use Rattle.std.specs.Prelude.{◌≡◌, ◌<◌, [], ◌∷◌};
+ghost use Rattle.area.specs.DiagnosticKind.{diagnostic_number};
+ghost use Rattle.area.specs.Diagnostic.{count_limit};
+ghost use Rattle.area.specs.Reported.{reported};
+
+use crate::DiagnosticKind;
+use written::put_two;
+
+// A lent buffer, and how many diagnostics were reported: those that fit wholly stand in it, one behind another.
+#[derive(Drop)]
+pub struct Reports<'a> {
+    pub buf: &'a mut [u8],
+    pub count: usize,
+}
+
+impl<'a> Reports<'a> {
+    // Reports one more diagnostic.
+    #[tactic(auto, unfolding(crate::specs::Reported::reported, crate::specs::Diagnostic::put_all, crate::specs::Diagnostic::put_one, crate::specs::Diagnostic::record_of, ty::specs::Choose::choose))]
+    pub fn report(&mut self, kind: DiagnosticKind, node: usize, number: usize)
+        requires { self.old.count < count_limit }
+        ensures { self.new ≡ reported self.old (record { kind = diagnostic_number kind; node = node; number = number } ∷ []) }
+    {
+        let p = 5 * self.count;
+        self.count += 1;
+        if self.buf.len() < p + 5 {
+            return;
+        }
+        self.buf[p] = kind.number();
+        put_two(node, self.buf, p + 1);
+        put_two(number, self.buf, p + 3);
+    }
+}

@@ -1,0 +1,134 @@
+// The types of a question's nodes, each in a slot of 256 bytes.
+ghost use Rattle.std.specs.Prelude.{◌≡◌, ◌++◌, ◌+◌, ◌≤◌, ◌<◌, [], length, set};
+ghost use Rattle.area.specs.Inside.Slot.{slot_size, type_at, Child};
+ghost use Rattle.area.specs.Inside.Storable.{CanStore, typed_by};
+ghost use Rattle.area.specs.Source.{bytes_from};
+ghost use Rattle.ty.specs.Bytes.{inner_of};
+
+use crate::{Source, part};
+use std::marker::Model;
+use ty::Kind;
+use written::copy_in;
+
+// A node's type, of at most 256 bytes; no bytes at first.
+#[derive(Drop)]
+pub struct Slot {
+    bytes: [u8; 256],
+    len: usize,
+}
+
+impl Model for Slot {
+    ghost use Rattle.std.specs.Prelude.{ℕ, List, take, ◌≤◌};
+
+    ghost Value = { List ℕ };
+
+    ghost view = { λ s. take s.len s.bytes };
+
+    ghost invariant = { λ s. s.len ≤ 256 };
+}
+
+impl Slot {
+    // A slot that holds nothing.
+    pub fn new() -> Slot
+        ensures { result ≡ [] }
+    {
+        Slot {
+            bytes: [0; 256],
+            len: 0,
+        }
+    }
+
+    // The type that it holds.
+    pub fn bytes(&self) -> &[u8]
+        ensures is { result.now ≡ self.now }
+        ensures small { length self.now ≤ slot_size }
+    {
+        &self.bytes[..self.len]
+    }
+
+    // The bytes of `front`, and then those of `rest`, are what it holds.
+    #[tactic(auto, using(crate::proofs::Held::put_both))]
+    pub fn put(&mut self, front: &[u8], rest: &[u8])
+        requires { length front.now + length rest.now ≤ slot_size }
+        ensures { self.new ≡ front.now ++ rest.now }
+    {
+        copy_in(&mut self.bytes, 0, front);
+        copy_in(&mut self.bytes, front.len(), rest);
+        self.len = front.len() + rest.len();
+    }
+}
+
+// The type of node m, and no bytes where it has no slot.
+pub fn type_of(slots: &[Slot], m: usize) -> &[u8]
+    ensures { result.now ≡ type_at slots.now m }
+{
+    match slots.get(m) {
+        Some(s) => s.bytes(),
+        None => &[],
+    }
+}
+
+// The bytes of `front`, and then those of `rest`, become the type of node.
+fn store_bytes(slots: &mut [Slot], node: usize, front: &[u8], rest: &[u8])
+    requires { (node < length slots.old) × (length front.now + length rest.now ≤ slot_size) }
+    ensures { slots.new ≡ set slots.old node (front.now ++ rest.now) }
+{
+    slots[node].put(front, rest);
+}
+
+// The bytes of `front`, and then the type of the child m, become the type of node.
+#[tactic(auto, using(crate::proofs::Held::set_before))]
+fn store_child(slots: &mut [Slot], node: usize, front: &[u8], m: usize)
+    requires { Child slots.old node m × (length front.now + length (type_at slots.old m) ≤ slot_size) }
+    ensures { slots.new ≡ set slots.old node (front.now ++ type_at slots.old m) }
+{
+    let (before, behind) = slots.split_at_mut(m);
+    before[node].put(front, behind[0].bytes());
+}
+
+// What the type of the child m holds becomes the type of node.
+#[tactic(auto, using(crate::proofs::Held::set_before))]
+fn store_inner(slots: &mut [Slot], node: usize, m: usize)
+    requires { Child slots.old node m × (length (inner_of (type_at slots.old m)) ≤ slot_size) }
+    ensures { slots.new ≡ set slots.old node (inner_of (type_at slots.old m)) }
+{
+    let (before, behind) = slots.split_at_mut(m);
+    before[node].put(&[], ty::inner(behind[0].bytes()));
+}
+
+// A part of some bytes, the table's or the question's, becomes the type of node.
+pub fn store_part(slots: &mut [Slot], source: &[u8], node: usize, start: usize, len: usize)
+    requires { (node < length slots.old) × (length (bytes_from source.now start len) ≤ slot_size) }
+    ensures { slots.new ≡ set slots.old node (bytes_from source.now start len) }
+{
+    store_bytes(slots, node, &[], part(source, start, len));
+}
+
+// The type that a source stands for becomes the type of node; first and second are its children.
+#[tactic(auto, unfolding(crate::specs::Source::type_from, crate::specs::Inside::Storable::ReadsChildren))]
+pub fn store(
+    slots: &mut [Slot],
+    table: &[u8],
+    node: usize,
+    first: usize,
+    second: usize,
+    source: Source,
+)
+    requires { CanStore table.now slots.old node first second source }
+    ensures { slots.new ≡ set slots.old node (typed_by table.now slots.old first second source) }
+{
+    match source {
+        Source::Kind(k) => store_bytes(slots, node, &[k.number()], &[]),
+        Source::ListOf(k) => store_bytes(slots, node, &[Kind::List as u8, k.number()], &[]),
+        Source::Name(id) => store_bytes(slots, node, &[Kind::Named as u8], &id.to_le_bytes()),
+        Source::First => store_child(slots, node, &[], first),
+        Source::Second => store_child(slots, node, &[], second),
+        Source::Inner => store_inner(slots, node, first),
+        Source::Pointer => store_child(slots, node, &[Kind::Pointer as u8], first),
+        Source::Part { start, len } => store_part(slots, table, node, start, len),
+        Source::Function { start, len } => {
+            let t = part(table, start, len);
+            store_bytes(slots, node, &[Kind::Function as u8, 0], t)
+        }
+    }
+}
