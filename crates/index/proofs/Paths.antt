@@ -13,7 +13,7 @@ use Rattle.ty.specs.Bytes.{same_bytes}
 use Rattle.ty.specs.Choose.{choose}
 use Rattle.index.proofs.Buckets.{bucket-below, tree_name, tree_other, ways_name, ways_other, name_digit_low, key_digit_low}
 use Rattle.index.proofs.ListSearch.{key_bucket_lem}
-use Rattle.record.proofs.RecordSizes.{head_known, stands_own, name_room, name_bytes_lem}
+use Rattle.record.proofs.RecordSizes.{head_known}
 use Rattle.index.specs.Inside.Bucket.{hash_of, name_digit, key_bucket, key_digits, key_digit, bucket_of, digit_of}
 use Rattle.record.specs.Inside.Front.{front_of}
 use Rattle.record.specs.Inside.Keyed.{is_of}
