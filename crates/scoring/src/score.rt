@@ -19,7 +19,8 @@ pub struct Score {
     pub points: usize,
 }
 
-// What the named pass hands on: its score, None where an argument does not match, and a mark for each parameter that an argument names.
+// What the named pass hands on: its score, None where an argument does not match, and a mark for each parameter that an argument names. The marks
+// go on by value.
 #[derive(Clone, Copy)]
 pub struct NamedPass {
     pub score: Option<Score>,
