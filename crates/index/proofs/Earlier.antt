@@ -19,7 +19,7 @@ use Rattle.record.specs.Inside.FrontRecord.{front_record}
 use Rattle.record.specs.Table.{Record, records_of}
 use Rattle.index.specs.Inside.SearchKey.{name_bytes_at, key_matches}
 use Rattle.record.specs.Inside.Walk.{CursorAt, Sits, WholeRecordAt, behind, before}
-use Rattle.index.proofs.Standing.{Standing, standing_room, standing_bytes}
+use Rattle.index.proofs.StandingFront.{Standing, standing_room, standing_bytes}
 use Rattle.index.specs.declared.index.Place.{Place}
 use Rattle.index.specs.declared.tree.Key.{Key}
 use Rattle.index.specs.declared.tree.Key.TheVariants.{Name, Ids}

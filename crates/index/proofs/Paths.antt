@@ -25,7 +25,7 @@ use Rattle.index.specs.Inside.SearchKey.{name_bytes_at, tree_for, digit_for, key
 use Rattle.index.specs.Inside.Spot.{FreeIs}
 use Rattle.index.specs.Inside.SearchTree.{place_of, Led, TreeMember, Tree}
 use Rattle.record.specs.Inside.Walk.{record_at}
-use Rattle.index.proofs.Standing.{Standing, standing_own, standing_room, standing_bytes}
+use Rattle.index.proofs.StandingFront.{Standing, standing_own, standing_room, standing_bytes}
 use Rattle.record.specs.Inside.Front.{Front}
 use Rattle.index.specs.declared.tree.Key.{Key}
 use Rattle.index.specs.declared.tree.Key.TheVariants.{Name, Ids}
