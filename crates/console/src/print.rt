@@ -105,6 +105,7 @@ impl Writer<'_> {
     }
 }
 
+#[tactic(auto, unfolding(crate::specs::Text::hex_digit, ty::specs::Choose::choose))]
 fn hex_digit(d: u8) -> u8
     requires { d < 16 }
     ensures { result ≡ hex_digit d }
@@ -113,6 +114,7 @@ fn hex_digit(d: u8) -> u8
 }
 
 // How many of `count` records a buffer of `size` bytes has whole.
+#[tactic(auto, unfolding(crate::specs::AnswerText::records_in))]
 fn records_in(size: usize, count: usize) -> usize
     ensures { (result ≡ records_in size count) × (5 * result ≤ size) }
 {

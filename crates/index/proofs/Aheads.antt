@@ -9,9 +9,9 @@ use mathlib.Core.List.{List, [], ◌∷◌}
 use mathlib.Core.Path.{◌≡◌, refl, sym, ap, ◌∙◌, subst}
 use native.Mathlib.Omega.{arith, not-le}
 use Rattle.index.proofs.Chains.{behind-before}
-use Rattle.index.proofs.ListSearch.{sits_at, sits_cons, sits-own, sits_next, sits_later, sits-inside, sits-length}
+use Rattle.index.proofs.ListSearch.{sits_at, sits_cons, sits-own, sits_next, sits_later, sits-length}
 use Rattle.index.specs.Inside.Ahead.{or_else, last_class, Ahead, marked, all_marked, marked_from, Looked}
-use Rattle.record.proofs.Records.{at_next, records-end}
+use Rattle.record.proofs.Records.{records-end}
 use Rattle.record.specs.Inside.Front.{front_of, front_at}
 use Rattle.record.specs.Inside.FrontRecord.{front_record}
 use Rattle.record.specs.Inside.HeadFault.{is_class, has_class}

@@ -11,15 +11,15 @@ use native.Mathlib.Omega.{arith, not-le}
 use Rattle.ty.specs.Bytes.{id_at, same_bytes}
 use Rattle.index.proofs.Chains.{behind-before}
 use Rattle.index.proofs.ListSearch.{sits_before, sits-own, sits_at, sits_later, raw_test}
-use Rattle.record.proofs.Records.{at_start, before_next}
-use Rattle.record.proofs.RecordSizes.{head_kind, name_room, name_bytes_lem}
+use Rattle.record.proofs.Records.{at_start}
+use Rattle.record.proofs.RecordSizes.{head_kind}
 use Rattle.record.specs.Inside.Front.{front_of}
 use Rattle.record.specs.Inside.HeadFault.{name_bytes, same_key, has_key, is_class, has_class}
 use Rattle.record.specs.Inside.FrontRecord.{front_record}
 use Rattle.record.specs.Table.{Record, records_of}
 use Rattle.index.specs.Inside.SearchKey.{name_bytes_at, key_matches}
 use Rattle.record.specs.Inside.Walk.{CursorAt, Sits, WholeRecordAt, behind, before}
-use Rattle.index.proofs.Standing.{Standing, standing_room, standing_bytes}
+use Rattle.index.proofs.StandingFront.{Standing, standing_room, standing_bytes}
 use Rattle.index.specs.declared.index.Place.{Place}
 use Rattle.index.specs.declared.tree.Key.{Key}
 use Rattle.index.specs.declared.tree.Key.TheVariants.{Name, Ids}

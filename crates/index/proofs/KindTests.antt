@@ -1,5 +1,5 @@
 -- The test of two kinds of records is that of their numbers.
-use Prim.Native.Nat.{ℕ, suc}
+use Prim.Native.Nat.{suc}
 use borrow.Author.Tests.{eqb-true, eqb-false}
 use denote.Enum.Bare.{sameb}
 use denote.Enum.Declared.{tag_of}

@@ -12,5 +12,5 @@ pub mod Single
 pub mod Aheads
 pub mod Rooms
 pub mod Empty
-pub mod Standing
+pub mod StandingFront
 pub mod KindTests

@@ -23,7 +23,7 @@ use Rattle.record.proofs.Laid.{same_kind, kind_byte, function_key}
 use Rattle.record.proofs.NoFault.{Clean}
 use Rattle.record.proofs.Own.{head_own}
 use Rattle.record.proofs.RecordSizes.{Fits, head_fits, head_kind, head_ids}
-use Rattle.record.proofs.Records.{at_start, at_next, records-here, records-end, record_byte, record_part}
+use Rattle.record.proofs.Records.{at_start, records-here, records-end, record_byte, record_part}
 use Rattle.record.specs.Inside.Front.{front_of}
 use Rattle.record.specs.Inside.FrontRecord.{front_record}
 use Rattle.record.specs.Inside.Keyed.{is_of, records_with}

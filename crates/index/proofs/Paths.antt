@@ -13,7 +13,7 @@ use Rattle.ty.specs.Bytes.{same_bytes}
 use Rattle.ty.specs.Choose.{choose}
 use Rattle.index.proofs.Buckets.{bucket-below, tree_name, tree_other, ways_name, ways_other, name_digit_low, key_digit_low}
 use Rattle.index.proofs.ListSearch.{key_bucket_lem}
-use Rattle.record.proofs.RecordSizes.{head_known, stands_own, name_room, name_bytes_lem}
+use Rattle.record.proofs.RecordSizes.{head_known}
 use Rattle.index.specs.Inside.Bucket.{hash_of, name_digit, key_bucket, key_digits, key_digit, bucket_of, digit_of}
 use Rattle.record.specs.Inside.Front.{front_of}
 use Rattle.record.specs.Inside.Keyed.{is_of}
@@ -25,7 +25,7 @@ use Rattle.index.specs.Inside.SearchKey.{name_bytes_at, tree_for, digit_for, key
 use Rattle.index.specs.Inside.Spot.{FreeIs}
 use Rattle.index.specs.Inside.SearchTree.{place_of, Led, TreeMember, Tree}
 use Rattle.record.specs.Inside.Walk.{record_at}
-use Rattle.index.proofs.Standing.{Standing, standing_own, standing_room, standing_bytes}
+use Rattle.index.proofs.StandingFront.{Standing, standing_own, standing_room, standing_bytes}
 use Rattle.record.specs.Inside.Front.{Front}
 use Rattle.index.specs.declared.tree.Key.{Key}
 use Rattle.index.specs.declared.tree.Key.TheVariants.{Name, Ids}

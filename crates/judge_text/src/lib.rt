@@ -6,7 +6,7 @@ ghost use Rattle.console.specs.Buffer.{Filled};
 ghost use Rattle.typing.specs.Answer.{buffer_of};
 ghost use Rattle.judge_text.specs.ProgramText.{answer_text, input_text, input_buffer, Short};
 
-use console::{print_answer, question_part, table_part};
+use console::{parts, print_answer};
 use judge::judge;
 
 // Judges a question under a table and puts the answer's text at the front of `out`, as much of it as fits, and zeros behind it; answers how many bytes of
@@ -29,5 +29,6 @@ pub fn input_text(input: &[u8], diagnostics: &mut [u8], out: &mut [u8]) -> usize
     ensures short { Short (input_text input.now) (length diagnostics.old) }
     ensures buffer { diagnostics.new ≡ input_buffer input.now (length diagnostics.old) }
 {
-    answer_text(table_part(input), question_part(input), diagnostics, out)
+    let (table, question) = parts(input);
+    answer_text(table, question, diagnostics, out)
 }

@@ -17,7 +17,7 @@ use Rattle.nodes.specs.Inside.Row.{id_of}
 use Rattle.nodes.specs.declared.calls.Begun.{Begun}
 use Rattle.nodes.specs.declared.progress.State.{State}
 use Rattle.operators.specs.Diag.{reported_at as at_node}
-use Rattle.operators.specs.DiagnosticKind.{suspend_diag}
+use Rattle.area.specs.DiagnosticKind.{suspend_diag}
 use Rattle.operators.specs.Out.{Report, report, unless}
 use Rattle.overload.specs.Before.{suspend_allowed, suspend_report, call_reports, method_reports}
 use Rattle.overload.specs.Inside.Reported.{Reported}

@@ -6,7 +6,7 @@ use lib.Dec.{eqb}
 use Rattle.ty.specs.Choose.{choose}
 use Rattle.ty.specs.Kind.{nullable_kind}
 use Rattle.ty.specs.Bytes.{Ty, kind_of}
-use Rattle.operators.specs.DiagnosticKind.{not_null_diag}
+use Rattle.area.specs.DiagnosticKind.{not_null_diag}
 use Rattle.operators.specs.Out.{Out, fails}
 use Rattle.operators.specs.Unary.{unary_of, unary_out, unary_with_arm}
 

@@ -5,7 +5,7 @@ use Rattle.ty.specs.Kind.{int_kind, long_kind, float_kind, double_kind, boolean_
 use Rattle.ty.specs.Name.{pair_id}
 use Rattle.ty.specs.Bytes.{Ty, plain_ty, is_integer, is_string, same_bytes}
 use Rattle.symbol.specs.Symbols.{Symbols}
-use Rattle.operators.specs.DiagnosticKind.{nullable_operands_diag, plus_diag, numeric_diag, unrelated_diag, not_comparable_diag, logical_diag, bitwise_diag}
+use Rattle.area.specs.DiagnosticKind.{nullable_operands_diag, plus_diag, numeric_diag, unrelated_diag, not_comparable_diag, logical_diag, bitwise_diag}
 use Rattle.operators.specs.Operator.{add_op, mod_op, eq_op, ne_op, ge_op, and_op, or_op, ushr_op, assign_op, to_op, is_op}
 use Rattle.operators.specs.Out.{Out, report, clean, plain, fails, unless, checked, found}
 use Rattle.operators.specs.Made.{named_ty}

@@ -6,7 +6,6 @@ pub mod Unary
 pub mod Assign
 pub mod Order2
 pub mod Out
-pub mod DiagnosticKind
 pub mod Diag
 pub mod Made
 pub mod Inside

@@ -4,7 +4,7 @@ use Rattle.std.specs.Prelude.{ℕ, leb, eqb}
 use Rattle.ty.specs.Choose.{choose}
 use Rattle.ty.specs.Kind.{boolean_kind, nullable_kind, pointer_kind}
 use Rattle.ty.specs.Bytes.{Ty, plain_ty, inner_of}
-use Rattle.operators.specs.DiagnosticKind.{nullable_unary_diag, minus_diag, not_diag, step_diag, dereference_diag, not_null_diag}
+use Rattle.area.specs.DiagnosticKind.{nullable_unary_diag, minus_diag, not_diag, step_diag, dereference_diag, not_null_diag}
 use Rattle.operators.specs.Operator.{minus_op, not_op, decrement_op, addr_of_op, dereference_op}
 use Rattle.operators.specs.Out.{Out, clean, fails, checked}
 use Rattle.operators.specs.Made.{pointer_ty}

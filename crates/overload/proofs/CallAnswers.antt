@@ -32,7 +32,7 @@ use Rattle.overload.specs.declared.calls.Called.{Called}
 use Rattle.overload.specs.declared.calls.Highest.{Highest}
 use Rattle.overload.specs.declared.calls.Tally.{Tally}
 use Rattle.operators.specs.Diag.{diag}
-use Rattle.operators.specs.DiagnosticKind.{no_match_diag}
+use Rattle.area.specs.DiagnosticKind.{no_match_diag}
 use Rattle.index.specs.Inside.Found.{FunctionAt}
 use Rattle.record.specs.TableRefused.{table_fault}
 use Rattle.symbol.proofs.FunctionLists.{overloads_placed}

@@ -11,7 +11,7 @@ use Rattle.ty.specs.Kind.{any_kind}
 use Rattle.ty.specs.Bytes.{kind_of, same_bytes}
 use Rattle.symbol.specs.Symbols.{Param, Overload, Symbols}
 use Rattle.area.specs.Diagnostic.{Diag}
-use Rattle.operators.specs.DiagnosticKind.{mismatch_diag}
+use Rattle.area.specs.DiagnosticKind.{mismatch_diag}
 use Rattle.operators.specs.Diag.{diag}
 use Rattle.operators.specs.Assign.{assigns}
 use Rattle.rules.specs.Accept.{is_type_variable, param_accepts}

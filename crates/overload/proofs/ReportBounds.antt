@@ -19,7 +19,7 @@ use Rattle.overload.specs.Resolve.{none_fits, tie_report, settle, resolve_in, re
 use Rattle.question.specs.declared.Header.{Header}
 use Rattle.rules.specs.Access.{access_report}
 use Rattle.operators.specs.Diag.{diag, reported_at as at}
-use Rattle.operators.specs.DiagnosticKind.{no_match_diag}
+use Rattle.area.specs.DiagnosticKind.{no_match_diag}
 use Rattle.operators.specs.Out.{Report, unless}
 use Rattle.index.specs.Inside.IndexedTable.{IndexedTable}
 use Rattle.symbol.specs.Lookup.{symbols_of}

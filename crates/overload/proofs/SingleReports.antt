@@ -24,7 +24,7 @@ use Rattle.scoring.specs.Score.{param_named}
 use Rattle.question.specs.declared.Header.{Header}
 use Rattle.rules.specs.Access.{blocked, access_report}
 use Rattle.operators.specs.Diag.{diag, reported_at as at}
-use Rattle.operators.specs.DiagnosticKind.{suspend_diag, unknown_name_diag, mismatch_diag, argument_count_diag, tie_diag, access_diag}
+use Rattle.area.specs.DiagnosticKind.{suspend_diag, unknown_name_diag, mismatch_diag, argument_count_diag, tie_diag, access_diag}
 use Rattle.operators.specs.Out.{Report, report, unless}
 use Rattle.symbol.specs.Symbols.{Param, Symbols}
 use Rattle.symbol.specs.declared.functions.Params.{Params}

@@ -3,7 +3,7 @@ use Rattle.std.specs.Prelude.{ℕ, Bool, not, ◌||◌, List, ◌++◌}
 use Rattle.ty.specs.Name.{no_id}
 use Rattle.symbol.specs.Symbols.{Symbols}
 use Rattle.question.specs.declared.Header.{Header}
-use Rattle.operators.specs.DiagnosticKind.{suspend_diag}
+use Rattle.area.specs.DiagnosticKind.{suspend_diag}
 use Rattle.operators.specs.Out.{Report, report, unless}
 use Rattle.rules.specs.Access.{access_report}
 

@@ -6,7 +6,7 @@ use Rattle.ty.specs.Choose.{choose}
 use Rattle.ty.specs.Kind.{any_kind}
 use Rattle.ty.specs.Bytes.{kind_of}
 use Rattle.symbol.specs.Symbols.{Param, Overload, Symbols}
-use Rattle.operators.specs.DiagnosticKind.{mismatch_diag}
+use Rattle.area.specs.DiagnosticKind.{mismatch_diag}
 use Rattle.area.specs.Diagnostic.{Diag}
 use Rattle.operators.specs.Diag.{diag}
 use Rattle.rules.specs.Accept.{param_accepts}

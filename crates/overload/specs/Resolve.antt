@@ -3,7 +3,7 @@
 use Rattle.std.specs.Prelude.{ℕ, Bool, List, [], ◌∷◌, ◌++◌, length, ltb}
 use Rattle.ty.specs.Choose.{choose}
 use Rattle.symbol.specs.Symbols.{Overload, Symbols}
-use Rattle.operators.specs.DiagnosticKind.{argument_count_diag, no_match_diag, tie_diag}
+use Rattle.area.specs.DiagnosticKind.{argument_count_diag, no_match_diag, tie_diag}
 use Rattle.operators.specs.Out.{error_ty}
 use Rattle.area.specs.Diagnostic.{Diag}
 use Rattle.operators.specs.Diag.{diag}

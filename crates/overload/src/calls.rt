@@ -119,7 +119,7 @@ fn take_one(
     }
 }
 
-// One more function of the list. own: builtins drop out.
+// One more function of the list. own: builtins drop out. It stays a flag: a closure in its place would only hold it.
 fn turn(
     table: &[u8],
     index: &[u16],

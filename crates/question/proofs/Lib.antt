@@ -1,4 +1,4 @@
-pub mod Faults
+pub mod QuestionFaults
 pub mod Operators
 pub mod Walking
 pub mod Trees

@@ -186,7 +186,7 @@ fn check_tree(question: &[u8], names: Names) -> Result<(), QuestionFault>
 }
 
 // Whether a question is accepted, or why it is refused.
-#[tactic(auto, using(crate::proofs::Faults::failed, crate::proofs::Faults::some_number), unfolding(crate::specs::QuestionRefused::question_fault, ty::specs::Choose::choose))]
+#[tactic(auto, using(crate::proofs::QuestionFaults::failed, crate::proofs::QuestionFaults::some_number), unfolding(crate::specs::QuestionRefused::question_fault, ty::specs::Choose::choose))]
 pub fn check_question(question: &[u8], names: Names) -> Result<(), QuestionFault>
     ensures { number_of result ≡ question_fault names question.now }
 {

@@ -27,14 +27,3 @@ part_front n s t e h m =
     let k : n ≤ length (s ++ drop n t) = omega arith in
     let f : length s ≡ n = omega (arith, length-append s (drop n t), length-drop n t) in
     record { most = m; counts = (k, sym (length-take-le n (s ++ drop n t) k)); rest = drop_at s (drop n t) n f }
-
-by_number : (b : Bool) (r : ℕ) → r ≡ choose b 1 2 → r ≤ 3
-unfolding choose
-by_number true r e = omega arith
-by_number false r e = omega arith
-
--- whatever was read, the answer is one of four
-pub case_most : {table question expected diagnostics out : Borrowed} {r : ℕ} → CaseRead table question expected diagnostics out r → r ≤ 3
-case_most (inl x) = omega (arith, x.number)
-case_most (inr (inl x)) = omega (arith, x.number)
-case_most {r = r} (inr (inr x)) = by_number _ r x.number

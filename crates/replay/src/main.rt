@@ -2,7 +2,7 @@
 // 2 bytes, low byte first. Prints how many cases agree; at the first that does not it stops and says which that is, counted from 0.
 #![tactic(auto)]
 
-ghost use Rattle.std.specs.Prelude.{◌≤◌, length, ◌≡◌};
+ghost use Rattle.std.specs.Prelude.{length, ◌≡◌, IfSome};
 ghost use Rattle.console.specs.Buffer.{holding};
 ghost use Rattle.judge_text.specs.ProgramText.{answer_text};
 ghost use Rattle.replay.specs.Agreement.{agreement, Agreement};
@@ -13,15 +13,16 @@ use judge_text::answer_text;
 use std::io::{self, Read};
 use ty::{id_at, same_bytes};
 
-const END: u8 = 0;
-
-const AGREES: u8 = 1;
-
-const DIFFERS: u8 = 2;
-
-const BROKEN: u8 = 3;
-
-const NO_LENGTH: usize = 65536;
+// What reading a case comes to.
+#[derive(Clone, Copy, PartialEq, Eq)]
+enum Case {
+    // The input ends before a case.
+    End,
+    Agrees,
+    Differs,
+    // The input ends within a case, or a part of it has no room.
+    Broken,
+}
 
 // The judge's text is the expected one.
 fn agrees(
@@ -42,32 +43,24 @@ fn agrees(
     same_bytes(&out[..n], expected)
 }
 
-// Reads a length; 65,536 where the input ends or a read fails.
-fn read_length(input: &mut impl Read) -> usize
-    ensures { result ≤ 65536 }
-{
+// Reads a length; none where the input ends or a read fails.
+fn read_length(input: &mut impl Read) -> Option<u16> {
     let mut head = [0u8; 2];
-    if input.read_exact(&mut head).is_err() {
-        return NO_LENGTH;
-    }
-    id_at(&head, 0) as usize
+    input.read_exact(&mut head).ok()?;
+    Some(id_at(&head, 0))
 }
 
-// Reads a length and as many bytes to the front of `space`; 65,536 where they are not all there or do not fit.
-fn read_part(input: &mut impl Read, space: &mut [u8]) -> usize
-    ensures { (result ≤ 65536) × (result ≤ 65535 → ReadTo space result) }
+// Reads a length and as many bytes to the front of `space`; none where they are not all there or
+// do not fit.
+fn read_part(input: &mut impl Read, space: &mut [u8]) -> Option<usize>
+    ensures { IfSome result (λ n. ReadTo space n) }
 {
-    let len = read_length(input);
-    if 65535 < len {
-        return NO_LENGTH;
-    }
+    let len = read_length(input)? as usize;
     if space.len() < len {
-        return NO_LENGTH;
+        return None;
     }
-    if input.read_exact(&mut space[..len]).is_err() {
-        return NO_LENGTH;
-    }
-    len
+    input.read_exact(&mut space[..len]).ok()?;
+    Some(len)
 }
 
 // Reads a case and judges it; the slices are room for it.
@@ -78,21 +71,18 @@ fn read_case(
     expected: &mut [u8],
     diagnostics: &mut [u8],
     out: &mut [u8],
-) -> u8
+) -> Case
     ensures { CaseRead table question expected diagnostics out result }
 {
-    let t = read_part(input, table);
-    if 65535 < t {
-        return END;
-    }
-    let q = read_part(input, question);
-    if 65535 < q {
-        return BROKEN;
-    }
-    let e = read_part(input, expected);
-    if 65535 < e {
-        return BROKEN;
-    }
+    let Some(t) = read_part(input, table) else {
+        return Case::End;
+    };
+    let Some(q) = read_part(input, question) else {
+        return Case::Broken;
+    };
+    let Some(e) = read_part(input, expected) else {
+        return Case::Broken;
+    };
     if agrees(
         &table[..t],
         &question[..q],
@@ -100,27 +90,24 @@ fn read_case(
         diagnostics,
         out,
     ) {
-        return AGREES;
+        return Case::Agrees;
     }
-    DIFFERS
+    Case::Differs
 }
 
 // Writes what the run was.
-fn tell(rt: &impl Print, agree: u64, last: u8) -> io::Result<()> {
+fn tell(rt: &impl Print, agree: u64, last: Case) -> io::Result<()> {
     print!(rt; "{agree} cases agree")?;
-    if last == DIFFERS {
-        print!(rt; ", not case {agree}")?;
-    }
-    if last == BROKEN {
-        print!(rt; ", then the input breaks off")?;
+    match last {
+        Case::Differs => print!(rt; ", not case {agree}")?,
+        Case::Broken => print!(rt; ", then the input breaks off")?,
+        Case::End | Case::Agrees => {}
     }
     println!(rt; "")
 }
 
 // The same in slices of its own.
-fn next(input: &mut impl Read) -> u8
-    ensures { result ≤ 3 }
-{
+fn next(input: &mut impl Read) -> Case {
     let mut table = [0u8; 65535];
     let mut question = [0u8; 65535];
     let mut expected = [0u8; 65535];
@@ -139,11 +126,11 @@ fn next(input: &mut impl Read) -> u8
 // A loop has to end, and nothing says that the input does: the count ends it.
 fn main(rt: HostRuntime) -> io::Result<()> {
     let mut input = rt.reader();
-    let mut agree: u64 = 0;
-    let mut last = next(&mut input);
-    while agree < u64::MAX && last == AGREES {
-        agree += 1;
-        last = next(&mut input);
+    for agree in 0..u64::MAX {
+        let case = next(&mut input);
+        if case != Case::Agrees {
+            return tell(&rt, agree, case);
+        }
     }
-    tell(&rt, agree, last)
+    tell(&rt, u64::MAX, Case::End)
 }

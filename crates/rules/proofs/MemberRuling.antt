@@ -13,7 +13,7 @@ use Rattle.area.specs.declared.Source.TheVariants.{Name}
 use Rattle.area.specs.declared.Source.{Source}
 use Rattle.operators.proofs.Each.{each, each_by}
 use Rattle.operators.proofs.Ruling.{clean-gives, plain-gives, fails-gives, alone_gives, before-gives}
-use Rattle.operators.specs.DiagnosticKind.{unresolved_diag}
+use Rattle.area.specs.DiagnosticKind.{unresolved_diag}
 use Rattle.operators.specs.Inside.Ruled.{reports_of, one_out, out_of}
 use Rattle.operators.specs.Inside.RuledParts.{plain_one, fails_one}
 use Rattle.operators.specs.Inside.Looked.{source_ty}

@@ -5,7 +5,7 @@ use Rattle.ty.specs.Name.{no_id}
 use Rattle.symbol.specs.Symbols.{Symbols}
 use Rattle.symbol.specs.Subclass.{is_subclass}
 use Rattle.question.specs.declared.Header.{Header}
-use Rattle.operators.specs.DiagnosticKind.{access_diag}
+use Rattle.area.specs.DiagnosticKind.{access_diag}
 use Rattle.rules.specs.Visibility.{public_vis, protected_vis, private_vis}
 use Rattle.operators.specs.Out.{Report, report}
 

@@ -11,7 +11,7 @@ use Rattle.ty.specs.Name.{trim_id, lowercase_id, uppercase_id, keys_id}
 use Rattle.ty.specs.Bytes.{Ty, name_of, is_nullable, is_array, inner_of, non_null}
 use Rattle.symbol.specs.Symbols.{Overload, Symbols}
 use Rattle.question.specs.declared.Header.{Header}
-use Rattle.operators.specs.DiagnosticKind.{nullable_member_diag, unresolved_diag, no_members_diag}
+use Rattle.area.specs.DiagnosticKind.{nullable_member_diag, unresolved_diag, no_members_diag}
 use Rattle.operators.specs.Out.{Report, Out, any_ty, clean, plain, fails, reports_before, found}
 use Rattle.operators.specs.Made.{named_ty, list_ty, function_ty}
 use Rattle.operators.specs.Operand.{is_kind}

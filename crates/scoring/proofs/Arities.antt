@@ -1,45 +1,46 @@
 -- The number of arguments that an overload takes.
 use Prim.Native.Nat.{ℕ, zero, suc, ◌+◌, ◌-◌, ◌≤◌, ◌<◌}
-use lib.Dec.{leb}
 use lib.ListN.{get_or}
-use mathlib.Core.Bool.{Bool, true, false, ◌&&◌, ◌||◌}
+use mathlib.Core.Bool.{Bool, true, false, ◌||◌}
 use mathlib.Core.List.{List}
-use mathlib.Core.Path.{◌≡◌, sym, ap, ◌∙◌}
+use mathlib.Core.Path.{◌≡◌, refl, sym, ap, ◌∙◌}
 use native.Mathlib.Omega.{arith}
-use Rattle.scoring.proofs.ParamsAndArgsLeft.{params_left, params_all, params_next, params_none, params_length}
-use Rattle.scoring.specs.Arity.{required, ends_vararg, last_vararg, fits}
+use Rattle.scoring.proofs.ParamsAndArgsLeft.{params_left, params_all, params_next, params_none}
+use Rattle.scoring.specs.Arity.{required, ends_vararg, last_vararg}
 use Rattle.scoring.specs.Inside.Params.{params_in}
-use Rattle.symbol.specs.Inside.LookupAnswer.{params_row, overload_in}
+use Rattle.symbol.specs.Inside.LookupAnswer.{params_row}
 use Rattle.symbol.specs.Symbols.{Param}
-use Rattle.symbol.specs.declared.functions.Function.{Function}
 use Rattle.symbol.specs.declared.functions.Params.{Params}
 use Rattle.ty.proofs.Choice.{choose_yes, choose_no}
 
 module _ (t : List ℕ) (p : Params) where
   -- ---- how many are required
-  pub required_start : 0 + required (params_left t p 0 p.count) ≡ required (params_in t p)
-  required_start =
-      let e : required (params_left t p 0 p.count) ≡ required (params_in t p) = ap (λ (ps : List Param). required ps) (params_all t p p.count) in
-      omega arith
+  pub required_start : required (params_left t p 0 p.count) ≡ required (params_in t p)
+  required_start = ap (λ (ps : List Param). required ps) (params_all t p p.count)
 
-  module _ (i n : ℕ) (w : n + required (params_left t p i p.count) ≡ required (params_in t p)) where
-    pub required_not : i < p.count → (get_or p.defaults i false || get_or p.varargs i false) ≡ true → n + required (params_left t p (i + 1) p.count) ≡ required (params_in t p)
+  module _ (i : ℕ) where
+    pub required_default : i < p.count → get_or p.defaults i false ≡ true → required (params_left t p i p.count) ≡ required (params_left t p (i + 1) p.count)
     unfolding required
-    required_not h d =
-        let e : required (params_left t p i p.count) ≡ required (params_left t p (i + 1) p.count) = ap (λ (ps : List Param). required ps) (params_next t p i p.count h) ∙ choose_yes _ _ _ d in
-        omega arith
+    required_default h d = ap (λ (ps : List Param). required ps) (params_next t p i p.count h) ∙ choose_yes _ _ _ (ap (λ (b : Bool). b || get_or p.varargs i false) d)
 
-    pub required_one : i < p.count → (get_or p.defaults i false || get_or p.varargs i false) ≡ false → n + 1 + required (params_left t p (i + 1) p.count) ≡ required (params_in t p)
+    pub required_vararg : i < p.count → get_or p.varargs i false ≡ true → required (params_left t p i p.count) ≡ required (params_left t p (i + 1) p.count)
     unfolding required
-    required_one h d =
-        let e : required (params_left t p i p.count) ≡ suc (required (params_left t p (i + 1) p.count)) = ap (λ (ps : List Param). required ps) (params_next t p i p.count h) ∙ choose_no _ _ _ d in
-        omega arith
+    required_vararg h d = ap (λ (ps : List Param). required ps) (params_next t p i p.count h) ∙ choose_yes _ _ _ (or_true (get_or p.defaults i false) d)
+      where
+        or_true : (b : Bool) {c : Bool} → c ≡ true → (b || c) ≡ true
+        or_true true e = refl
+        or_true false e = e
 
-    pub required_all : p.count ≤ i → n ≡ required (params_in t p)
+    pub required_one : i < p.count → get_or p.defaults i false ≡ false → get_or p.varargs i false ≡ false
+        → required (params_left t p i p.count) ≡ suc (required (params_left t p (i + 1) p.count))
     unfolding required
-    required_all h =
-        let e : required (params_left t p i p.count) ≡ 0 = ap (λ (ps : List Param). required ps) (params_none t p i p.count h) in
-        omega arith
+    required_one h d e =
+        ap (λ (ps : List Param). required ps) (params_next t p i p.count h)
+        ∙ choose_no _ _ _ (ap (λ (b : Bool). b || get_or p.varargs i false) d ∙ e)
+
+    pub required_none : p.count ≤ i → required (params_left t p i p.count) ≡ 0
+    unfolding required
+    required_none h = ap (λ (ps : List Param). required ps) (params_none t p i p.count h)
 
   -- ---- the last parameter
   ends_row : (v : Bool) (i n : ℕ) → ends_vararg v (params_row t p i (suc n)) ≡ get_or p.varargs (i + n) false
@@ -61,12 +62,4 @@ module _ (t : List ℕ) (p : Params) where
       (ap (λ (n : ℕ). ends_vararg false (params_row t p 0 n)) e
       ∙ ends_row false 0 (p.count - 1) ∙ ap (λ (k : ℕ). get_or p.varargs k false) f)
 
--- both
-pub viable_is : (t : List ℕ) (f : Function) (n r : ℕ) (v : Bool) → r ≡ required (params_in t f.params) → v ≡ last_vararg (params_in t f.params)
-    → (leb r n && (v || leb n f.params.count)) ≡ fits n (overload_in t f)
-unfolding fits
-viable_is t f n r v e g =
-    ap (λ (k : ℕ). leb k n && (v || leb n f.params.count)) e
-    ∙ ap (λ (b : Bool). leb (required (params_in t f.params)) n && (b || leb n f.params.count)) g
-    ∙ ap (λ (k : ℕ). leb (required (params_in t f.params)) n && (last_vararg (params_in t f.params) || leb n k))
-    (sym (params_length t f.params 0 f.params.count))
+pub ruleset required_left = (required_start, required_default, required_vararg, required_one, required_none)

@@ -11,7 +11,7 @@ use Rattle.std.specs.Prelude.{Option as Maybe, Some, None}
 use native.Mathlib.Nat.{sub-zero}
 use native.Mathlib.Omega.{arith}
 use Rattle.scoring.proofs.ParamsAndArgsLeft.{params_left, params_all, params_next, params_none}
-use Rattle.scoring.specs.Inside.Params.{params_in, param_in, place_of, as_place, named_place, free_place}
+use Rattle.scoring.specs.Inside.Params.{params_in, param_in, place_read, as_place, named_place, free_place}
 use Rattle.scoring.specs.Score.{param_named, place_named, unmarked_from}
 use Rattle.symbol.specs.Inside.LookupAnswer.{param_at, params_row}
 use Rattle.symbol.specs.Symbols.{Param}
@@ -64,10 +64,10 @@ module _ (t : List ℕ) (p : Params) (id : ℕ) where
       go false e = e
 
   module _ (r : Maybe ℕ) (e : r ≡ named_place t p id) where
-    pub place_named_is : place_named id 0 (params_in t p) ≡ place_of r
-    place_named_is = sym (ap (λ (o : Maybe ℕ). place_of o) e ∙ back (place_named id 0 (params_in t p)))
+    pub place_named_is : place_named id 0 (params_in t p) ≡ place_read r
+    place_named_is = sym (ap (λ (o : Maybe ℕ). place_read o) e ∙ back (place_named id 0 (params_in t p)))
       where
-        back : (o : Option ℕ) → place_of (as_place o) ≡ o
+        back : (o : Option ℕ) → place_read (as_place o) ≡ o
         back none = refl
         back (some j) = refl
 

@@ -16,7 +16,7 @@ use Rattle.area.specs.Inside.Slot.{slot_of}
 use Rattle.scoring.specs.Arg.{Arg}
 use Rattle.scoring.specs.Arity.{last_vararg}
 use Rattle.scoring.specs.Inside.Args.{name_in, args_in}
-use Rattle.scoring.specs.Inside.Params.{params_in, param_in, place_of, named_place}
+use Rattle.scoring.specs.Inside.Params.{params_in, param_in, place_read, named_place}
 use Rattle.scoring.specs.Inside.Scored.{score_of, as_score, points_of, compared_or, named_more, named_in, positional_in, score_in}
 use Rattle.scoring.specs.Score.{param_named, unmarked_from, plus, compared, compared_with, mark_at, mark_one, marks_from, marks_of, no_marks, named_one, named_score, unnamed_one, unnamed_score, score}
 use Rattle.scoring.specs.declared.args.Args.{Args}
@@ -181,7 +181,7 @@ module _ (t : List ℕ) (p : Params) (id : ℕ) (x : Ty) (m : NamedPass) where
   -- one that names the parameter at r, if any
   pub named_added : (id ≡ no_id → ⊥) → (r : Maybe ℕ) → r ≡ named_place t p id → (one s : Maybe Score) (marks : List Bool)
       → one ≡ as_score (compared_or (symbols_of t) none (param_in t p r) x) → s ≡ as_score (plus (score_of m.score) (score_of one))
-      → marks ≡ mark_at (place_of r) m.marks → ◌≡◌ {A = NamedPass} (record { score = s; marks = marks }) (named_more t p id x m)
+      → marks ≡ mark_at (place_read r) m.marks → ◌≡◌ {A = NamedPass} (record { score = s; marks = marks }) (named_more t p id x m)
   unfolding mark_one
   named_added h r e one s marks f g k =
       let n = name_some id h in

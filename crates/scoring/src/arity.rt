@@ -7,13 +7,14 @@ ghost use Rattle.scoring.specs.Inside.Params.{params_in};
 use symbol::functions::{Function, Params};
 
 // How many parameters have no default and are not vararg.
+#[tactic(auto, using(crate::proofs::Arities::required_left))]
 fn required(params: Params) -> usize
     requires { params.count ≤ 16 }
     ensures { (t : List ℕ) → result ≡ required_of (params_in t params) }
 {
     let mut n: usize = 0;
     for i in 0..params.count {
-        if !(params.defaults[i] | params.varargs[i]) {
+        if !(params.defaults[i] || params.varargs[i]) {
             n += 1;
         }
     }
@@ -33,11 +34,11 @@ pub fn last_vararg(params: Params) -> bool
 }
 
 // Whether n arguments are enough and not too many.
-#[tactic(auto, using(crate::proofs::Arities::viable_is))]
+#[tactic(auto, using(crate::proofs::ParamsAndArgsLeft::params_length), unfolding(crate::specs::Arity::fits))]
 pub fn viable(f: Function, n: usize) -> bool
     requires { f.params.count ≤ 16 }
     ensures { (t : List ℕ) → result ≡ fits n (overload_in t f) }
 {
     let params = f.params;
-    (required(params) <= n) & (last_vararg(params) | (n <= params.count))
+    required(params) <= n && (last_vararg(params) || n <= params.count)
 }

@@ -4,7 +4,7 @@ ghost use Rattle.index.specs.Inside.IndexedTable.{IndexedTable};
 ghost use Rattle.symbol.specs.Lookup.{symbols_of};
 ghost use Rattle.scoring.specs.Score.{plus, unnamed_one, mark_at};
 ghost use Rattle.scoring.specs.Inside.Args.{name_in, args_in};
-ghost use Rattle.scoring.specs.Inside.Params.{param_in, place_of, named_place, free_place};
+ghost use Rattle.scoring.specs.Inside.Params.{param_in, place_read, named_place, free_place};
 ghost use Rattle.scoring.specs.Inside.Scored.{score_of, as_score, points_of, compared_or, named_more, named_in, positional_in, score_in};
 
 use crate::args::Args;
@@ -19,7 +19,8 @@ pub struct Score {
     pub points: usize,
 }
 
-// What the named pass hands on: its score, None where an argument does not match, and a mark for each parameter that an argument names.
+// What the named pass hands on: its score, None where an argument does not match, and a mark for each parameter that an argument names. The marks
+// go on by value.
 #[derive(Clone, Copy)]
 pub struct NamedPass {
     pub score: Option<Score>,
@@ -99,7 +100,7 @@ fn compare(
 #[tactic(auto, unfolding(crate::specs::Score::mark_at))]
 fn mark(marks: [bool; 16], place: Option<usize>) -> [bool; 16]
     requires { IfSome place (λ j. j < 16) }
-    ensures { result ≡ mark_at (place_of place) marks }
+    ensures { result ≡ mark_at (place_read place) marks }
 {
     match place {
         Some(j) => {

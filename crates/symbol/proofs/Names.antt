@@ -13,7 +13,6 @@ use Rattle.ty.specs.Bytes.{id_at}
 use Rattle.ty.specs.Read.{read_type, longest_type}
 use Rattle.ty.specs.declared.read.TypeFault.TheVariants.{Cut, Malformed, Endless}
 use Rattle.ty.specs.declared.read.TypeFault.{TypeFault}
-use Rattle.ty.specs.Read.{whole_read}
 use Rattle.std.specs.Prelude.{Result, Ok, Err}
 use Rattle.ty.specs.declared.read.TypeRead.{TypeRead}
 use Rattle.record.proofs.NoFault.{or_false}

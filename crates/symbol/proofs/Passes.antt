@@ -1,6 +1,5 @@
 -- The pass over a table: what holds at each record of it, and what follows at its end.
 use Prim.Native.Nat.{ℕ, zero, suc, ◌+◌, ◌≤◌, ◌<◌}
-use borrow.Author.Tests.{eq-eqb, ne_eqb}
 use lib.Dec.{eqb}
 use lib.ListN.{length, get_or, drop, set}
 use lib.Seq.{drop-cons, get_or-set_same, get_or-set_other}
@@ -8,7 +7,7 @@ use mathlib.Core.Bool.{Bool, true, false, ◌||◌}
 use mathlib.Core.List.{List, [], ◌∷◌}
 use mathlib.Core.Path.{◌≡◌, refl, sym, ap, ◌∙◌, subst}
 use native.Mathlib.Omega.{arith}
-use Rattle.ty.proofs.Choice.{chosen, passed}
+use Rattle.ty.proofs.Choice.{chosen}
 use Rattle.ty.specs.Choose.{choose}
 use Rattle.ty.specs.Name.{id_defined}
 use Rattle.index.proofs.Aheads.{looked_on}

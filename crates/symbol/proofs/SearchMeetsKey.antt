@@ -15,7 +15,7 @@ use Rattle.index.proofs.Paths.{and_true, id_bucket, not-met, passes_key, own_key
 use Rattle.record.proofs.SameKeys.{same_kind, function_fresh}
 use Rattle.record.proofs.RecordSizes.{stands_own}
 use Rattle.record.specs.declared.front.Head.{Head}
-use Rattle.index.proofs.Standing.{Standing, standing}
+use Rattle.index.proofs.StandingFront.{Standing, standing}
 use Rattle.symbol.specs.Inside.Asked.{Planted, Prepared}
 use Rattle.record.specs.Inside.Front.{front_of, front_of_head}
 use Rattle.record.specs.Inside.HeadFault.{same_key, has_key, is_class, has_class}

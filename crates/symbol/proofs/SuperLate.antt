@@ -11,7 +11,7 @@ use Rattle.record.specs.Inside.HeadFault.{has_class, super_late, super_missing}
 use Rattle.record.specs.Table.{records_of}
 use Rattle.symbol.specs.Inside.Join.{KeyAsked}
 use Rattle.record.specs.Inside.Walk.{record_at, before}
-use Rattle.std.specs.Prelude.{Option, Some, None}
+use Rattle.std.specs.Prelude.{Option}
 use Rattle.symbol.specs.declared.checks.Entry.{Entry}
 use Rattle.record.specs.Inside.Front.{Front}
 use Rattle.record.specs.declared.front.Head.{Head}

@@ -12,7 +12,7 @@ use Rattle.overload.specs.Before.{suspend_report}
 use Rattle.overload.specs.Resolve.{none_fits, resolve, resolve_in}
 use Rattle.question.specs.declared.Header.{Header}
 use Rattle.rules.specs.Access.{access_report, blocked}
-use Rattle.operators.specs.DiagnosticKind.{access_diag, suspend_diag}
+use Rattle.area.specs.DiagnosticKind.{access_diag, suspend_diag}
 use Rattle.operators.specs.Out.{Report, error_ty, report, unless}
 use Rattle.symbol.specs.Symbols.{Overload, Symbols}
 use Rattle.ty.specs.Bytes.{Ty}

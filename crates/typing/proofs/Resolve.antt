@@ -18,7 +18,7 @@ use Rattle.overload.specs.ByIndex.{absent, all_unknown, mismatches, unknown_one,
 use Rattle.overload.specs.Resolve.{none_fits, resolve, resolve_in, settle, tie_report}
 use Rattle.scoring.specs.Score.{param_named, score}
 use Rattle.operators.specs.Diag.{diag}
-use Rattle.operators.specs.DiagnosticKind.{tie_diag}
+use Rattle.area.specs.DiagnosticKind.{tie_diag}
 use Rattle.operators.specs.Out.{error_ty}
 use Rattle.symbol.specs.Symbols.{Overload, Param, Symbols}
 use Rattle.ty.specs.Bytes.{Ty}

@@ -9,7 +9,7 @@ use Rattle.area.specs.Diagnostic.{Diag, put_all}
 use Rattle.area.specs.declared.Source.{Source}
 use Rattle.area.specs.declared.Source.TheVariants.{Part}
 use Rattle.operators.specs.Diag.{diag}
-use Rattle.operators.specs.DiagnosticKind.{no_match_diag}
+use Rattle.area.specs.DiagnosticKind.{no_match_diag}
 use Rattle.scoring.specs.Arg.{Arg, Verdict}
 use Rattle.scoring.specs.Arity.{any_own}
 use Rattle.scoring.specs.Inside.Args.{args_in}

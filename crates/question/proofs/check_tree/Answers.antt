@@ -1,7 +1,7 @@
 use Prim.Native.Nat.{◌+◌, ◌-◌}
 use mathlib.Core.Path.{◌≡◌, refl, sym, ap, ◌∙◌}
 use native.Mathlib.Omega.{arith}
-use Rattle.question.proofs.Faults.{failed, some_number}
+use Rattle.question.proofs.QuestionFaults.{failed, some_number}
 use Rattle.question.proofs.NodeIds.{same_fault}
 use Rattle.question.proofs.NodeReading.{step_small, step_few}
 use Rattle.question.proofs.Walking.{fault_end, fault_more, fault_stop, fault_turn}

@@ -3,6 +3,8 @@ use Rattle.std.specs.Prelude.{ℕ, ◌≤◌, length, take, drop, List, ◌⊎�
 use Rattle.console.specs.Buffer.{Counts, holding}
 use Rattle.judge_text.specs.ProgramText.{answer_text}
 use Rattle.replay.specs.Agreement.{agreement}
+use Rattle.replay.specs.declared.Case.{Case}
+use Rattle.replay.specs.declared.Case.TheVariants.{End, Agrees, Differs, Broken}
 use Rattle.ty.specs.Choose.{choose}
 use Rattle.ty.specs.Slice.{Borrowed}
 use Rattle.typing.specs.Answer.{buffer_of}
@@ -21,21 +23,21 @@ abbrev pub Unchanged : Borrowed → Type 0
 Unchanged s = s.exit.now ≡ s.entry.now
 
 -- the input ended before a case
-pub record Ended (question expected diagnostics out : Borrowed) (r : ℕ) : Type 0 where
-  pub number : r ≡ 0
+pub record Ended (question expected diagnostics out : Borrowed) (r : Case) : Type 0 where
+  pub number : r ≡ End
   pub question_kept : Unchanged question
   pub expected_kept : Unchanged expected
   pub diagnostics_kept : Unchanged diagnostics
   pub out_kept : Unchanged out
 
 -- it ended within one, or a part had no room
-pub record BrokenOff (diagnostics out : Borrowed) (r : ℕ) : Type 0 where
-  pub number : r ≡ 3
+pub record BrokenOff (diagnostics out : Borrowed) (r : Case) : Type 0 where
+  pub number : r ≡ Broken
   pub diagnostics_kept : Unchanged diagnostics
   pub out_kept : Unchanged out
 
--- a table, a question and a text were read and judged: 1 where they agree, else 2
-pub record Compared (table question expected diagnostics out : Borrowed) (r : ℕ) : Type 0 where
+-- a table, a question and a text were read and judged
+pub record Compared (table question expected diagnostics out : Borrowed) (r : Case) : Type 0 where
   pub t : ℕ
   pub q : ℕ
   pub e : ℕ
@@ -43,13 +45,13 @@ pub record Compared (table question expected diagnostics out : Borrowed) (r : �
   pub question_read : ReadTo question q
   pub expected_read : ReadTo expected e
   pub number : r ≡ choose (agreement (take t table.exit.now) (take q question.exit.now) (take e expected.exit.now)
-      (length diagnostics.entry.now) (length out.entry.now)) 1 2
+      (length diagnostics.entry.now) (length out.entry.now)) Agrees Differs
   pub text : out.exit.now
       ≡ holding (length out.entry.now) (answer_text (take t table.exit.now) (take q question.exit.now) (length diagnostics.entry.now))
   pub buffer : diagnostics.exit.now
       ≡ buffer_of (take t table.exit.now) (take q question.exit.now) (length diagnostics.entry.now)
 
 -- one of the three
-abbrev pub CaseRead : Borrowed → Borrowed → Borrowed → Borrowed → Borrowed → ℕ → Type 0
+abbrev pub CaseRead : Borrowed → Borrowed → Borrowed → Borrowed → Borrowed → Case → Type 0
 CaseRead table question expected diagnostics out r =
     Ended question expected diagnostics out r ⊎ (BrokenOff diagnostics out r ⊎ Compared table question expected diagnostics out r)

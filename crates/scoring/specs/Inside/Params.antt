@@ -11,9 +11,9 @@ abbrev pub params_in : List ℕ → Params → List Param
 params_in t p = params_row t p 0 p.count
 
 -- a place as the code answers it
-abbrev pub place_of : Maybe ℕ → Option ℕ
-place_of None = none
-place_of (Some j) = some j
+abbrev pub place_read : Maybe ℕ → Option ℕ
+place_read None = none
+place_read (Some j) = some j
 
 -- the same the other way round
 abbrev pub as_place : Option ℕ → Maybe ℕ

@@ -1,5 +1,5 @@
 -- What the check of one record is told, and its number in two parts.
-use Rattle.std.specs.Prelude.{ℕ, ◌≤◌, Bool, false, List, ◌≡◌, length, drop}
+use Rattle.std.specs.Prelude.{ℕ, ◌≤◌, Bool, List, ◌≡◌, length, drop}
 use Rattle.index.specs.Inside.Entered.{Entered}
 use Rattle.record.specs.Inside.HeadFault.{last_kind, super_missing, own_fault, key_fault}
 use Rattle.record.specs.Inside.FrontRecord.{count_of}

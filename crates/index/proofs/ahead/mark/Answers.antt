@@ -1,5 +1,5 @@
 use native.Mathlib.Numerals.{add-one}
-use Prim.Native.Nat.{ℕ, suc, ◌+◌, ◌≤◌}
+use Prim.Native.Nat.{ℕ, ◌+◌, ◌≤◌}
 use borrow.Author.Tests.{ne_eqb, eq-eqb}
 use lib.ListN.{length, set}
 use lib.Seq.{set_out}

@@ -1,10 +1,9 @@
-use Prim.Native.Nat.{ℕ, ◌/◌, ◌%◌, ◌^◌}
+use Prim.Native.Nat.{ℕ, ◌%◌}
 use lib.ListN.{get_or}
 use mathlib.Core.List.{List}
 use mathlib.Core.Path.{sym, ap, ◌∙◌}
 use native.Mathlib.Omega.{arith}
 use Rattle.index.proofs.Buckets.{digit_mixed, digit_own}
-use Rattle.index.specs.Inside.Bucket.{key_digit}
 use Rattle.index.specs.Inside.SearchKey.{name_bytes_at, digits_for, digit_for}
 use Rattle.index.specs.declared.tree.Key.{Key}
 use Rattle.index.proofs.tree.digit.Goals as goal

@@ -1,7 +1,5 @@
-use mathlib.Core.Path.{sym, ◌∙◌, subst}
-use Rattle.index.specs.Inside.SearchKey.{KeyIn}
-use Rattle.index.specs.declared.tree.Key.{Key}
-use Rattle.index.proofs.Earlier.{has_other, has_name, has_ids, has_room}
+use mathlib.Core.Path.{sym, ◌∙◌}
+use Rattle.index.proofs.Earlier.{has_room}
 use Rattle.index.proofs.tree.has.Goals as goal
 
 pub name_at-requires : goal.name_at-requires

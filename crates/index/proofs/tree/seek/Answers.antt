@@ -1,5 +1,4 @@
-use mathlib.Core.Path.{◌∙◌}
-use Rattle.index.proofs.Single.{accepted_open, single_ok}
+use Rattle.index.proofs.Single.{accepted_open}
 use Rattle.index.proofs.tree.seek.Goals as goal
 
 pub search-requires : goal.search-requires

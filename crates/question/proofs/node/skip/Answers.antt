@@ -3,7 +3,7 @@ use mathlib.Core.Path.{◌≡◌, refl, sym, ap, ◌∙◌}
 use native.Mathlib.Omega.{arith}
 use Rattle.question.proofs.NodeReading.{step_small, step_few}
 use Rattle.question.proofs.Walking.{skip_end, skip_stop, skip_turn}
-use Rattle.question.proofs.Faults.{unread_bytes, unread_children}
+use Rattle.question.proofs.QuestionFaults.{unread_bytes, unread_children}
 use Rattle.question.specs.Inside.Skip.{skip_at}
 use Rattle.question.specs.NodeRead.{own_bytes, children}
 use Rattle.question.proofs.node.skip.Goals.{in-Ok, in_default}

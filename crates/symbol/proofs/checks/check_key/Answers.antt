@@ -1,4 +1,4 @@
-use mathlib.Core.Path.{refl, sym, ap, ◌∙◌}
+use mathlib.Core.Path.{refl, sym, ◌∙◌}
 use Rattle.symbol.proofs.Joins.{none_taken}
 use Rattle.symbol.proofs.SuperLate.{late_is}
 use Rattle.record.proofs.RecordSizes.{stands_own}

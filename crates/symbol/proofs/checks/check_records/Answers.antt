@@ -1,6 +1,5 @@
-use mathlib.Core.Path.{refl, sym, ◌∙◌}
+use mathlib.Core.Path.{refl, ◌∙◌}
 use native.Mathlib.Omega.{arith}
-use Rattle.record.specs.declared.front.RecordKind.TheVariants.{Name}
 use Rattle.symbol.proofs.IndexMakes.{making_start, making_stopped, making_next, making_done}
 use Rattle.symbol.proofs.LateMakes.{noting_start, noting_own, noting_key, noting_next, noting_done}
 use Rattle.symbol.proofs.Passes.{going_start, going_broken, going_asked, own_is, own-refused, own-stopped, going_prepared, going_key, both, key_refused, key_stopped, going_placed, going_join, going_next, going_done, going_names, going_accepted}

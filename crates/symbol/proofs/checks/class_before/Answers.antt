@@ -1,9 +1,5 @@
-use Prim.Native.Nat.{ℕ}
-use mathlib.Core.Path.{◌≡◌, ◌∙◌, sym}
-use Rattle.std.specs.Prelude.{Result, Ok, Err, is_ok}
+use mathlib.Core.Path.{◌∙◌}
 use Rattle.index.proofs.TreeWalks.{search_spot}
-use Rattle.index.specs.Inside.Spot.{SpotIs}
-use Rattle.index.specs.declared.index.Place.{Place}
 use Rattle.index.specs.declared.tree.Key.TheVariants.{Ids}
 use Rattle.symbol.proofs.SearchMeetsKey.{planted_open, class_met}
 use Rattle.symbol.proofs.checks.class_before.Goals as goal

@@ -1,6 +1,6 @@
 use mathlib.Core.Bool.{not}
 use mathlib.Core.Path.{ap}
-use Rattle.symbol.proofs.LateMakes.{look_before, look_none, look_made}
+use Rattle.symbol.proofs.LateMakes.{look_made}
 use Rattle.symbol.proofs.checks.look.Goals as goal
 
 pub returns : goal.returns

@@ -1,5 +1,5 @@
 use Rattle.std.specs.Prelude.{None, Some}
-use Prim.Native.Nat.{ℕ, ◌+◌, ◌-◌}
+use Prim.Native.Nat.{◌+◌, ◌-◌}
 use lib.ListN.{drop}
 use mathlib.Core.Path.{◌≡◌, ap, refl, ◌∙◌}
 use native.Mathlib.Omega.{arith}

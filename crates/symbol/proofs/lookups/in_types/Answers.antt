@@ -1,6 +1,6 @@
 use mathlib.Core.Path.{refl}
 use native.Mathlib.Omega.{arith}
-use Rattle.index.proofs.ListSearch.{place-fits, place_inside, place_byte}
+use Rattle.index.proofs.ListSearch.{place-fits, place_byte}
 use Rattle.symbol.proofs.LaidLookups.{types_told}
 use Rattle.record.specs.Table.{records_of}
 use Rattle.symbol.proofs.lookups.in_types.Goals as goal

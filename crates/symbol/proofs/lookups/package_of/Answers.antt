@@ -1,6 +1,6 @@
 use mathlib.Core.Path.{refl, sym, ◌∙◌}
 use native.Mathlib.Omega.{arith}
-use Rattle.index.proofs.ListSearch.{place-fits, place_inside, place_id}
+use Rattle.index.proofs.ListSearch.{place-fits, place_id}
 use Rattle.symbol.proofs.LaidLookups.{package_told}
 use Rattle.record.specs.Table.{records_of}
 use Rattle.symbol.proofs.lookups.package_of.Goals as goal
