@@ -14,11 +14,11 @@ use Rattle.area.specs.Diagnostic.{Diag, put_one, put_all}
 use Rattle.scoring.proofs.ParamsAndArgsLeft.{params_left, params_all, params_next, params_none, args_left, args_all, args_next, args_none}
 use Rattle.scoring.specs.Arg.{Arg}
 use Rattle.overload.specs.ByIndex.{absent, unknown_one, unknowns, all_unknown, mismatch_one, mismatches}
-use Rattle.scoring.specs.Inside.Args.{name_in, arg_at, args_in}
+use Rattle.scoring.specs.Inside.Rows.{name_in, arg_at, rows_in}
 use Rattle.scoring.specs.Inside.Params.{params_in}
 use Rattle.overload.specs.Inside.Reported.{diag_if, Reported}
 use Rattle.scoring.specs.Score.{param_named}
-use Rattle.scoring.specs.declared.args.Args.{Args}
+use Rattle.scoring.specs.declared.rows.Args.{Args}
 use Rattle.symbol.specs.Inside.LookupAnswer.{param_at}
 use Rattle.symbol.specs.Symbols.{Param, Overload, Symbols}
 use Rattle.symbol.specs.declared.functions.Params.{Params}
@@ -80,7 +80,7 @@ unknowns_few ps i (a ∷ xs) =
 pub record UnknownFrom (p : Params) (x : Args) (b₀ : List ℕ) (n₀ : ℕ) (b : List ℕ) (n i : ℕ) : Type 0 where
   pub few : n ≤ n₀ + i
   pub then : (t a l : List ℕ) (b' : List ℕ) (n' : ℕ) → Reported b n b' n' (unknowns (params_in t p) (i + 1) (args_left a l x i x.count))
-      → Reported b₀ n₀ b' n' (unknowns (params_in t p) 1 (args_in a l x))
+      → Reported b₀ n₀ b' n' (unknowns (params_in t p) 1 (rows_in a l x))
 
 module _ (p : Params) (x : Args) (b₀ : List ℕ) (n₀ : ℕ) where
   pub unknown_start : UnknownFrom p x b₀ n₀ b₀ n₀ 0
@@ -101,7 +101,7 @@ module _ (p : Params) (x : Args) (b₀ : List ℕ) (n₀ : ℕ) where
               (arith, w.few, (v []).count, unknown_few (name_in (get_or x.names i 0)) (params_in [] p) (i + 1) (get_or x.nodes i 0));
           then = λ t a l.
               let f : suc (i + 1) ≡ i + 1 + 1 = omega arith in
-              reported_then (λ (b' : List ℕ) (n' : ℕ). Reported b₀ n₀ b' n' (unknowns (params_in t p) 1 (args_in a l x)))
+              reported_then (λ (b' : List ℕ) (n' : ℕ). Reported b₀ n₀ b' n' (unknowns (params_in t p) 1 (rows_in a l x)))
               (unknowns (params_in t p) (i + 1) (args_left a l x i x.count))
               (unknowns (params_in t p) (i + 1 + 1) (args_left a l x (i + 1) x.count))
               (ap (λ (xs : List Arg). unknowns (params_in t p) (i + 1) xs) (args_next a l x i x.count h)
@@ -111,7 +111,7 @@ module _ (p : Params) (x : Args) (b₀ : List ℕ) (n₀ : ℕ) where
               (v t) (w.then t a l);
         }
 
-    pub unknown_done : x.count ≤ i → (t a l : List ℕ) → Reported b₀ n₀ b n (unknowns (params_in t p) 1 (args_in a l x))
+    pub unknown_done : x.count ≤ i → (t a l : List ℕ) → Reported b₀ n₀ b n (unknowns (params_in t p) 1 (rows_in a l x))
     unfolding unknowns
     unknown_done h t a l =
         w.then t a l b n
@@ -147,7 +147,7 @@ module _ (S : Symbols) where
   pub record IndexFrom (t : List ℕ) (p : Params) (a l : List ℕ) (x : Args) (b₀ : List ℕ) (n₀ : ℕ) (b : List ℕ) (n i : ℕ) : Type 0 where
     pub few : n ≤ n₀ + i
     pub then : (b' : List ℕ) (n' : ℕ) → Reported b n b' n' (mismatches S (params_left t p i p.count) (i + 1) (args_left a l x i x.count))
-        → Reported b₀ n₀ b' n' (mismatches S (params_in t p) 1 (args_in a l x))
+        → Reported b₀ n₀ b' n' (mismatches S (params_in t p) 1 (rows_in a l x))
 
   module _ (t : List ℕ) (p : Params) (a l : List ℕ) (x : Args) (b₀ : List ℕ) (n₀ : ℕ) where
     pub index_start : IndexFrom t p a l x b₀ n₀ b₀ n₀ 0
@@ -168,7 +168,7 @@ module _ (S : Symbols) where
           let f : suc (i + 1) ≡ i + 1 + 1 = omega arith in
           record {
             few = omega (arith, w.few, v.count, mismatch_few (param_at t p i) (i + 1) (arg_at a l x i));
-            then = reported_then (λ (b' : List ℕ) (n' : ℕ). Reported b₀ n₀ b' n' (mismatches S (params_in t p) 1 (args_in a l x)))
+            then = reported_then (λ (b' : List ℕ) (n' : ℕ). Reported b₀ n₀ b' n' (mismatches S (params_in t p) 1 (rows_in a l x)))
                 (mismatches S (params_left t p i p.count) (i + 1) (args_left a l x i x.count))
                 (mismatches S (params_left t p (i + 1) p.count) (i + 1 + 1) (args_left a l x (i + 1) x.count))
                 (ap (λ (ps : List Param). mismatches S ps (i + 1) (args_left a l x i x.count)) (params_next t p i p.count g)
@@ -179,11 +179,11 @@ module _ (S : Symbols) where
                 v w.then;
           }
 
-      pub index_done : min x.count p.count ≤ i → Reported b₀ n₀ b n (mismatches S (params_in t p) 1 (args_in a l x))
+      pub index_done : min x.count p.count ≤ i → Reported b₀ n₀ b n (mismatches S (params_in t p) 1 (rows_in a l x))
       unfolding mismatches
       index_done h = go (leb x.count i) refl
         where
-          go : (c : Bool) → leb x.count i ≡ c → Reported b₀ n₀ b n (mismatches S (params_in t p) 1 (args_in a l x))
+          go : (c : Bool) → leb x.count i ≡ c → Reported b₀ n₀ b n (mismatches S (params_in t p) 1 (rows_in a l x))
           go true e =
               let k : x.count ≤ i = leb-true x.count i e in
               w.then b n

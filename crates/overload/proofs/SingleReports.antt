@@ -16,7 +16,7 @@ use Rattle.scoring.proofs.Scores.{name_none, name_some}
 use Rattle.scoring.specs.Arg.{Arg}
 use Rattle.overload.specs.Before.{suspend_allowed, suspend_report, method_reports}
 use Rattle.overload.specs.ByIndex.{absent, unknown_one, passes_by_index, mismatch_one}
-use Rattle.scoring.specs.Inside.Args.{name_in}
+use Rattle.scoring.specs.Inside.Rows.{name_in}
 use Rattle.scoring.specs.Inside.Params.{params_in, param_in, named_place}
 use Rattle.overload.specs.Inside.Reported.{diag_if, missing, unknown, Reported}
 use Rattle.overload.specs.Resolve.{none_fits, tie_report}

@@ -16,7 +16,7 @@ ghost use Rattle.overload.specs.Inside.CallSource.{args_lent, TakesOne, TakesSom
 use crate::reports::{by_index, report_if, unknown_names};
 use area::{DiagnosticKind, Source, report};
 use index::index::Place;
-use scoring::args::Args;
+use scoring::rows::Args;
 use scoring::arity::viable;
 use scoring::score::{Score, score_function};
 use symbol::functions::{Function, is_builtin_function, read_function};

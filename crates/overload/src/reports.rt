@@ -5,14 +5,14 @@ ghost use Rattle.area.specs.DiagnosticKind.{diagnostic_number};
 ghost use Rattle.index.specs.Inside.IndexedTable.{IndexedTable};
 ghost use Rattle.symbol.specs.Lookup.{symbols_of};
 ghost use Rattle.overload.specs.ByIndex.{unknowns, passes_by_index};
-ghost use Rattle.scoring.specs.Inside.Args.{name_in, args_in};
+ghost use Rattle.scoring.specs.Inside.Rows.{name_in, rows_in};
 ghost use Rattle.scoring.specs.Inside.Params.{params_in};
 ghost use Rattle.overload.specs.Inside.Mismatch.{mismatches_in};
 ghost use Rattle.overload.specs.Inside.Reported.{diag_if, unknown, Reported};
 
 use area::{DiagnosticKind, report};
 use rules::accept::param_accepts;
-use scoring::args::Args;
+use scoring::rows::Args;
 use scoring::score::named_place;
 use symbol::functions::Params;
 use ty::{Kind, NameId};
@@ -47,7 +47,7 @@ fn unknown(params: Params, id: u16) -> bool
 pub fn unknown_names(params: Params, args: Args, buf: &mut [u8], count: usize) -> usize
     requires { (params.count ≤ 16) × (args.count ≤ 16) × (count + 16 ≤ count_limit) }
     ensures { (t a l : List ℕ) → Reported buf.old count buf.new result
-        (unknowns (params_in t params) 1 (args_in a l args)) }
+        (unknowns (params_in t params) 1 (rows_in a l args)) }
 {
     let mut reported = count;
     for i in 0..args.count {

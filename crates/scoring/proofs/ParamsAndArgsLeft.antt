@@ -6,8 +6,8 @@ use mathlib.Core.Path.{◌≡◌, refl, ap, ◌∙◌}
 use native.Mathlib.Nat.{sub-zero}
 use native.Mathlib.Omega.{arith}
 use Rattle.scoring.specs.Arg.{Arg}
-use Rattle.scoring.specs.Inside.Args.{arg_at, args_row, args_in}
-use Rattle.scoring.specs.declared.args.Args.{Args}
+use Rattle.scoring.specs.Inside.Rows.{arg_at, args_row, rows_in}
+use Rattle.scoring.specs.declared.rows.Args.{Args}
 use Rattle.symbol.specs.Inside.LookupAnswer.{param_at, params_row}
 use Rattle.symbol.specs.Symbols.{Param}
 use Rattle.symbol.specs.declared.functions.Params.{Params}
@@ -62,5 +62,5 @@ module _ (a l : List ℕ) (x : Args) where
   args_length i zero = refl
   args_length i (suc n) = ap suc (args_length (suc i) n)
 
-  pub args_short : x.count ≤ 16 → length (args_in a l x) ≤ 16
+  pub args_short : x.count ≤ 16 → length (rows_in a l x) ≤ 16
   args_short h = omega (arith, args_length 0 x.count)

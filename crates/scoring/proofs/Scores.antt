@@ -15,11 +15,11 @@ use Rattle.scoring.proofs.ScoreSums.{plus_zero, plus_assoc}
 use Rattle.area.specs.Inside.Slot.{slot_of}
 use Rattle.scoring.specs.Arg.{Arg}
 use Rattle.scoring.specs.Arity.{last_vararg}
-use Rattle.scoring.specs.Inside.Args.{name_in, args_in}
+use Rattle.scoring.specs.Inside.Rows.{name_in, rows_in}
 use Rattle.scoring.specs.Inside.Params.{params_in, param_in, place_read, named_place}
 use Rattle.scoring.specs.Inside.Scored.{score_of, as_score, points_of, compared_or, named_more, named_in, positional_in, score_in}
 use Rattle.scoring.specs.Score.{param_named, unmarked_from, plus, compared, compared_with, mark_at, mark_one, marks_from, marks_of, no_marks, named_one, named_score, unnamed_one, unnamed_score, score}
-use Rattle.scoring.specs.declared.args.Args.{Args}
+use Rattle.scoring.specs.declared.rows.Args.{Args}
 use Rattle.scoring.specs.declared.score.NamedPass.{NamedPass}
 use Rattle.scoring.specs.declared.score.Score.{Score}
 use Rattle.rules.specs.Accept.{param_accepts}
@@ -196,8 +196,8 @@ module _ (t : List ℕ) (p : Params) (a l : List ℕ) (x : Args) where
   -- the arguments before number i give the pass m
   pub record NamedFrom (m : NamedPass) (i : ℕ) : Type 0 where
     pub few : points_of m.score ≤ 2 * i
-    pub score : plus (score_of m.score) (named_score (symbols_of t) (params_in t p) (args_left a l x i x.count)) ≡ named_score (symbols_of t) (params_in t p) (args_in a l x)
-    pub marked : marks_from (params_in t p) m.marks (args_left a l x i x.count) ≡ marks_of (params_in t p) (args_in a l x)
+    pub score : plus (score_of m.score) (named_score (symbols_of t) (params_in t p) (args_left a l x i x.count)) ≡ named_score (symbols_of t) (params_in t p) (rows_in a l x)
+    pub marked : marks_from (params_in t p) m.marks (args_left a l x i x.count) ≡ marks_of (params_in t p) (rows_in a l x)
 
   pub named_start : NamedFrom (record { score = Some (record { points = 0 }); marks = no_marks }) 0
   named_start =
@@ -224,7 +224,7 @@ module _ (t : List ℕ) (p : Params) (a l : List ℕ) (x : Args) where
               ∙ sym (ap (λ (xs : List Arg). marks_from (params_in t p) m.marks xs) g) ∙ w.marked;
         }
 
-    pub named_done : x.count ≤ i → m ≡ named_in t p (args_in a l x)
+    pub named_done : x.count ≤ i → m ≡ named_in t p (rows_in a l x)
     unfolding named_score marks_from
     named_done h =
         let e = args_none a l x i x.count h in
@@ -252,7 +252,7 @@ module _ (S : Symbols) (f : Option Param) (v : Bool) (a l : List ℕ) (x : Args)
   -- the arguments before number i give the score s
   pub record UnnamedFrom (s : Maybe Score) (i : ℕ) : Type 0 where
     pub few : points_of s ≤ 2 * i
-    pub score : plus (score_of s) (unnamed_score S f v (args_left a l x i x.count)) ≡ unnamed_score S f v (args_in a l x)
+    pub score : plus (score_of s) (unnamed_score S f v (args_left a l x i x.count)) ≡ unnamed_score S f v (rows_in a l x)
 
   pub unnamed_start : UnnamedFrom (Some (record { points = 0 })) 0
   unnamed_start =
@@ -273,7 +273,7 @@ module _ (S : Symbols) (f : Option Param) (v : Bool) (a l : List ℕ) (x : Args)
           score = sum_turn (score_of s) one _ (score_of_lem s' _ e) (ap (λ (xs : List Arg). unnamed_score S f v xs) (args_next a l x i x.count h)) w.score;
         }
 
-    pub unnamed_done : x.count ≤ i → s ≡ as_score (unnamed_score S f v (args_in a l x))
+    pub unnamed_done : x.count ≤ i → s ≡ as_score (unnamed_score S f v (rows_in a l x))
     unfolding unnamed_score
     unnamed_done h =
         sym (score_forth s)

@@ -1,4 +1,5 @@
 -- What code and proofs of the scores hand each other.
 pub mod Args
+pub mod Rows
 pub mod Params
 pub mod Scored

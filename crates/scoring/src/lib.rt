@@ -2,5 +2,6 @@
 #![tactic(auto)]
 
 pub mod args;
+pub mod rows;
 pub mod arity;
 pub mod score;

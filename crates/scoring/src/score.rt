@@ -3,11 +3,11 @@ ghost use Rattle.std.specs.Prelude.{ℕ, ◌≤◌, ◌<◌, ◌≡◌, List, If
 ghost use Rattle.index.specs.Inside.IndexedTable.{IndexedTable};
 ghost use Rattle.symbol.specs.Lookup.{symbols_of};
 ghost use Rattle.scoring.specs.Score.{plus, unnamed_one, mark_at};
-ghost use Rattle.scoring.specs.Inside.Args.{name_in, args_in};
+ghost use Rattle.scoring.specs.Inside.Rows.{name_in, rows_in};
 ghost use Rattle.scoring.specs.Inside.Params.{param_in, place_read, named_place, free_place};
 ghost use Rattle.scoring.specs.Inside.Scored.{score_of, as_score, points_of, compared_or, named_more, named_in, positional_in, score_in};
 
-use crate::args::Args;
+use crate::rows::Args;
 use crate::arity::last_vararg;
 use rules::accept::param_accepts;
 use symbol::functions::{Function, Params};
@@ -145,7 +145,7 @@ fn named_pass(
     args: Args,
 ) -> NamedPass
     requires { IndexedTable table.now index.now × (params.count ≤ 16) × (args.count ≤ 16) }
-    ensures { result ≡ named_in table.now params (args_in area.now lens.now args) }
+    ensures { result ≡ named_in table.now params (rows_in area.now lens.now args) }
 {
     let mut m = NamedPass {
         score: Some(Score { points: 0 }),
@@ -194,7 +194,7 @@ fn positional_pass(
     args: Args,
 ) -> Option<Score>
     requires { IndexedTable table.now index.now × (params.count ≤ 16) × (args.count ≤ 16) }
-    ensures { result ≡ as_score (positional_in table.now params marks (args_in area.now lens.now args)) }
+    ensures { result ≡ as_score (positional_in table.now params marks (rows_in area.now lens.now args)) }
 {
     let place = free_place(params, marks);
     let v = last_vararg(params);
@@ -217,7 +217,7 @@ pub fn score_function(
     args: Args,
 ) -> Option<Score>
     requires { IndexedTable table.now index.now × (f.params.count ≤ 16) × (args.count ≤ 16) }
-    ensures { result ≡ as_score (score_in table.now f (args_in area.now lens.now args)) }
+    ensures { result ≡ as_score (score_in table.now f (rows_in area.now lens.now args)) }
 {
     let params = f.params;
     let named = named_pass(table, index, params, area, lens, args);

@@ -12,8 +12,8 @@ use Rattle.operators.specs.Diag.{diag}
 use Rattle.area.specs.DiagnosticKind.{no_match_diag}
 use Rattle.scoring.specs.Arg.{Arg, Verdict}
 use Rattle.scoring.specs.Arity.{any_own}
-use Rattle.scoring.specs.Inside.Args.{args_in}
-use Rattle.scoring.specs.declared.args.Args.{Args}
+use Rattle.scoring.specs.Inside.Rows.{rows_in}
+use Rattle.scoring.specs.declared.rows.Args.{Args}
 use Rattle.overload.specs.ByIndex.{mismatches}
 use Rattle.overload.specs.Resolve.{tie_report, resolve}
 use Rattle.overload.specs.Inside.Picked.{picked_in}
@@ -51,7 +51,7 @@ settled_diags t p node xs w =
 
 -- what it comes to
 abbrev pub call_at : List ℕ → ℕ → ℕ → ℕ → List ℕ → List ℕ → Args → Verdict
-call_at t owner id node a l x = resolve (symbols_of t) ((symbols_of t).functions_of owner id) node (args_in a l x)
+call_at t owner id node a l x = resolve (symbols_of t) ((symbols_of t).functions_of owner id) node (rows_in a l x)
 
 -- the places of the overloads that it looks at, with n arguments
 abbrev pub called_places : List ℕ → ℕ → ℕ → ℕ → List Place
@@ -66,7 +66,7 @@ call_source t owner id xs =
 
 -- the arguments of a call, where they lie
 abbrev pub args_lent : Slice → Slice → Args → List Arg
-args_lent area lens x = args_in area lens x
+args_lent area lens x = rows_in area lens x
 
 -- so many diagnostics having been reported, ds were reported too
 abbrev pub Reports : ℕ → List Diag → Borrowed → Type 0

@@ -5,9 +5,9 @@ use Rattle.symbol.specs.Lookup.{symbols_of}
 use Rattle.symbol.specs.Inside.LookupAnswer.{param_at}
 use Rattle.symbol.specs.declared.functions.Params.{Params}
 use Rattle.overload.specs.ByIndex.{mismatch_one, mismatches}
-use Rattle.scoring.specs.Inside.Args.{arg_at, args_in}
+use Rattle.scoring.specs.Inside.Rows.{arg_at, rows_in}
 use Rattle.scoring.specs.Inside.Params.{params_in}
-use Rattle.scoring.specs.declared.args.Args.{Args}
+use Rattle.scoring.specs.declared.rows.Args.{Args}
 
 -- argument i against parameter i
 abbrev pub mismatch_at : List ℕ → Params → List ℕ → List ℕ → Args → ℕ → List Diag
@@ -15,4 +15,4 @@ mismatch_at t p a l x i = mismatch_one (symbols_of t) (param_at t p i) (i + 1) (
 
 -- all
 abbrev pub mismatches_in : List ℕ → Params → List ℕ → List ℕ → Args → List Diag
-mismatches_in t p a l x = mismatches (symbols_of t) (params_in t p) 1 (args_in a l x)
+mismatches_in t p a l x = mismatches (symbols_of t) (params_in t p) 1 (rows_in a l x)

@@ -1,23 +1,12 @@
--- A call's arguments where they lie: the judge hands on how many there are, and of each its node and its name; the type of a node is in the node's slot.
-use Rattle.std.specs.Prelude.{ℕ, zero, suc, List, [], ◌∷◌, get_or, eqb}
-use Rattle.std.proofs.Math.Option.{Option, none, some}
-use Rattle.ty.specs.Choose.{choose}
-use Rattle.ty.specs.Name.{no_id}
-use Rattle.area.specs.Inside.Slot.{slot_of}
-use Rattle.scoring.specs.Arg.{Arg}
-use Rattle.scoring.specs.declared.args.Args.{Args}
+-- A call's arguments as they are handed on: of each its node and its name; the type of a node is in the node's slot.
+use Rattle.std.specs.Prelude.{List, [], ◌∷◌}
+use Rattle.area.specs.Inside.Slot.{type_at}
+use Rattle.symbol.specs.Inside.LookupAnswer.{optional}
+use Rattle.ty.specs.Bytes.{Ty}
+use Rattle.scoring.specs.Arg.{Arg as Seen}
+use Rattle.scoring.specs.declared.args.Arg.{Arg}
 
--- an argument's name, 65,535 being none
-unfoldable pub name_in : ℕ → Option ℕ
-name_in id = choose (eqb id no_id) none (some id)
-
-abbrev pub arg_at : List ℕ → List ℕ → Args → ℕ → Arg
-arg_at a l x i = record { name = name_in (get_or x.names i 0); ty = slot_of a l (get_or x.nodes i 0); node = get_or x.nodes i 0 }
-
--- n arguments from number i on, with the area a and the lengths l
-unfoldable pub args_row : List ℕ → List ℕ → Args → ℕ → ℕ → List Arg
-args_row a l x i zero = []
-args_row a l x i (suc n) = arg_at a l x i ∷ args_row a l x (suc i) n
-
-abbrev pub args_in : List ℕ → List ℕ → Args → List Arg
-args_in a l x = args_row a l x 0 x.count
+-- the arguments as their call sees them
+unfoldable pub args_in : List Ty → List Arg → List Seen
+args_in ts [] = []
+args_in ts (x ∷ xs) = record { name = optional x.name; ty = type_at ts x.node; node = x.node } ∷ args_in ts xs

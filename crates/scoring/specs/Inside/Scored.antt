@@ -9,7 +9,7 @@ use Rattle.symbol.specs.declared.functions.Function.{Function}
 use Rattle.symbol.specs.declared.functions.Params.{Params}
 use Rattle.scoring.specs.Arg.{Arg}
 use Rattle.scoring.specs.Score.{compared, mark_one, marks_of, plus, named_one, named_score, positional_score, score}
-use Rattle.scoring.specs.Inside.Args.{name_in}
+use Rattle.scoring.specs.Inside.Rows.{name_in}
 use Rattle.scoring.specs.Inside.Params.{params_in}
 use Rattle.scoring.specs.declared.score.Score.{Score}
 use Rattle.scoring.specs.declared.score.NamedPass.{NamedPass}

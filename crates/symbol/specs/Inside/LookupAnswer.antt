@@ -1,5 +1,5 @@
 -- What the lookups answer.
-use Rattle.std.specs.Prelude.{None, Some, ℕ, zero, suc, ◌+◌, ◌≤◌, ◌<◌, ◌≡◌, false, List, [], ◌∷◌, map, length, get_or, drop, take}
+use Rattle.std.specs.Prelude.{Option as Maybe, None, Some, ℕ, zero, suc, ◌+◌, ◌≤◌, ◌<◌, ◌≡◌, false, List, [], ◌∷◌, map, length, get_or, drop, take}
 use Rattle.std.proofs.Math.Option.{Option, none, some}
 use Rattle.ty.specs.Bytes.{Ty}
 use Rattle.index.specs.declared.index.Place.{Place}
@@ -17,6 +17,11 @@ use Rattle.record.specs.Layout.{record_size}
 use Rattle.symbol.specs.Lookup.{overload_of}
 use Rattle.record.specs.Table.{first_record, records_of, key_of, keyed}
 use Rattle.index.specs.Inside.Found.{FunctionAt}
+
+-- ---- what may be missing
+abbrev pub optional : {A : Type 0} → Maybe A → Option A
+optional None = none
+optional (Some x) = some x
 
 -- ---- parts of the table, masks, visibilities
 abbrev pub part_of : List ℕ → Part → Option Ty
