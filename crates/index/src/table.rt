@@ -1,10 +1,12 @@
 // An accepted table with its index.
 ghost use Rattle.std.specs.Prelude.{◌≡◌, List, ℕ};
-ghost use Rattle.index.specs.Inside.Found.{first_with, found_at};
+ghost use Rattle.index.specs.Inside.Found.{first_with, found_at, FoundIs};
 ghost use Rattle.index.specs.Inside.IndexedTable.{IndexedTable};
 ghost use Rattle.index.specs.Inside.SearchKey.{Single};
+ghost use Rattle.record.specs.Inside.Keyed.{records_with};
 ghost use Rattle.record.specs.RecordKind.{record_kind_number};
 ghost use Rattle.record.specs.Table.{records_of, name_count};
+ghost use Rattle.record.specs.TableRefused.{table_fault};
 
 use crate::index::{Place, entry_at};
 use crate::tree::seek;
@@ -35,7 +37,8 @@ impl<'a> Table<'a> {
 
     // The table's bytes.
     pub fn bytes(&self) -> &'a [u8]
-        ensures { result.now ≡ self.now }
+        ensures bytes { result.now ≡ self.now }
+        ensures clean { table_fault self.now ≡ 0 }
     {
         self.bytes
     }
@@ -55,9 +58,11 @@ impl<'a> Table<'a> {
     }
 
     // The only record of a kind, from 2 on and not 4, with a key.
+    #[tactic(auto, using(crate::proofs::Firsts::found_first))]
     pub fn seek(&self, kind: RecordKind, one: u16, two: u16) -> Option<Place>
         requires { Single (record_kind_number kind) }
-        ensures { result ≡ found_at (first_with self.now (record_kind_number kind) one two) }
+        ensures first { result ≡ found_at (first_with self.now (record_kind_number kind) one two) }
+        ensures records { FoundIs self.now (records_with (record_kind_number kind) one two (records_of self.now)) (record_kind_number kind) one two result }
     {
         seek(self.bytes, self.index, kind, one, two)
     }

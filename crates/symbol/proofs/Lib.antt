@@ -22,3 +22,4 @@ pub mod FunctionCursors
 pub mod AcceptedTable
 pub mod SearchMeetsKey
 pub mod IndexMakes
+pub mod LookedUp

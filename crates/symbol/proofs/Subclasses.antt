@@ -1,17 +1,19 @@
 -- The climb along superclasses: in an accepted table as many steps as there are classes are enough, and a loop climbs along.
-use Prim.Native.Nat.{ℕ, zero, suc, ◌≤◌}
-use mathlib.Core.Path.{◌≡◌, refl, ◌∙◌}
+use Prim.Native.Nat.{ℕ, zero, suc, ◌≤◌, ◌<◌}
+use mathlib.Core.Path.{◌≡◌, refl, sym, ap, ◌∙◌}
 use mathlib.Core.Bool.{Bool, true, false}
 use mathlib.Core.List.{List}
 use native.Mathlib.Omega.{arith}
 use lib.Dec.{eqb}
 use borrow.Author.Tests.{eqb-false, eq-eqb, ne_eqb}
+use Rattle.std.specs.Prelude.{Option, None, Some}
+use Rattle.ty.proofs.Known.{none_known, some_known, number_known}
 use Rattle.ty.specs.Choose.{choose}
-use Rattle.ty.specs.Name.{no_id}
+use Rattle.ty.specs.Name.{no_id, known_id, id_number}
 use Rattle.symbol.specs.Lookup.{symbols_of}
 use Rattle.record.specs.TableRefused.{table_fault}
 use Rattle.symbol.specs.Subclass.{climbs, is_subclass}
-use Rattle.symbol.proofs.Ranks.{rank_of, class_rank, super_lower}
+use Rattle.symbol.proofs.Ranks.{rank_of, class_rank, super_lower, height, super_below}
 
 unfoldable pub less : ℕ → ℕ
 less zero = zero
@@ -26,6 +28,12 @@ pub record Climbing (t : List ℕ) (class above c : ℕ) : Type 0 where
   pub fuel : ℕ
   pub left : (c ≡ no_id → ⊥) → rank_of t c ≤ fuel
   pub same : is_subclass (symbols_of t) class above ≡ met t fuel c above
+
+-- the same where c may be none
+pub record ClimbingAt (t : List ℕ) (class above : ℕ) (c : Option ℕ) : Type 0 where
+  pub super : ℕ
+  pub is : c ≡ known_id super
+  pub climbing : Climbing t class above super
 
 module _ (t : List ℕ) (e : table_fault t ≡ 0) (above : ℕ) where
   -- a class of rank 0 has no superclass
@@ -107,3 +115,30 @@ module _ (t : List ℕ) (e : table_fault t ≡ 0) (above : ℕ) where
       go false i =
           up N class (class_rank t class)
           ∙ rw (enough (less N) N ((symbols_of t).super_of class) (up_left N class (class_rank t class) (eqb-false _ _ i)) (class_rank t ((symbols_of t).super_of class)))
+
+  -- what the code does
+  pub at_first : (class : ℕ) (r : Option ℕ) → r ≡ known_id ((symbols_of t).super_of class) → ClimbingAt t class above r
+  at_first class r i = record { super = (symbols_of t).super_of class; is = i; climbing = climbing_first class }
+
+  module _ (class : ℕ) (a : Option ℕ) (g : ClimbingAt t class above a) where
+    pub at_end : a ≡ None → is_subclass (symbols_of t) class above ≡ false
+    at_end i = climbing_end class g.super g.climbing (none_known g.super (sym i ∙ g.is))
+
+    module _ (c : ℕ) (i : a ≡ Some c) where
+      stands_at : (g.super ≡ c) × (g.super ≡ no_id → ⊥)
+      stands_at = some_known g.super c (sym i ∙ g.is)
+
+      pub at_met : c ≡ above → is_subclass (symbols_of t) class above ≡ true
+      at_met j = climbing_met class g.super g.climbing stands_at.1 (stands_at.0 ∙ j)
+
+      pub at_up : (c ≡ above → ⊥) → (r : Option ℕ) → r ≡ known_id ((symbols_of t).super_of c) → ClimbingAt t class above r
+      at_up n r k =
+          record {
+            super = (symbols_of t).super_of g.super;
+            is = k ∙ ap (λ (x : ℕ). known_id ((symbols_of t).super_of x)) (sym stands_at.0);
+            climbing = climbing_up class g.super g.climbing stands_at.1 (λ z. n (sym stands_at.0 ∙ z));
+          }
+
+      pub at_below : (r : Option ℕ) → r ≡ known_id ((symbols_of t).super_of c) → height t (id_number r) < height t (id_number a)
+      at_below r k =
+          rw (k, i, number_known ((symbols_of t).super_of c)) (super_below t e c (λ z. stands_at.1 (stands_at.0 ∙ z)))

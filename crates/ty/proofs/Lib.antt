@@ -9,3 +9,4 @@ pub mod Ends
 pub mod Ids
 pub mod TypeExamples
 pub mod TypeSizes
+pub mod Known

@@ -1,5 +1,6 @@
 -- Ids of names. Document 01, "Types as bytes": the built-in names have fixed numbers, 0 Pair to 39 keys, and table names go on from 40.
-use Rattle.std.specs.Prelude.{ℕ, ◌+◌, Bool, true, ◌&&◌, List, [], ◌∷◌, ltb}
+use Rattle.std.specs.Prelude.{ℕ, ◌+◌, Bool, true, ◌&&◌, List, [], ◌∷◌, ltb, eqb, Option, None, Some}
+use Rattle.ty.specs.Choose.{choose}
 
 abbrev pub pair_id : ℕ
 pair_id = 0
@@ -128,6 +129,14 @@ first_table_id = 40
 -- no name: document 01, "In owner, superclass and package fields 65,535 means none"
 abbrev pub no_id : ℕ
 no_id = 65535
+
+-- a number as an id or none, and an id or none as a number
+unfoldable pub known_id : ℕ → Option ℕ
+known_id n = choose (eqb n no_id) None (Some n)
+
+abbrev pub id_number : Option ℕ → ℕ
+id_number None = no_id
+id_number (Some n) = n
 
 -- an id is defined if it is a built-in name's or that of one of so many table names
 abbrev pub id_defined : ℕ → ℕ → Bool

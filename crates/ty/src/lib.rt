@@ -8,7 +8,7 @@ ghost use Rattle.std.specs.Prelude.{◌≡◌, drop, get_or};
 ghost use Rattle.ty.specs.Bytes.{kind_of, id_at, name_of, is_numeric, is_integer, is_boolean, is_nullable, is_string, is_array, non_null, inner_of, same_bytes};
 ghost use Rattle.ty.specs.KindNumber.{kind_number, is_of_kind};
 
-pub use name::NameId;
+pub use name::{NameId, id_number, known_id};
 pub use read::{TypeFault, TypeRead};
 
 // The kinds of a type, in the order of their numbers (enum `Ty`).
@@ -36,6 +36,13 @@ pub enum Kind {
     TypeVar,
     Module,
     Error,
+}
+
+// Where a type lies in a table.
+#[derive(Clone, Copy, PartialEq, Eq)]
+pub struct Part {
+    pub start: usize,
+    pub len: usize,
 }
 
 impl Kind {

@@ -1,6 +1,6 @@
 // The ids of names.
 ghost use Rattle.std.specs.Prelude.{◌≡◌};
-ghost use Rattle.ty.specs.Name.{id_defined};
+ghost use Rattle.ty.specs.Name.{id_defined, known_id, id_number};
 
 // The number of a name, with the numbers of the built-in names.
 #[derive(Clone, Copy)]
@@ -90,6 +90,24 @@ impl NameId {
     pub const FIRST_OF_TABLE: u16 = 40;
     // No name, in owner, superclass and package fields.
     pub const NONE: u16 = 65535;
+}
+
+// An id as the table has it, where NameId::NONE means none.
+#[tactic(auto, unfolding(crate::specs::Name::known_id, crate::specs::Choose::choose))]
+pub fn known_id(id: u16) -> Option<u16>
+    ensures { result ≡ known_id id }
+{
+    if id == NameId::NONE {
+        return None;
+    }
+    Some(id)
+}
+
+// The same the other way round.
+pub fn id_number(id: Option<u16>) -> u16
+    ensures { result ≡ id_number id }
+{
+    id.unwrap_or(NameId::NONE)
 }
 
 // Whether an id is a built-in name's or that of one of so many table names.

@@ -1,15 +1,10 @@
 -- What the lookups answer.
-use Rattle.std.specs.Prelude.{Option as Maybe, None, Some, ℕ, zero, suc, ◌+◌, ◌≤◌, ◌<◌, ◌≡◌, false, List, [], ◌∷◌, map, length, get_or, drop, take}
-use Rattle.std.proofs.Math.Option.{Option, none, some}
+use Rattle.std.specs.Prelude.{Option, None, Some, ℕ, zero, suc, ◌+◌, ◌≤◌, ◌<◌, ◌≡◌, false, List, [], ◌∷◌, map, length, get_or, drop, take}
+use Rattle.std.proofs.Math.Option as maybe
 use Rattle.ty.specs.Bytes.{Ty}
+use Rattle.ty.specs.declared.Part.{Part}
 use Rattle.index.specs.declared.index.Place.{Place}
 use Rattle.index.specs.Inside.Found.{Found}
-use Rattle.symbol.specs.declared.lookups.Part.{Part}
-use Rattle.symbol.specs.declared.lookups.Part.TheVariants as part
-use Rattle.symbol.specs.declared.lookups.Mask.{Mask}
-use Rattle.symbol.specs.declared.lookups.Mask.TheVariants as mask
-use Rattle.symbol.specs.declared.lookups.Visibility.{Visibility}
-use Rattle.symbol.specs.declared.lookups.Visibility.TheVariants as visibility
 use Rattle.symbol.specs.declared.functions.Params.{Params}
 use Rattle.symbol.specs.declared.functions.Function.{Function}
 use Rattle.symbol.specs.Symbols.{Param, Overload}
@@ -18,28 +13,19 @@ use Rattle.symbol.specs.Lookup.{overload_of}
 use Rattle.record.specs.Table.{first_record, records_of, key_of, keyed}
 use Rattle.index.specs.Inside.Found.{FunctionAt}
 
--- ---- what may be missing
-abbrev pub optional : {A : Type 0} → Maybe A → Option A
-optional None = none
-optional (Some x) = some x
+-- ---- what may be missing; a type by its place
+abbrev pub optional : {A : Type 0} → Option A → maybe.Option A
+optional None = maybe.none
+optional (Some x) = maybe.some x
 
--- ---- parts of the table, masks, visibilities
-abbrev pub part_of : List ℕ → Part → Option Ty
-part_of t part.Nothing = none
-part_of t (part.At a n) = some (take n (drop a t))
+abbrev pub part_of : List ℕ → Option Part → maybe.Option Ty
+part_of t None = maybe.none
+part_of t (Some p) = maybe.some (take p.len (drop p.start t))
 
 -- a part lies in the table
-abbrev pub PartIn : List ℕ → Part → Type 0
-PartIn t part.Nothing = Unit
-PartIn t (part.At a n) = a + n ≤ length t
-
-abbrev pub mask_of : Mask → Option ℕ
-mask_of mask.Nothing = none
-mask_of (mask.Is m) = some m
-
-abbrev pub visibility_of : Visibility → Option ℕ
-visibility_of visibility.Nothing = none
-visibility_of (visibility.Is v) = some v
+abbrev pub PartIn : List ℕ → Option Part → Type 0
+PartIn t None = Unit
+PartIn t (Some p) = p.start + p.len ≤ length t
 
 -- ---- a search for the records of kind k with the key a, b
 

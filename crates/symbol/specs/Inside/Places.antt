@@ -1,5 +1,5 @@
 -- Where the records of a table with a key stand, and what is read there.
-use Rattle.std.specs.Prelude.{None, Some, ℕ, ◌+◌, ◌-◌, ◌&&◌, ◌≡◌, List, [], ◌∷◌, eqb, length, drop}
+use Rattle.std.specs.Prelude.{Option, None, Some, ℕ, ◌+◌, ◌-◌, ◌&&◌, ◌≡◌, List, [], ◌∷◌, eqb, length, drop}
 use Rattle.ty.specs.Bytes.{same_bytes}
 use Rattle.ty.specs.Choose.{choose}
 use Rattle.record.specs.Layout.{record_kind, record_size}
@@ -7,8 +7,7 @@ use Rattle.record.specs.Table.{Record, first_record, records_of, key_of}
 use Rattle.index.specs.Inside.Found.{FunctionAt}
 use Rattle.index.specs.declared.index.Place.{Place}
 use Rattle.index.specs.Inside.Found.{Found}
-use Rattle.symbol.specs.declared.lookups.Part.{Part}
-use Rattle.symbol.specs.declared.lookups.Part.TheVariants as part
+use Rattle.ty.specs.declared.Part.{Part}
 
 -- the places of the records of a kind with a key, among some of which the first begins at byte p, in table order
 unfoldable pub places_in : ℕ → List ℕ → ℕ → List Record → List Place
@@ -48,10 +47,10 @@ PlaceFound t all (Some p) = FirstPlaceIs t all p
 -- ---- fields
 
 -- the type of a field record, behind its kind, owner and name
-abbrev pub field_part_at : List ℕ → Found → Part
-field_part_at t None = part.Nothing
-field_part_at t (Some p) = part.At (p.at + 5) (record_size (drop p.at t) - 5)
+abbrev pub field_part_at : List ℕ → Found → Option Part
+field_part_at t None = None
+field_part_at t (Some p) = Some (record { start = p.at + 5; len = record_size (drop p.at t) - 5 })
 
 -- the type of the field of an owner and a name
-unfoldable pub field_part : List ℕ → ℕ → ℕ → Part
+unfoldable pub field_part : List ℕ → ℕ → ℕ → Option Part
 field_part t owner name = field_part_at t (first_place (places_from t 5 (owner ∷ name ∷ []) 0))

@@ -1,24 +1,22 @@
-use Rattle.std.specs.Prelude.{None, Some}
-use Prim.Native.Nat.{◌+◌, ◌-◌}
-use lib.ListN.{drop}
-use mathlib.Core.Path.{◌≡◌, ap, refl, ◌∙◌}
+use Prim.Native.Nat.{ℕ}
+use lib.ListN.{length}
+use mathlib.Core.List.{List}
+use mathlib.Core.Path.{ap, ◌∙◌, sym}
 use native.Mathlib.Omega.{arith}
-use Rattle.index.proofs.ListSearch.{place-fits}
-use Rattle.symbol.proofs.FieldPlaces.{field_searched}
-use Rattle.record.proofs.Agree.{same_size}
-use Rattle.record.specs.Layout.{record_size}
-use Rattle.symbol.specs.declared.lookups.Part.TheVariants as part
+use Rattle.record.specs.Inside.Walk.{behind}
+use Rattle.symbol.proofs.LookedUp.{no_field, field_here, field_behind, field_length}
 use Rattle.symbol.proofs.lookups.field_of.Goals as goal
 
-pub overflow_sub-result : goal.overflow_sub-result
-overflow_sub-result c = let h = c.in-Some.ensures in let l = (place-fits c.args.t.now _ 5 c.args.owner c.args.name c.in-Some.p h).field refl in
-    omega (arith, c.end_of.ensures, l)
+pub returns-in_err-p : goal.returns-in_err-p
+returns-in_err-p c = cc (c.from_residual.ensures, no_field c.args.table.now c.args.owner c.args.name c.bytes-t.ensures.clean c.in_err-p.ensures.records)
 
-pub returns-in-Some : goal.returns-in-Some
-returns-in-Some c = let p = c.in-Some.p in
-    let h = c.in-Some.ensures in
-    let n : c.end_of.result - (p.at + 5) ≡ record_size (drop p.at c.args.t.now) - 5 = omega (arith, c.end_of.ensures, same_size (drop p.at c.args.t.now)) in
-    ap (part.At (p.at + 5)) n ∙ field_searched c.args.t.now c.requires.clean c.args.owner c.args.name (Some p) h
+pub overflow_add-start : goal.overflow_add-start
+overflow_add-start c = let h = c.in_ok-p.ensures.records in omega (arith, h.some, ap length c.bytes-t.ensures.bytes)
 
-pub returns-in-None : goal.returns-in-None
-returns-in-None c = field_searched c.args.t.now c.requires.clean c.args.owner c.args.name None c.in-None.ensures
+pub overflow_sub-len : goal.overflow_sub-len
+overflow_sub-len c = rw (c.end_of.ensures, c.bytes-t.ensures.bytes) (field_behind c.args.table.now c.args.owner c.args.name c.in_ok-p.p c.in_ok-p.ensures.records)
+
+pub returns : goal.returns
+returns c = let h = field_here c.args.table.now c.args.owner c.args.name c.in_ok-p.p c.bytes-t.ensures.clean c.in_ok-p.ensures.records in
+    let n = field_length c.args.table.now c.args.owner c.args.name c.in_ok-p.p c.end_of.result (c.end_of.ensures ∙ ap (λ (s : List ℕ). behind s c.in_ok-p.p.at) c.bytes-t.ensures.bytes) in
+    cc (h, n)

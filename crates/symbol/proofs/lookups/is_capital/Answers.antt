@@ -14,18 +14,18 @@ pub returns-then-id-lt-FIRST_OF_TABLE : goal.returns-then-id-lt-FIRST_OF_TABLE
 unfolding symbols_in
 returns-then-id-lt-FIRST_OF_TABLE c = search chain depth 8
 
-pub returns-then-names-i : goal.returns-then-names-i
+pub returns-then-name_count-i : goal.returns-then-name_count-i
 unfolding symbols_in
-returns-then-names-i c = let a = c.entry_at-names.ensures ∙ c.requires.indexed.names
-    ∙ names_counted [] (records_of c.args.t.now) (accepted_clean c.args.t.now c.requires.clean) in
+returns-then-name_count-i c = let ok = accepted_clean c.args.table.now c.bytes-t.ensures.clean in
+    let a = c.name_count.ensures ∙ names_counted [] (records_of c.args.table.now) ok in
     passed _ _ _ _ (le-ltb _ _ c.if-id-lt-FIRST_OF_TABLE.false)
-    (rw (names_past (c.args.id - 40) [] (records_of c.args.t.now) (accepted_clean c.args.t.now c.requires.clean) (omega arith)))
+    (rw (names_past (c.args.id - 40) [] (records_of c.args.table.now) ok (omega arith)))
 
 pub returns : goal.returns
 unfolding symbols_in
-returns c = let a = c.entry_at-names.ensures ∙ c.requires.indexed.names
-    ∙ names_counted [] (records_of c.args.t.now) (accepted_clean c.args.t.now c.requires.clean) in
-    let n : c.args.id - 40 < count_below 2 (records_of c.args.t.now) = omega arith in
-    let x = name_at_lem (c.args.id - 40) c.args.t.now [] (accepted_clean c.args.t.now c.requires.clean) n 1 (omega arith) in
-    let y = name_at_lem (c.args.id - 40) c.args.t.now [] (accepted_clean c.args.t.now c.requires.clean) n 2 (omega arith) in
-    passed _ _ _ _ (le-ltb _ _ c.if-id-lt-FIRST_OF_TABLE.false) (rw (x, y, c.byte_at-letter.ensures, c.byte_at.ensures))
+returns c = let ok = accepted_clean c.args.table.now c.bytes-t.ensures.clean in
+    let a = c.name_count.ensures ∙ names_counted [] (records_of c.args.table.now) ok in
+    let n : c.args.id - 40 < count_below 2 (records_of c.args.table.now) = omega arith in
+    let x = name_at_lem (c.args.id - 40) c.args.table.now [] ok n 1 (omega arith) in
+    let y = name_at_lem (c.args.id - 40) c.args.table.now [] ok n 2 (omega arith) in
+    passed _ _ _ _ (le-ltb _ _ c.if-id-lt-FIRST_OF_TABLE.false) (rw (x, y, c.byte_at-letter.ensures, c.byte_at.ensures, c.bytes-t.ensures.bytes))

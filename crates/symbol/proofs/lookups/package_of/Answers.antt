@@ -1,16 +1,8 @@
-use mathlib.Core.Path.{refl, sym, ◌∙◌}
-use native.Mathlib.Omega.{arith}
-use Rattle.index.proofs.ListSearch.{place-fits, place_id}
-use Rattle.symbol.proofs.LaidLookups.{package_told}
-use Rattle.record.specs.Table.{records_of}
+use Rattle.symbol.proofs.LookedUp.{no_package, package_here}
 use Rattle.symbol.proofs.lookups.package_of.Goals as goal
 
-pub returns-in-Some : goal.returns-in-Some
-returns-in-Some c = let h = c.in-Some.ensures in
-    let n = (place-fits c.args.t.now _ 2 c.args.class 0 c.in-Some.p h).class refl in
-    rw (← package_told (records_of c.args.t.now) c.args.class, h.first)
-    (c.id_at.ensures ∙ sym (place_id c.args.t.now _ 2 c.args.class 0 c.in-Some.p h 5 (omega arith)))
+pub returns-in_err-p : goal.returns-in_err-p
+returns-in_err-p c = cc (c.from_residual.ensures, no_package c.args.table.now c.args.class 0 c.in_err-p.ensures.records)
 
-pub returns-in-None : goal.returns-in-None
-returns-in-None c = let e = c.in-None.ensures in
-    rw (← package_told (records_of c.args.t.now) c.args.class, e)
+pub returns : goal.returns
+returns c = cc (package_here c.args.table.now c.args.class 0 c.in_ok-p.p c.in_ok-p.ensures.records)

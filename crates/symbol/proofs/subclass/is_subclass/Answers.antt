@@ -1,20 +1,18 @@
 use mathlib.Core.Path.{sym}
-use Rattle.symbol.proofs.Ranks.{super_below}
-use Rattle.symbol.proofs.Subclasses.{climbing_first, climbing_met, climbing_up, climbing_end}
+use Rattle.symbol.proofs.Subclasses.{at_first, at_end, at_met, at_up, at_below}
 use Rattle.symbol.proofs.subclass.is_subclass.Goals as goal
 
 pub loop-at-init : goal.loop-at-init
-loop-at-init c = rw c.superclass_of-at.ensures (climbing_first c.args.t.now c.requires.clean _ _)
+loop-at-init c = at_first c.args.table.now c.superclass_of-at.ensures.accepted _ _ _ c.superclass_of-at.ensures.superclass
 
-pub returns-then-at-above : goal.returns-then-at-above
-returns-then-at-above c = sym (climbing_met c.args.t.now c.requires.clean _ _ _ c.loop-at.invariant c.loop-at-test.true c.if-at-above.true)
+pub returns-then-id-above : goal.returns-then-id-above
+returns-then-id-above c = sym (at_met c.args.table.now c.superclass_of-at.ensures.accepted _ _ _ c.loop-at.invariant _ c.in-Some.is c.if-id-above.true)
 
 pub loop-at-smaller : goal.loop-at-smaller
-loop-at-smaller c = rw c.superclass_of-at-in-loop-at.ensures (super_below c.args.t.now c.requires.clean _ c.loop-at-test.true)
+loop-at-smaller c = at_below c.args.table.now c.superclass_of-at.ensures.accepted _ _ _ c.loop-at.invariant _ c.in-Some.is _ c.superclass_of-at-in-Some.ensures.superclass
 
 pub loop-at-preserved : goal.loop-at-preserved
-loop-at-preserved c = rw c.superclass_of-at-in-loop-at.ensures
-    (climbing_up c.args.t.now c.requires.clean _ _ _ c.loop-at.invariant c.loop-at-test.true c.if-at-above.false)
+loop-at-preserved c = at_up c.args.table.now c.superclass_of-at.ensures.accepted _ _ _ c.loop-at.invariant _ c.in-Some.is c.if-id-above.false _ c.superclass_of-at-in-Some.ensures.superclass
 
 pub returns : goal.returns
-returns c = sym (climbing_end c.args.t.now c.requires.clean _ _ _ c.loop-at.invariant c.loop-at-test.false)
+returns c = sym (at_end c.args.table.now c.superclass_of-at.ensures.accepted _ _ _ c.loop-at.invariant c.in_default.is)
