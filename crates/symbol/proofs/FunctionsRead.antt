@@ -6,25 +6,25 @@ use mathlib.Core.List.{List}
 use mathlib.Core.Path.{◌≡◌, refl, sym, ap, ◌∙◌, subst}
 use native.Mathlib.Omega.{arith}
 use Rattle.record.proofs.Agree.{same_size}
-use Rattle.symbol.proofs.Arrays.{part-from, part_length, part_byte, part-take, rows_read}
+use Rattle.symbol.proofs.ParamsLaid.{part-from, part_length, part_byte, part-take, laid_are}
 use Rattle.index.proofs.ListSearch.{sits-own, sits-inside, function_kind_lem, function-error}
 use Rattle.symbol.proofs.LaidLookups.{function_same}
 use Rattle.record.proofs.RecordSizes.{head_fits}
 use Rattle.symbol.proofs.Wholes.{FunctionWhole, function-whole}
-use Rattle.symbol.specs.Inside.LookupAnswer.{overload_at, FunctionRead, params_row}
+use Rattle.symbol.specs.Inside.LookupAnswer.{overload_at, FunctionRead, params_in}
 use Rattle.index.specs.Inside.Found.{FunctionAt}
 use Rattle.record.specs.Inside.Front.{front_of}
 use Rattle.record.specs.Inside.Keyed.{type_length}
 use Rattle.symbol.specs.Inside.FoundSymbols.{params_from, overload_found}
 use Rattle.record.specs.Inside.FrontRecord.{front_record}
-use Rattle.symbol.specs.Inside.FunctionFields.{params_added, function_until, function_at}
-use Rattle.symbol.specs.Inside.ParamsRow.{part, ParamsAt, no_params, ParamsAre}
+use Rattle.symbol.specs.Inside.FunctionFields.{params_laid, function_until, function_at}
+use Rattle.symbol.specs.Inside.ParamsRow.{part, ParamsAt, ParamsAre}
 use Rattle.symbol.specs.Lookup.{overload_of}
 use Rattle.symbol.specs.Symbols.{Overload}
 use Rattle.record.specs.Inside.Walk.{behind}
 use Rattle.record.specs.Inside.Front.{Front}
 use Rattle.symbol.specs.declared.functions.Function.{Function}
-use Rattle.symbol.specs.declared.functions.Params.{Params}
+use Rattle.symbol.specs.declared.functions.Param.{Param}
 use Rattle.index.specs.declared.index.Place.{Place}
 
 module _ (t : List ℕ) (p : Place) (f : FunctionAt t p) (end : ℕ) (is-end : end ≡ behind t p.at) where
@@ -87,30 +87,29 @@ module _ (t : List ℕ) (p : Place) (f : FunctionAt t p) (end : ℕ) (is-end : e
       pub function_row : ParamsAt n (part t (p.at + 8 + len) end)
       function_row = rw (← many, ← rest) function_is.row
 
-      function_read_lem : (v b : ℕ) → v ≡ get_or t (p.at + 5) 0 → b ≡ get_or t (p.at + 6) 0 → (ps : Params)
+      function_read_lem : (v b : ℕ) → v ≡ get_or t (p.at + 5) 0 → b ≡ get_or t (p.at + 6) 0 → (ps : List Param)
           → ParamsAre t (params_from n (part t (p.at + 8 + len) end)) n ps
           → FunctionRead t (overload_at t p) (record { builtin = eqb b 1; visibility = v; start = p.at + 8; len = len; params = ps })
       unfolding overload_found
       function_read_lem v b ev eb ps h =
           let pv : v ≡ get_or r 5 0 = ev ∙ sym (byte 5 (omega arith)) in
           let pb : b ≡ get_or r 6 0 = eb ∙ sym (byte 6 (omega arith)) in
-          let pp : params_row t ps 0 ps.count ≡ params_from (get_or r 7 0) (drop (8 + type_length (drop 8 r)) r)
-          = ap (λ (k : ℕ). params_row t ps 0 k) h.count ∙ h.same ∙ rw (many, rest) in
+          let pp : params_in t ps ≡ params_from (get_or r 7 0) (drop (8 + type_length (drop 8 r)) r) = h.same ∙ rw (many, rest) in
           let pr : take len (drop (p.at + 8) t) ≡ take (type_length (drop 8 r)) (drop 8 r)
           = sym (part-take t (p.at + 8) end len function_room) ∙ ap (λ (x : List ℕ). take len x) (from 8) ∙ ap (λ (k : ℕ). take k (drop 8 r)) (sym long) in
           record {
             same = (λ i. record { builtin = eqb (pb i) 1; visibility = pv i; params = pp i; result = pr i }) ∙ told;
             result = omega (arith, function_room, function-inside);
             count = omega (arith, h.count, function-count);
-            types = λ i l. h.types i (omega (arith, h.count));
+            types = h.types;
           }
 
-      pub function-fields : (v b : ℕ) → v ≡ get_or t (p.at + 5) 0 → b ≡ get_or t (p.at + 6) 0 → (ps : Params)
-          → ps ≡ params_added t end n (p.at + 8 + len) no_params
+      pub function-fields : (v b : ℕ) → v ≡ get_or t (p.at + 5) 0 → b ≡ get_or t (p.at + 6) 0 → (ps : List Param)
+          → ps ≡ params_laid t end n (p.at + 8 + len)
           → record { builtin = eqb b 1; visibility = v; start = p.at + 8; len = len; params = ps } ≡ function_at t p
       unfolding function_at
       function-fields v b ev eb ps h =
-          let q = h ∙ (λ i. params_added t end (count i) (p.at + 8 + is i) no_params) in
+          let q = h ∙ (λ i. params_laid t end (count i) (p.at + 8 + is i)) in
           let e = is-end ∙ ap (λ (k : ℕ). p.at + k) (same_size (drop p.at t)) in
           (λ i. record { builtin = eqb (eb i) 1; visibility = ev i; start = p.at + 8; len = is i; params = q i }) ∙ ap (function_until t p.at) e
 
@@ -121,10 +120,9 @@ function_at-read t p f =
     let e = behind t p.at in
     let n = type_length (part t (p.at + 8) e) in
     let k = get_or t (p.at + 7) 0 in
-    let rows = rows_read t (p.at + 8 + n) e k (function-inside t p f e refl) (function-count t p f e refl n refl k refl) (function_room t p f e refl n refl)
-    (function_row t p f e refl n refl k refl) in
+    let rows = laid_are t e (function-inside t p f e refl) k (p.at + 8 + n) (function_room t p f e refl n refl) (function_row t p f e refl n refl k refl) in
     subst (λ (z : ℕ). FunctionRead t (overload_at t p) (function_until t p.at (p.at + z))) (same_size (drop p.at t))
-    (function_read_lem t p f e refl n refl k refl _ _ refl refl (params_added t e k (p.at + 8 + n) no_params) rows)
+    (function_read_lem t p f e refl n refl k refl _ _ refl refl (params_laid t e k (p.at + 8 + n)) rows)
 
 pub read_is : (t : List ℕ) (p : Place) → FunctionAt t p → (f : Function) → f ≡ function_at t p → FunctionRead t (overload_at t p) f
 read_is t p h f e = subst (λ (z : Function). FunctionRead t (overload_at t p) z) (sym e) (function_at-read t p h)

@@ -4,7 +4,7 @@ pub mod LaidLookups
 pub mod PlacesFound
 pub mod SuperLate
 pub mod Wholes
-pub mod Arrays
+pub mod ParamsLaid
 pub mod Names
 pub mod NamesFirst
 pub mod NamesFit

@@ -1,30 +1,37 @@
 // Reading one function of an accepted table.
-ghost use Rattle.std.specs.Prelude.{◌≡◌, false, ◌+◌, ◌≤◌, ◌<◌, length};
+ghost use Rattle.std.specs.Prelude.{◌≡◌, [], ◌∷◌, ◌++◌, ◌≤◌, ◌<◌, length};
+ghost use Rattle.std.specs.List.{slice_get};
 ghost use Rattle.symbol.specs.Inside.LookupAnswer.{overload_at};
-ghost use Rattle.symbol.specs.Inside.FunctionFields.{params_added, function_at};
+ghost use Rattle.symbol.specs.Inside.FunctionFields.{params_laid, function_at};
 ghost use Rattle.index.specs.Inside.Found.{FunctionAt};
 ghost use Rattle.record.specs.Inside.Keyed.{whole_length, type_length};
-ghost use Rattle.symbol.specs.Inside.ParamsRow.{part, ParamsAt, param_added, no_params};
+ghost use Rattle.symbol.specs.Inside.ParamsRow.{part, ParamsAt};
 ghost use Rattle.record.specs.Inside.Walk.{behind};
 
 use index::index::Place;
 use record::front::{LONGEST, read_record};
+use std::marker::Model;
 use ty::read::{TypeFault, read_type};
-use ty::{TypeRead, byte_at, id_at};
+use ty::{Part, TypeRead, byte_at, id_at};
 
-// The parameters of a function: how many, and of each its name, whether it has a default and is vararg, and where its type lies in the table.
+// A parameter of a function: its name, whether it has a default and is vararg, and where its type lies in the table.
 #[derive(Clone, Copy)]
+pub struct Param {
+    pub name: u16,
+    pub default: bool,
+    pub vararg: bool,
+    pub part: Part,
+}
+
+// At most 16 of them, in an array of a fixed length since the judge has no heap.
+#[derive(Drop)]
 pub struct Params {
-    pub count: usize,
-    pub names: [u16; 16],
-    pub defaults: [bool; 16],
-    pub varargs: [bool; 16],
-    pub starts: [usize; 16],
-    pub lens: [usize; 16],
+    items: [Param; 16],
+    count: usize,
 }
 
 // A function; its result type lies in the table, from start on.
-#[derive(Clone, Copy)]
+#[derive(Drop)]
 pub struct Function {
     pub builtin: bool,
     pub visibility: u8,
@@ -33,49 +40,64 @@ pub struct Function {
     pub params: Params,
 }
 
+impl Model for Params {
+    ghost use Rattle.std.specs.Prelude.{List, take, ◌≤◌};
+    ghost use Rattle.symbol.specs.declared.functions.Param.{Param};
+
+    ghost Value = { List Param };
+
+    ghost view = { λ s. take s.count s.items };
+
+    ghost invariant = { λ s. s.count ≤ 16 };
+}
+
 impl Params {
+    // No parameters.
     fn new() -> Params
-        ensures { result ≡ no_params }
+        ensures { result ≡ [] }
     {
-        let names = [0u16; 16];
-        let defaults = [false; 16];
-        let varargs = [false; 16];
-        let starts = [0usize; 16];
-        let lens = [0usize; 16];
+        let none = Param {
+            name: 0,
+            default: false,
+            vararg: false,
+            part: Part { start: 0, len: 0 },
+        };
         Params {
+            items: [none; 16],
             count: 0,
-            names,
-            defaults,
-            varargs,
-            starts,
-            lens,
         }
     }
 
-    // One parameter more.
-    fn add(self, name: u16, default: bool, vararg: bool, start: usize, len: usize) -> Params
-        requires { self.count < 16 }
-        ensures { result ≡ param_added self name default vararg start len }
+    // The parameters, one behind another.
+    pub fn items(&self) -> &[Param]
+        ensures is { result.now ≡ self.now }
+        ensures few { length self.now ≤ 16 }
     {
-        let k = self.count;
-        let mut names = self.names;
-        let mut defaults = self.defaults;
-        let mut varargs = self.varargs;
-        let mut starts = self.starts;
-        let mut lens = self.lens;
-        names[k] = name;
-        defaults[k] = default;
-        varargs[k] = vararg;
-        starts[k] = start;
-        lens[k] = len;
-        Params {
-            count: k + 1,
-            names,
-            defaults,
-            varargs,
-            starts,
-            lens,
-        }
+        &self.items[..self.count]
+    }
+
+    // How many there are.
+    pub fn len(&self) -> usize
+        ensures is { result ≡ length self.now }
+        ensures few { length self.now ≤ 16 }
+    {
+        self.items().len()
+    }
+
+    // The parameter at place j.
+    pub fn get(&self, j: usize) -> Option<Param>
+        ensures { result ≡ slice_get self.now j }
+    {
+        self.items().get(j).copied()
+    }
+
+    // One parameter more.
+    fn push(&mut self, p: Param)
+        requires { length self.old < 16 }
+        ensures { self.new ≡ self.old ++ p ∷ [] }
+    {
+        self.items[self.count] = p;
+        self.count += 1;
     }
 }
 
@@ -101,15 +123,20 @@ fn type_length(t: &[u8], from: usize, end: usize) -> usize
 // The parameters that begin at from, in the bytes before end.
 fn read_params(t: &[u8], from: usize, end: usize, count: usize) -> Params
     requires { (from ≤ end) × (end ≤ length t.now) × (count ≤ 16) × ParamsAt count (part t.now from end) }
-    ensures { result ≡ params_added t.now end count from no_params }
+    ensures { result ≡ params_laid t.now end count from }
 {
     let mut at = from;
     let mut p = Params::new();
-    while p.count < count {
+    for _n in 0..count {
         let start = at + 3;
         let len = type_length(t, start, end);
         let flag = byte_at(t, at + 2);
-        p = p.add(id_at(t, at), flag % 2 == 1, 2 <= flag, start, len);
+        p.push(Param {
+            name: id_at(t, at),
+            default: flag % 2 == 1,
+            vararg: 2 <= flag,
+            part: Part { start, len },
+        });
         at = start + len;
     }
     p

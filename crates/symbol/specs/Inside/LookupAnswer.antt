@@ -1,11 +1,12 @@
 -- What the lookups answer.
-use Rattle.std.specs.Prelude.{Option, None, Some, ℕ, zero, suc, ◌+◌, ◌≤◌, ◌<◌, ◌≡◌, false, List, [], ◌∷◌, map, length, get_or, drop, take}
+use Rattle.std.specs.Prelude.{Option, None, Some, ℕ, ◌+◌, ◌≤◌, ◌≡◌, List, [], ◌∷◌, map, length, drop, take}
+use Rattle.std.specs.List.{All}
 use Rattle.std.proofs.Math.Option as maybe
 use Rattle.ty.specs.Bytes.{Ty}
 use Rattle.ty.specs.declared.Part.{Part}
 use Rattle.index.specs.declared.index.Place.{Place}
 use Rattle.index.specs.Inside.Found.{Found}
-use Rattle.symbol.specs.declared.functions.Params.{Params}
+use Rattle.symbol.specs.declared.functions.Param.{Param as Read}
 use Rattle.symbol.specs.declared.functions.Function.{Function}
 use Rattle.symbol.specs.Symbols.{Param, Overload}
 use Rattle.record.specs.Layout.{record_size}
@@ -50,32 +51,28 @@ FunctionFound t all None = all ≡ []
 FunctionFound t all (Some p) = FunctionIs t all p
 
 -- ---- a function that was read: its types are parts of the table
-abbrev pub param_at : List ℕ → Params → ℕ → Param
-param_at t p i =
-    record {
-      name = get_or p.names i 0;
-      default = get_or p.defaults i false;
-      vararg = get_or p.varargs i false;
-      ty = take (get_or p.lens i 0) (drop (get_or p.starts i 0) t);
-    }
+abbrev pub param_read : List ℕ → Read → Param
+param_read t p = record { name = p.name; default = p.default; vararg = p.vararg; ty = take p.part.len (drop p.part.start t) }
 
--- n parameters from number i on
-unfoldable pub params_row : List ℕ → Params → ℕ → ℕ → List Param
-params_row t p i zero = []
-params_row t p i (suc n) = param_at t p i ∷ params_row t p (suc i) n
+abbrev pub params_in : List ℕ → List Read → List Param
+params_in t ps = map (param_read t) ps
 
 abbrev pub overload_in : List ℕ → Function → Overload
 overload_in t f =
     record {
       builtin = f.builtin;
       visibility = f.visibility;
-      params = params_row t f.params 0 f.params.count;
+      params = params_in t f.params;
       result = take f.len (drop f.start t);
     }
+
+-- a parameter's type lies in the table
+abbrev pub InTable : List ℕ → Read → Type 0
+InTable t p = p.part.start + p.part.len ≤ length t
 
 -- a function that was read: it is that overload, and its types lie in the table
 pub record FunctionRead (t : List ℕ) (o : Overload) (f : Function) : Type 0 where
   pub same : overload_in t f ≡ o
   pub result : f.start + f.len ≤ length t
-  pub count : f.params.count ≤ 16
-  pub types : (i : ℕ) → i < f.params.count → get_or f.params.starts i 0 + get_or f.params.lens i 0 ≤ length t
+  pub count : length f.params ≤ 16
+  pub types : All (InTable t) f.params
