@@ -3,9 +3,9 @@ use Rattle.operators.proofs.method.climb.Goals as goal
 
 pub returns-then-has_operator : goal.returns-then-has_operator
 returns-then-has_operator c = rw (
-      c.first_result.ensures,
-      at_method c.args.table.now c.args.op c.args.class _ c.loop-at.invariant _ c.in-Some.is _ c.in_ok-mask.ensures _ c.has_operator.ensures c.if-has_operator.true,
-    )
+  c.first_result.ensures,
+  at_method c.args.table.now c.args.op c.args.class _ c.loop-at.invariant _ c.in-Some.is _ c.in_ok-mask.ensures _ c.has_operator.ensures c.if-has_operator.true,
+)
 
 pub loop-at-smaller : goal.loop-at-smaller
 loop-at-smaller c =
