@@ -1,12 +1,12 @@
 // Assignability.
 ghost use Rattle.std.specs.Prelude.{◌≡◌};
-ghost use Rattle.index.specs.Inside.IndexedTable.{IndexedTable};
 ghost use Rattle.symbol.specs.Lookup.{symbols_of};
 ghost use Rattle.operators.specs.Assign.{is_named, is_growing, is_list_name, assigns_at_once, assign_step, assigns};
 ghost use Rattle.operators.specs.Inside.Nullables.{nullables as nullables_of};
 
 use crate::operand::numbers;
 use below::is_below;
+use index::table::Table;
 use ty::{Kind, NameId, is_kind};
 
 // What one look at two types says: yes, no, or it goes by the type inside the left one, inside the right one, or inside both, or by the classes of two
@@ -106,17 +106,16 @@ fn nullables(t: &[u8]) -> usize
 
 // Whether the type a assigns to the type b. Nullables are opened together, so that a type of 192 bytes takes no 192 calls.
 #[tactic(auto, using(crate::proofs::NullablesOpened::assign_steps))]
-pub fn can_assign_to(table: &[u8], index: &[u16], a: &[u8], b: &[u8]) -> bool
-    requires { IndexedTable table.now index.now }
+pub fn can_assign_to(table: &Table<'_>, a: &[u8], b: &[u8]) -> bool
     ensures { result ≡ assigns (symbols_of table.now) a.now b.now }
 {
     let next = step(a, b);
     match next {
         Next::Yes => true,
         Next::No => false,
-        Next::Left => can_assign_to(table, index, ty::tail(a, nullables(a)), b),
-        Next::Right => can_assign_to(table, index, a, ty::tail(b, nullables(b))),
-        Next::Both => can_assign_to(table, index, ty::inner(a), ty::inner(b)),
-        Next::Climb => is_below(table, index, ty::name_of(a), ty::name_of(b)),
+        Next::Left => can_assign_to(table, ty::tail(a, nullables(a)), b),
+        Next::Right => can_assign_to(table, a, ty::tail(b, nullables(b))),
+        Next::Both => can_assign_to(table, ty::inner(a), ty::inner(b)),
+        Next::Climb => is_below(table, ty::name_of(a), ty::name_of(b)),
     }
 }

@@ -1,6 +1,5 @@
 // Binary nodes.
 ghost use Rattle.std.specs.Prelude.{◌≡◌};
-ghost use Rattle.index.specs.Inside.IndexedTable.{IndexedTable};
 ghost use Rattle.symbol.specs.Lookup.{symbols_of};
 ghost use Rattle.operators.specs.Binary.{fractional as fractional_of, takes_nullable};
 ghost use Rattle.operators.specs.Inside.BinaryRule.{add_ruled, arithmetic_ruled, equality_ruled, order_ruled, logical_ruled, bitwise_ruled};
@@ -12,6 +11,7 @@ use crate::method::operator_overload_return;
 use crate::operand::{char_string, either, is_logical, numbers};
 use crate::ruled::{OneReport, Ruled, checked, clean, fails, plain, unless};
 use area::{DiagnosticKind, Source};
+use index::table::Table;
 use question::operator::BinOp;
 use ty::{Kind, NameId, is_kind};
 
@@ -61,12 +61,11 @@ fn arithmetic(lt: &[u8], rt: &[u8]) -> OneReport
 
 // Eq, Ne.
 #[tactic(auto, unfolding(crate::specs::Inside::BinaryRule::equality_ruled))]
-fn equality(table: &[u8], index: &[u16], lt: &[u8], rt: &[u8]) -> OneReport
-    requires { IndexedTable table.now index.now }
+fn equality(table: &Table<'_>, lt: &[u8], rt: &[u8]) -> OneReport
     ensures { result ≡ equality_ruled (symbols_of table.now) lt.now rt.now }
 {
     checked(
-        (can_assign_to(table, index, lt, rt) | can_assign_to(table, index, rt, lt))
+        (can_assign_to(table, lt, rt) | can_assign_to(table, rt, lt))
             | (either(Kind::Any, lt, rt) | char_string(lt, rt)),
         Source::Kind(Kind::Boolean),
         DiagnosticKind::Unrelated,
@@ -120,14 +119,13 @@ fn takes_nullable(op: BinOp) -> bool
 
 // The operator's own check.
 #[tactic(auto, unfolding(crate::specs::Inside::BinaryRule::operator_ruled, ty::specs::Choose::choose, question::specs::OperatorNumber::binary_number))]
-fn operator(table: &[u8], index: &[u16], op: BinOp, lt: &[u8], rt: &[u8]) -> Ruled
-    requires { IndexedTable table.now index.now }
+fn operator(table: &Table<'_>, op: BinOp, lt: &[u8], rt: &[u8]) -> Ruled
     ensures { result ≡ operator_ruled (symbols_of table.now) (binary_number op) lt.now rt.now }
 {
     match op {
         BinOp::Add => add(lt, rt).into(),
         BinOp::Sub | BinOp::Mul | BinOp::Div | BinOp::Mod => arithmetic(lt, rt).into(),
-        BinOp::Eq | BinOp::Ne => equality(table, index, lt, rt).into(),
+        BinOp::Eq | BinOp::Ne => equality(table, lt, rt).into(),
         BinOp::Lt | BinOp::Gt | BinOp::Le | BinOp::Ge => order(lt, rt).into(),
         BinOp::And | BinOp::Or => logical(lt, rt),
         BinOp::BitAnd | BinOp::BitOr | BinOp::BitXor | BinOp::Shl | BinOp::Shr | BinOp::UShr =>
@@ -139,29 +137,27 @@ fn operator(table: &[u8], index: &[u16], op: BinOp, lt: &[u8], rt: &[u8]) -> Rul
 }
 
 #[tactic(auto, using(ty::proofs::Choice::chain), unfolding(crate::specs::Inside::BinaryRule::builtin_ruled))]
-fn builtin_binary(table: &[u8], index: &[u16], op: BinOp, lt: &[u8], rt: &[u8]) -> Ruled
-    requires { IndexedTable table.now index.now }
+fn builtin_binary(table: &Table<'_>, op: BinOp, lt: &[u8], rt: &[u8]) -> Ruled
     ensures { result ≡ builtin_ruled (symbols_of table.now) (binary_number op) lt.now rt.now }
 {
     if (!takes_nullable(op)) & either(Kind::Nullable, lt, rt) {
         return fails(DiagnosticKind::NullableOperands).into();
     }
-    operator(table, index, op, lt, rt)
+    operator(table, op, lt, rt)
 }
 
 // The type of an operator on operands of the types lt and rt, and what is reported: Error first and silently, then an operator method, then the built-in
 // operators.
 #[tactic(auto, using(ty::proofs::Choice::chain), unfolding(crate::specs::Inside::BinaryRule::binary_ruled, crate::specs::Inside::BinaryRule::method_ruled))]
-pub fn check_binary(table: &[u8], index: &[u16], op: BinOp, lt: &[u8], rt: &[u8]) -> Ruled
-    requires { IndexedTable table.now index.now }
+pub fn check_binary(table: &Table<'_>, op: BinOp, lt: &[u8], rt: &[u8]) -> Ruled
     ensures { result ≡ binary_ruled table.now (binary_number op) lt.now rt.now }
 {
     if either(Kind::Error, lt, rt) {
         return plain(Kind::Error).into();
     }
-    let method = operator_overload_return(table, index, op, lt);
+    let method = operator_overload_return(table, op, lt);
     match method {
-        None => builtin_binary(table, index, op, lt, rt),
+        None => builtin_binary(table, op, lt, rt),
         Some(source) => clean(source).into(),
     }
 }

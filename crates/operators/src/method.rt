@@ -1,15 +1,15 @@
 // Operator methods.
 ghost use Rattle.std.specs.Prelude.{◌≡◌, ◌≤◌};
-ghost use Rattle.index.specs.Inside.IndexedTable.{IndexedTable};
 ghost use Rattle.operators.specs.OperatorMethod.{has_operator};
 ghost use Rattle.question.specs.OperatorNumber.{binary_number};
 ghost use Rattle.operators.specs.Inside.MethodPlace.{first_result_place, climb_place_from, operator_place};
 
 use area::Source;
+use index::table::Table;
 use question::operator::BinOp;
 use symbol::functions::read_function;
-use symbol::lookups::{Mask, first_function, operators_of, superclass_of};
-use ty::{Kind, NameId, is_kind};
+use symbol::lookups::{first_function, operators_of, superclass_of};
+use ty::{Kind, NameId, is_kind, known_id};
 
 // An operator set's mask has the operator's bit.
 fn has_operator(mask: u16, op: u8) -> bool
@@ -21,14 +21,14 @@ fn has_operator(mask: u16, op: u8) -> bool
 
 // The result of the first function of a class and a name, and Any where there is none.
 #[tactic(auto, unfolding(crate::specs::Inside::MethodPlace::first_result_place))]
-fn first_result(table: &[u8], index: &[u16], class: u16, name: u16) -> Source
-    requires { IndexedTable table.now index.now }
+fn first_result(table: &Table<'_>, class: u16, name: u16) -> Source
     ensures { result ≡ first_result_place table.now class name }
 {
-    match first_function(table, index, class, name) {
+    let t = table.bytes();
+    match first_function(table, class, name) {
         None => Source::Kind(Kind::Any),
         Some(place) => {
-            let f = read_function(table, place);
+            let f = read_function(t, place);
             Source::Part {
                 start: f.start,
                 len: f.len,
@@ -39,19 +39,17 @@ fn first_result(table: &[u8], index: &[u16], class: u16, name: u16) -> Source
 
 // The climb from a class, as long as there are operator sets.
 #[tactic(auto, using(crate::proofs::Climbs::climb_steps))]
-fn climb(table: &[u8], index: &[u16], op: u8, class: u16) -> Option<Source>
-    requires { IndexedTable table.now index.now × (op ≤ 10) }
+fn climb(table: &Table<'_>, op: u8, class: u16) -> Option<Source>
+    requires { op ≤ 10 }
     ensures { result ≡ climb_place_from table.now op class }
 {
-    let mut at = class;
-    while at != NameId::NONE {
-        match operators_of(table, index, at) {
-            Mask::Nothing => return None,
-            Mask::Is(mask) if has_operator(mask, op) => {
-                return Some(first_result(table, index, at, NameId::PLUS + op as u16));
-            }
-            Mask::Is(_) => at = superclass_of(table, index, at),
+    let mut at = known_id(class);
+    while let Some(id) = at {
+        let mask = operators_of(table, id)?;
+        if has_operator(mask, op) {
+            return Some(first_result(table, id, NameId::PLUS + op as u16));
         }
+        at = superclass_of(table, id);
     }
     None
 }
@@ -66,13 +64,12 @@ fn operator_number(op: BinOp) -> u8
 
 // Where the type lies that an operator method gives, if there is one.
 #[tactic(auto, using(ty::proofs::Choice::chain), unfolding(crate::specs::Inside::MethodPlace::operator_place, question::specs::OperatorNumber::binary_number))]
-pub fn operator_overload_return(table: &[u8], index: &[u16], op: BinOp, lt: &[u8]) -> Option<Source>
-    requires { IndexedTable table.now index.now }
+pub fn operator_overload_return(table: &Table<'_>, op: BinOp, lt: &[u8]) -> Option<Source>
     ensures { result ≡ operator_place table.now (binary_number op) lt.now }
 {
     let number = operator_number(op);
     if (number <= operator_number(BinOp::Ge)) & is_kind(lt, Kind::Named) {
-        return climb(table, index, number, ty::name_of(lt));
+        return climb(table, number, ty::name_of(lt));
     }
     None
 }

@@ -1,3 +1,4 @@
 pub mod MemberLookups
 pub mod MemberRuling
 pub mod Bases
+pub mod Packages

@@ -18,8 +18,7 @@ use Rattle.symbol.specs.Inside.LookupAnswer.{part_of, FunctionFound}
 use Rattle.symbol.specs.Inside.Places.{first_place, function_places, field_part}
 use Rattle.symbol.specs.Lookup.{symbols_of}
 use Rattle.symbol.specs.Symbols.{Overload}
-use Rattle.symbol.specs.declared.lookups.Part.TheVariants as part
-use Rattle.symbol.specs.declared.lookups.Part.{Part}
+use Rattle.ty.specs.declared.Part.{Part}
 use Rattle.ty.specs.Bytes.{Ty}
 
 module _ (t : List ℕ) (x y : Ty) where
@@ -28,11 +27,11 @@ module _ (t : List ℕ) (x y : Ty) where
   function-found all None h = rw h
   function-found all (Some p) h = rw (h.first, ← (function_at-read t p h.here).same)
 
-  field_or_lem : (r : Part) (v : Option Source) (F G : maybe.Option Ty) → part_of t r ≡ F → source_ty t x y v ≡ G
+  field_or_lem : (r : Option Part) (v : Option Source) (F G : maybe.Option Ty) → part_of t r ≡ F → source_ty t x y v ≡ G
       → source_ty t x y (field_variable r v) ≡ field_or F G
   unfolding field_or type_from
-  field_or_lem part.Nothing v F G h k = rw (← h, k)
-  field_or_lem (part.At start len) v F G h k = rw (← h)
+  field_or_lem None v F G h k = rw (← h, k)
+  field_or_lem (Some p) v F G h k = rw (← h)
 
   -- THE TYPE AT THE PLACE OF A FIELD OR A FUNCTION
   pub variable_placed : table_fault t ≡ 0 → (owner id : ℕ) → source_ty t x y (variable_place t owner id) ≡ lookup_var (symbols_of t) owner id

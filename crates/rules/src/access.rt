@@ -1,17 +1,18 @@
 // Access to members.
-ghost use Rattle.std.specs.Prelude.{◌≡◌};
-ghost use Rattle.index.specs.Inside.IndexedTable.{IndexedTable};
+ghost use Rattle.std.specs.Prelude.{◌≡◌, ℕ};
 ghost use Rattle.symbol.specs.Lookup.{symbols_of};
 ghost use Rattle.rules.specs.Access.{other_package, blocked};
 ghost use Rattle.rules.specs.Visibility.{visibility_number, ReadsVisibility};
 ghost use Rattle.rules.specs.Inside.AccessRule.{access_ruled};
+ghost use Rattle.ty.specs.Name.{known_id};
 
 use area::DiagnosticKind;
+use index::table::Table;
 use operators::ruled::Diagnostic;
 use question::Header;
 use symbol::lookups::package_of;
 use symbol::subclass::is_subclass;
-use ty::NameId;
+use ty::{NameId, known_id};
 
 // Who may use a member, in the order of the numbers.
 #[derive(Clone, Copy, PartialEq, Eq)]
@@ -52,17 +53,19 @@ impl TryFrom<u8> for Visibility {
 }
 
 // Both packages are known, and they differ.
-fn other_package(a: u16, b: u16) -> bool
-    ensures { result ≡ other_package a b }
+fn other_package(a: Option<u16>, b: Option<u16>) -> bool
+    ensures { (x y : ℕ) → a ≡ known_id x → b ≡ known_id y → result ≡ other_package x y }
 {
-    (a != NameId::NONE) & ((b != NameId::NONE) & (a != b))
+    match (a, b) {
+        (Some(a), Some(b)) => a != b,
+        _ => false,
+    }
 }
 
 // Whether a member of an owner, of a visibility, is blocked where the script stands. A number of no visibility, which no accepted table has, counts as
 // Internal.
 #[tactic(auto, using(ty::proofs::Choice::chain), unfolding(crate::specs::Access::blocked))]
-pub fn check_access(table: &[u8], index: &[u16], header: Header, vis: u8, owner: u16) -> bool
-    requires { IndexedTable table.now index.now }
+pub fn check_access(table: &Table<'_>, header: Header, vis: u8, owner: u16) -> bool
     ensures { result ≡ blocked (symbols_of table.now) header vis owner }
 {
     let current = header.current;
@@ -72,28 +75,19 @@ pub fn check_access(table: &[u8], index: &[u16], header: Header, vis: u8, owner:
     match Visibility::try_from(vis) {
         Ok(Visibility::Public) => false,
         Ok(Visibility::Private) => current != owner,
-        Ok(Visibility::Protected) => {
-            !((current == owner) | is_subclass(table, index, current, owner))
-        }
+        Ok(Visibility::Protected) => { !((current == owner) | is_subclass(table, current, owner)) }
         Ok(Visibility::Internal) | Err(_) => {
-            other_package(header.pkg, package_of(table, index, owner))
+            other_package(known_id(header.pkg), package_of(table, owner))
         }
     }
 }
 
 // What is reported of such a member.
 #[tactic(auto, using(ty::proofs::Choice::chain), unfolding(crate::specs::Inside::AccessRule::access_ruled))]
-pub fn access_report(
-    table: &[u8],
-    index: &[u16],
-    header: Header,
-    vis: u8,
-    owner: u16,
-) -> Option<Diagnostic>
-    requires { IndexedTable table.now index.now }
+pub fn access_report(table: &Table<'_>, header: Header, vis: u8, owner: u16) -> Option<Diagnostic>
     ensures { result ≡ access_ruled (symbols_of table.now) header vis owner }
 {
-    if check_access(table, index, header, vis, owner) {
+    if check_access(table, header, vis, owner) {
         return Some(Diagnostic {
             kind: DiagnosticKind::Access,
             number: vis,

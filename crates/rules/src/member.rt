@@ -1,6 +1,5 @@
 // Member nodes.
 ghost use Rattle.std.specs.Prelude.{◌≡◌};
-ghost use Rattle.index.specs.Inside.IndexedTable.{IndexedTable};
 ghost use Rattle.symbol.specs.Lookup.{symbols_of};
 ghost use Rattle.rules.specs.Member.{is_nullable_object};
 ghost use Rattle.rules.specs.Inside.AccessRule.{owner_ruled, base_ruled};
@@ -11,13 +10,12 @@ ghost use Rattle.rules.specs.Inside.Variable.{function_place, variable_place};
 use crate::accept::is_variable_name;
 use crate::access::access_report;
 use area::{DiagnosticKind, Source};
+use index::table::Table;
 use operators::ruled::{Diagnostic, OneReport, Ruled, clean, fails, plain, report_before};
 use question::Header;
 use symbol::functions::read_function;
-use symbol::lookups::{
-    Part, Visibility, field_of, first_function, in_types, is_variant, visibility_of,
-};
-use ty::{Kind, NameId, is_kind};
+use symbol::lookups::{field_of, first_function, in_types, is_variant, visibility_of};
+use ty::{Kind, NameId, Part, is_kind};
 
 // A type variable's members.
 #[tactic(auto, using(ty::proofs::Choice::chain), unfolding(crate::specs::Inside::MemberRule::variable_ruled))]
@@ -99,12 +97,12 @@ fn map_member(id: u16) -> OneReport
 
 // A class's function of a name: its type is a Function with the first one's result.
 #[tactic(auto, unfolding(crate::specs::Inside::Variable::function_place))]
-fn lookup_function(table: &[u8], index: &[u16], owner: u16, id: u16) -> Option<Source>
-    requires { IndexedTable table.now index.now }
+fn lookup_function(table: &Table<'_>, owner: u16, id: u16) -> Option<Source>
     ensures { result ≡ function_place table.now owner id }
 {
-    let place = first_function(table, index, owner, id)?;
-    let f = read_function(table, place);
+    let t = table.bytes();
+    let place = first_function(table, owner, id)?;
+    let f = read_function(t, place);
     Some(Source::Function {
         start: f.start,
         len: f.len,
@@ -113,31 +111,28 @@ fn lookup_function(table: &[u8], index: &[u16], owner: u16, id: u16) -> Option<S
 
 // A class's field of a name, or else its function: where its type lies, if there is one.
 #[tactic(auto, unfolding(crate::specs::Inside::Variable::variable_place))]
-fn lookup_var_ty(table: &[u8], index: &[u16], owner: u16, id: u16) -> Option<Source>
-    requires { IndexedTable table.now index.now }
+fn lookup_var_ty(table: &Table<'_>, owner: u16, id: u16) -> Option<Source>
     ensures { result ≡ variable_place table.now owner id }
 {
-    let field = field_of(table, index, owner, id);
-    match field {
-        Part::At { start, len } => Some(Source::Part { start, len }),
-        Part::Nothing => lookup_function(table, index, owner, id),
+    match field_of(table, owner, id) {
+        Some(Part { start, len }) => Some(Source::Part { start, len }),
+        None => lookup_function(table, owner, id),
     }
 }
 
 // The members that the table gives a class: a field, else a function, else a variant (which has the enum's type). Any other name is unresolved where the class
 // is in `types`, and Error without a report where it is not.
 #[tactic(auto, using(ty::proofs::Choice::chain), unfolding(crate::specs::Inside::MemberRule::class_ruled, crate::specs::Inside::MemberRule::variable_or))]
-fn class_member(table: &[u8], index: &[u16], owner: u16, id: u16) -> OneReport
-    requires { IndexedTable table.now index.now }
+fn class_member(table: &Table<'_>, owner: u16, id: u16) -> OneReport
     ensures { result ≡ class_ruled table.now owner id }
 {
-    if let Some(variable) = lookup_var_ty(table, index, owner, id) {
+    if let Some(variable) = lookup_var_ty(table, owner, id) {
         return clean(variable);
     }
-    if is_variant(table, index, owner, id) {
+    if is_variant(table, owner, id) {
         return clean(Source::Name(owner));
     }
-    if in_types(table, index, owner) {
+    if in_types(table, owner) {
         return fails(DiagnosticKind::Unresolved);
     }
     plain(Kind::Error)
@@ -145,11 +140,10 @@ fn class_member(table: &[u8], index: &[u16], owner: u16, id: u16) -> OneReport
 
 // A Named base's, by its name.
 #[tactic(auto, using(ty::proofs::Choice::chain), unfolding(crate::specs::Inside::MemberRule::named_ruled))]
-fn named_member(table: &[u8], index: &[u16], owner: u16, id: u16) -> OneReport
-    requires { IndexedTable table.now index.now }
+fn named_member(table: &Table<'_>, owner: u16, id: u16) -> OneReport
     ensures { result ≡ named_ruled table.now owner id }
 {
-    if is_variable_name(table, index, owner) {
+    if is_variable_name(table, owner) {
         return variable_member(id);
     }
     if owner == NameId::PAIR {
@@ -158,17 +152,16 @@ fn named_member(table: &[u8], index: &[u16], owner: u16, id: u16) -> OneReport
     if (NameId::LIST <= owner) & (owner <= NameId::SET_CLASS) {
         return collection_member(id);
     }
-    class_member(table, index, owner, id)
+    class_member(table, owner, id)
 }
 
 // A base's, by its kind. What the elements of a List or an Array are is read off the object.
 #[tactic(auto, using(ty::proofs::Choice::chain), unfolding(crate::specs::Inside::MemberRule::kind_ruled))]
-fn kind_member(table: &[u8], index: &[u16], base: &[u8], id: u16) -> OneReport
-    requires { IndexedTable table.now index.now }
+fn kind_member(table: &Table<'_>, base: &[u8], id: u16) -> OneReport
     ensures { result ≡ kind_ruled table.now base.now id }
 {
     if is_kind(base, Kind::Named) {
-        return named_member(table, index, ty::name_of(base), id);
+        return named_member(table, ty::name_of(base), id);
     }
     if is_kind(base, Kind::String) {
         return string_member(id);
@@ -187,36 +180,19 @@ fn kind_member(table: &[u8], index: &[u16], base: &[u8], id: u16) -> OneReport
 
 // The access check of a member that has a visibility.
 #[tactic(auto, unfolding(crate::specs::Inside::AccessRule::visibility_ruled))]
-fn visibility_report(
-    table: &[u8],
-    index: &[u16],
-    header: Header,
-    owner: u16,
-    id: u16,
-) -> Option<Diagnostic>
-    requires { IndexedTable table.now index.now }
+fn visibility_report(table: &Table<'_>, header: Header, owner: u16, id: u16) -> Option<Diagnostic>
     ensures { result ≡ owner_ruled (symbols_of table.now) header owner id }
 {
-    let visibility = visibility_of(table, index, owner, id);
-    match visibility {
-        Visibility::Nothing => None,
-        Visibility::Is(vis) => access_report(table, index, header, vis, owner),
-    }
+    let vis = visibility_of(table, owner, id)?;
+    access_report(table, header, vis, owner)
 }
 
 #[tactic(auto, using(ty::proofs::Choice::chain), unfolding(crate::specs::Inside::AccessRule::base_ruled))]
-fn member_report(
-    table: &[u8],
-    index: &[u16],
-    header: Header,
-    base: &[u8],
-    id: u16,
-) -> Option<Diagnostic>
-    requires { IndexedTable table.now index.now }
+fn member_report(table: &Table<'_>, header: Header, base: &[u8], id: u16) -> Option<Diagnostic>
     ensures { result ≡ base_ruled (symbols_of table.now) header base.now id }
 {
     if is_kind(base, Kind::Named) {
-        return visibility_report(table, index, header, ty::name_of(base), id);
+        return visibility_report(table, header, ty::name_of(base), id);
     }
     None
 }
@@ -231,8 +207,7 @@ fn is_nullable_object(t: &[u8]) -> bool
 
 // The type of a member of an object, and what is reported.
 #[tactic(auto, using(ty::proofs::Choice::chain), unfolding(crate::specs::Inside::MemberRule::member_ruled))]
-pub fn check_member(table: &[u8], index: &[u16], header: Header, id: u16, object: &[u8]) -> Ruled
-    requires { IndexedTable table.now index.now }
+pub fn check_member(table: &Table<'_>, header: Header, id: u16, object: &[u8]) -> Ruled
     ensures { result ≡ member_ruled table.now header id object.now }
 {
     if is_nullable_object(object) {
@@ -242,6 +217,6 @@ pub fn check_member(table: &[u8], index: &[u16], header: Header, id: u16, object
     if is_kind(base, Kind::Module) {
         return plain(Kind::Any).into();
     }
-    let first = member_report(table, index, header, base, id);
-    report_before(first, kind_member(table, index, base, id))
+    let first = member_report(table, header, base, id);
+    report_before(first, kind_member(table, base, id))
 }

@@ -5,8 +5,7 @@ use Rattle.area.specs.declared.Source.TheVariants as source
 use Rattle.area.specs.declared.Source.{Source}
 use Rattle.symbol.specs.Inside.FunctionFields.{function_at}
 use Rattle.symbol.specs.Inside.Places.{first_place, function_places, field_part}
-use Rattle.symbol.specs.declared.lookups.Part.TheVariants as part
-use Rattle.symbol.specs.declared.lookups.Part.{Part}
+use Rattle.ty.specs.declared.Part.{Part}
 
 -- of a function that was looked for, the result type
 abbrev pub function_variable : List ℕ → Found → Option Source
@@ -18,9 +17,9 @@ unfoldable pub function_place : List ℕ → ℕ → ℕ → Option Source
 function_place table owner id = function_variable table (first_place (function_places table owner id))
 
 -- of a field that was looked for, or else v
-abbrev pub field_variable : Part → Option Source → Option Source
-field_variable part.Nothing v = v
-field_variable (part.At start len) v = Some (source.Part start len)
+abbrev pub field_variable : Option Part → Option Source → Option Source
+field_variable None v = v
+field_variable (Some p) v = Some (source.Part p.start p.len)
 
 -- of the field of an owner and a name, or else of the first function; the law `variable_placed` says that the bytes there are the type of `lookup_var`
 unfoldable pub variable_place : List ℕ → ℕ → ℕ → Option Source
