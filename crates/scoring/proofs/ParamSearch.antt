@@ -1,117 +1,94 @@
 -- The search for a parameter, by its name or by its mark.
-use Prim.Native.Nat.{ℕ, zero, suc, ◌+◌, ◌-◌, ◌≤◌, ◌<◌}
+use Prim.Native.Nat.{ℕ, zero, suc, ◌+◌, ◌≤◌, ◌<◌}
 use borrow.Author.Tests.{eq-eqb, ne_eqb}
 use lib.Dec.{eqb}
-use lib.ListN.{get_or}
+use lib.ListN.{length, get_or, drop}
 use mathlib.Core.Bool.{Bool, true, false}
-use mathlib.Core.List.{List}
+use mathlib.Core.List.{List, [], ◌∷◌}
 use mathlib.Core.Option.{Option, none, some}
 use mathlib.Core.Path.{◌≡◌, refl, sym, ap, ◌∙◌}
 use Rattle.std.specs.Prelude.{Option as Maybe, Some, None}
-use native.Mathlib.Nat.{sub-zero}
+use Rattle.std.proofs.lemmas.List.{drop_more}
+use Rattle.std.proofs.lemmas.Option.{slice_get-get_or}
 use native.Mathlib.Omega.{arith}
-use Rattle.scoring.proofs.ParamsAndArgsLeft.{params_left, params_all, params_next, params_none}
-use Rattle.scoring.specs.Inside.Params.{params_in, param_in, place_read, as_place, named_place, free_place}
+use Rattle.scoring.proofs.ParamsAndArgsLeft.{params_next, params_none}
+use Rattle.scoring.specs.Inside.Params.{param_here, param_at, place_read, as_place, named_place}
 use Rattle.scoring.specs.Score.{param_named, place_named, unmarked_from}
-use Rattle.symbol.specs.Inside.LookupAnswer.{param_at, params_row}
+use Rattle.symbol.specs.Inside.LookupAnswer.{param_read, params_in}
 use Rattle.symbol.specs.Symbols.{Param}
-use Rattle.symbol.specs.declared.functions.Params.{Params}
+use Rattle.symbol.specs.declared.functions.Param.{Param as Read}
 use Rattle.ty.proofs.Choice.{choose_yes, choose_no}
 use Rattle.ty.specs.Choose.{choose}
 
 -- ---- by name: from place j on the answer is that of all
-pub record PlaceFrom (t : List ℕ) (p : Params) (id j : ℕ) : Type 0 where
-  pub place : place_named id j (params_left t p j p.count) ≡ place_named id 0 (params_in t p)
-
-module _ (t : List ℕ) (p : Params) (id : ℕ) where
-  pub place_start : PlaceFrom t p id 0
-  place_start = record { place = ap (λ (ps : List Param). place_named id 0 ps) (params_all t p p.count) }
-
-  module _ (j : ℕ) (w : PlaceFrom t p id j) where
-    pub place_turn : j < p.count → (get_or p.names j 0 ≡ id → ⊥) → PlaceFrom t p id (j + 1)
+module _ (t : List ℕ) (ps : List Read) (id : ℕ) where
+  module _ (j : ℕ) where
+    pub place_turn : (d : Read) → j < length ps → ((get_or ps j d).name ≡ id → ⊥) → place_named id j (params_in t (drop j ps)) ≡ place_named id (j + 1) (params_in t (drop (j + 1) ps))
     unfolding place_named
-    place_turn h ne =
-        let e = params_next t p j p.count h in
-        let d : eqb (get_or p.names j 0) id ≡ false = ne_eqb _ _ ne in
+    place_turn d h ne =
         let f : suc j ≡ j + 1 = omega arith in
-        record {
-          place = sym (ap (λ (ps : List Param). place_named id j ps) e ∙ choose_no _ _ _ d ∙ ap (λ (k : ℕ). place_named id k (params_left t p (j + 1) p.count)) f) ∙ w.place;
-        }
+        ap (λ (ps : List Param). place_named id j ps) (params_next t ps j d h)
+        ∙ choose_no _ _ _ (ne_eqb _ _ ne) ∙ ap (λ (k : ℕ). place_named id k (params_in t (drop (j + 1) ps))) f
 
-    pub place_here_lem : j < p.count → get_or p.names j 0 ≡ id → Some j ≡ named_place t p id
+    pub place_here_lem : (d : Read) → j < length ps → (get_or ps j d).name ≡ id → place_named id j (params_in t (drop j ps)) ≡ some j
     unfolding place_named
-    place_here_lem h eq =
-        let e = params_next t p j p.count h in
-        let d : eqb (get_or p.names j 0) id ≡ true = eq-eqb _ _ eq in
-        sym (ap (λ (o : Option ℕ). as_place o) (sym w.place ∙ ap (λ (ps : List Param). place_named id j ps) e ∙ choose_yes _ _ _ d))
+    place_here_lem d h eq = ap (λ (ps : List Param). place_named id j ps) (params_next t ps j d h) ∙ choose_yes _ _ _ (eq-eqb _ _ eq)
 
-    pub place_none : p.count ≤ j → None ≡ named_place t p id
+    pub place_none : length ps ≤ j → place_named id j (params_in t (drop j ps)) ≡ none
     unfolding place_named
-    place_none h =
-        let e = params_none t p j p.count h in
-        sym (ap (λ (o : Option ℕ). as_place o) (sym w.place ∙ ap (λ (ps : List Param). place_named id j ps) e))
+    place_none h = ap (λ (ps : List Param). place_named id j ps) (params_none t ps j h)
 
   -- what stands at that place
-  row_param : (i n : ℕ) → param_named id (params_row t p i n) ≡ param_in t p (as_place (place_named id i (params_row t p i n)))
-  unfolding place_named param_named params_row choose
-  row_param i zero = refl
-  row_param i (suc n) = go (eqb (get_or p.names i 0) id) (row_param (suc i) n)
+  row_param : (n j : ℕ) → n + j ≡ length ps → param_named id (params_in t (drop j ps)) ≡ param_here t (param_at ps (as_place (place_named id j (params_in t (drop j ps)))))
+  unfolding place_named param_named choose
+  row_param zero j h = let e = params_none t ps j (omega arith) in rw e
+  row_param (suc n) j h = go (slice_of ps j (omega arith)) (row_param n (suc j) (omega arith))
     where
-      go : (b : Bool) → param_named id (params_row t p (suc i) n) ≡ param_in t p (as_place (place_named id (suc i) (params_row t p (suc i) n)))
-          → choose b (some (param_at t p i)) (param_named id (params_row t p (suc i) n))
-          ≡ param_in t p (as_place (choose b (some i) (place_named id (suc i) (params_row t p (suc i) n))))
-      go true e = refl
-      go false e = e
+      slice_of : (ps : List Read) (j : ℕ) → j < length ps → (d : Read) × (drop j ps ≡ d ∷ drop (suc j) ps) × (param_at ps (Some j) ≡ Some d)
+      slice_of [] j h = absurd (omega arith)
+      slice_of (p ∷ ps) zero h = (p, refl, refl)
+      slice_of (p ∷ ps) (suc j) h = slice_of ps j (omega arith)
 
-  module _ (r : Maybe ℕ) (e : r ≡ named_place t p id) where
-    pub place_named_is : place_named id 0 (params_in t p) ≡ place_read r
-    place_named_is = sym (ap (λ (o : Maybe ℕ). place_read o) e ∙ back (place_named id 0 (params_in t p)))
+      go : (s : (d : Read) × (drop j ps ≡ d ∷ drop (suc j) ps) × (param_at ps (Some j) ≡ Some d))
+          → param_named id (params_in t (drop (suc j) ps)) ≡ param_here t (param_at ps (as_place (place_named id (suc j) (params_in t (drop (suc j) ps)))))
+          → param_named id (params_in t (drop j ps)) ≡ param_here t (param_at ps (as_place (place_named id j (params_in t (drop j ps)))))
+      go (d, e, f) ih = rw e (by (eqb d.name id) ih)
+        where
+          by : (b : Bool) → param_named id (params_in t (drop (suc j) ps)) ≡ param_here t (param_at ps (as_place (place_named id (suc j) (params_in t (drop (suc j) ps)))))
+              → choose b (some (param_read t d)) (param_named id (params_in t (drop (suc j) ps)))
+              ≡ param_here t (param_at ps (as_place (choose b (some j) (place_named id (suc j) (params_in t (drop (suc j) ps))))))
+          by true g = sym (ap (λ (o : Maybe Read). param_here t o) f)
+          by false g = g
+
+  module _ (r : Maybe ℕ) (e : r ≡ named_place t ps id) where
+    pub place_named_is : place_named id 0 (params_in t ps) ≡ place_read r
+    place_named_is = sym (ap (λ (o : Maybe ℕ). place_read o) e ∙ back (place_named id 0 (params_in t ps)))
       where
         back : (o : Option ℕ) → place_read (as_place o) ≡ o
         back none = refl
         back (some j) = refl
 
-    pub param_named_is : param_named id (params_in t p) ≡ param_in t p r
-    param_named_is = row_param 0 p.count ∙ ap (λ (o : Maybe ℕ). param_in t p o) (sym e)
+    pub param_named_is : param_named id (params_in t ps) ≡ param_here t (param_at ps r)
+    param_named_is = row_param (length ps) 0 (omega arith) ∙ ap (λ (o : Maybe ℕ). param_here t (param_at ps o)) (sym e)
 
 -- ---- by mark
-module _ (p : Params) (marks : List Bool) where
-  pub free_start : free_place marks 0 (p.count - 0) ≡ free_place marks 0 p.count
-  free_start = ap (λ (k : ℕ). free_place marks 0 k) (sub-zero p.count)
+module _ (t : List ℕ) (ps : List Read) (marks : List Bool) (j : ℕ) where
+  pub free_turn : (d : Read) → j < length ps → get_or marks j false ≡ true
+      → unmarked_from j (params_in t (drop j ps)) marks ≡ unmarked_from (j + 1) (params_in t (drop (j + 1) ps)) marks
+  unfolding unmarked_from
+  free_turn d h e =
+      let f : suc j ≡ j + 1 = omega arith in
+      ap (λ (ps : List Param). unmarked_from j ps marks) (params_next t ps j d h)
+      ∙ choose_yes _ _ _ e ∙ ap (λ (k : ℕ). unmarked_from k (params_in t (drop (j + 1) ps)) marks) f
 
-  module _ (j : ℕ) (w : free_place marks j (p.count - j) ≡ free_place marks 0 p.count) where
-    free_next : j < p.count → free_place marks j (p.count - j) ≡ choose (get_or marks j false) (free_place marks (j + 1) (p.count - (j + 1))) (Some j)
-    unfolding free_place
-    free_next h =
-        let e : p.count - j ≡ suc (p.count - (j + 1)) = omega arith in
-        let f : suc j ≡ j + 1 = omega arith in
-        ap (λ (k : ℕ). free_place marks j k) e
-        ∙ ap (λ (k : ℕ). choose (get_or marks j false) (free_place marks k (p.count - (j + 1))) (Some j)) f
+  pub free_here : (d : Read) → j < length ps → get_or marks j false ≡ false → unmarked_from j (params_in t (drop j ps)) marks ≡ some (param_read t (get_or ps j d))
+  unfolding unmarked_from
+  free_here d h e = ap (λ (ps : List Param). unmarked_from j ps marks) (params_next t ps j d h) ∙ choose_no _ _ _ e
 
-    pub free_turn : j < p.count → get_or marks j false ≡ true → free_place marks (j + 1) (p.count - (j + 1)) ≡ free_place marks 0 p.count
-    free_turn h d = sym (free_next h ∙ choose_yes _ _ _ d) ∙ w
+  pub free_none : length ps ≤ j → unmarked_from j (params_in t (drop j ps)) marks ≡ none
+  unfolding unmarked_from
+  free_none h = ap (λ (ps : List Param). unmarked_from j ps marks) (params_none t ps j h)
 
-    pub free_here : j < p.count → get_or marks j false ≡ false → Some j ≡ free_place marks 0 p.count
-    free_here h d = sym (free_next h ∙ choose_no _ _ _ d) ∙ w
+pub ruleset by_name = (place_turn, place_here_lem, place_none)
 
-    pub free_none : p.count ≤ j → None ≡ free_place marks 0 p.count
-    unfolding free_place
-    free_none h = let e : p.count - j ≡ 0 = omega arith in sym (ap (λ (k : ℕ). free_place marks j k) e) ∙ w
-
-  -- what stands at that place
-  row_free : (t : List ℕ) (i n : ℕ) → unmarked_from i (params_row t p i n) marks ≡ param_in t p (free_place marks i n)
-  unfolding unmarked_from params_row free_place choose
-  row_free t i zero = refl
-  row_free t i (suc n) = go (get_or marks i false) (row_free t (suc i) n)
-    where
-      go : (b : Bool) → unmarked_from (suc i) (params_row t p (suc i) n) marks ≡ param_in t p (free_place marks (suc i) n)
-          → choose b (unmarked_from (suc i) (params_row t p (suc i) n) marks) (some (param_at t p i)) ≡ param_in t p (choose b (free_place marks (suc i) n) (Some i))
-      go true e = e
-      go false e = refl
-
-  pub free_place_is : (t : List ℕ) (r : Maybe ℕ) → r ≡ free_place marks 0 p.count → unmarked_from 0 (params_in t p) marks ≡ param_in t p r
-  free_place_is t r e = row_free t 0 p.count ∙ ap (λ (o : Maybe ℕ). param_in t p o) (sym e)
-
-pub ruleset by_name = (place_start, place_turn, place_here_lem, place_none)
-
-pub ruleset by_mark = (free_start, free_turn, free_here, free_none)
+pub ruleset by_mark = (free_turn, free_here, free_none)

@@ -1,7 +1,6 @@
 -- Scores: sums of them, and the two passes one argument at a time.
 use Prim.Native.Nat.{ℕ, ◌+◌, ◌*◌, ◌≤◌, ◌<◌}
-use borrow.Author.Tests.{eq-eqb, ne_eqb}
-use lib.ListN.{get_or, length}
+use lib.ListN.{get_or, length, take, drop}
 use mathlib.Core.Bool.{Bool, true, false}
 use mathlib.Core.List.{List, [], ◌∷◌}
 use mathlib.Core.Option.{Option, none, some}
@@ -9,28 +8,27 @@ use mathlib.Core.Path.{◌≡◌, refl, sym, ap, ◌∙◌}
 use native.Mathlib.Omega.{arith}
 use Rattle.std.specs.Prelude.{Option as Maybe, Some, None}
 use Rattle.std.specs.Bool.{then_some}
-use Rattle.scoring.proofs.ParamsAndArgsLeft.{args_left, args_all, args_next, args_none}
-use Rattle.scoring.proofs.ParamSearch.{free_place_is, place_named_is, param_named_is}
+use Rattle.scoring.proofs.ParamsAndArgsLeft.{args_next, args_none}
+use Rattle.scoring.proofs.ParamSearch.{place_named_is, param_named_is}
 use Rattle.scoring.proofs.ScoreSums.{plus_zero, plus_assoc}
-use Rattle.area.specs.Inside.Slot.{slot_of}
-use Rattle.scoring.specs.Arg.{Arg}
+use Rattle.area.specs.Inside.Slot.{type_at}
+use Rattle.scoring.specs.Arg.{Arg as Seen}
 use Rattle.scoring.specs.Arity.{last_vararg}
-use Rattle.scoring.specs.Inside.Rows.{name_in, rows_in}
-use Rattle.scoring.specs.Inside.Params.{params_in, param_in, place_read, named_place}
+use Rattle.scoring.specs.Inside.Args.{args_in}
+use Rattle.scoring.specs.Inside.Params.{param_here, param_at, place_read, named_place}
 use Rattle.scoring.specs.Inside.Scored.{score_of, as_score, points_of, compared_or, named_more, named_in, positional_in, score_in}
 use Rattle.scoring.specs.Score.{param_named, unmarked_from, plus, compared, compared_with, mark_at, mark_one, marks_from, marks_of, no_marks, named_one, named_score, unnamed_one, unnamed_score, score}
-use Rattle.scoring.specs.declared.rows.Args.{Args}
+use Rattle.scoring.specs.declared.args.Arg.{Arg}
 use Rattle.scoring.specs.declared.score.NamedPass.{NamedPass}
 use Rattle.scoring.specs.declared.score.Score.{Score}
 use Rattle.rules.specs.Accept.{param_accepts}
-use Rattle.symbol.specs.Inside.LookupAnswer.{param_at}
+use Rattle.symbol.specs.Inside.LookupAnswer.{optional, param_read, params_in}
 use Rattle.symbol.specs.Symbols.{Param, Symbols}
 use Rattle.symbol.specs.Lookup.{symbols_of}
 use Rattle.symbol.specs.declared.functions.Function.{Function}
-use Rattle.symbol.specs.declared.functions.Params.{Params}
+use Rattle.symbol.specs.declared.functions.Param.{Param as Read}
 use Rattle.ty.proofs.Choice.{by_choice, choose_yes, choose_no}
 use Rattle.ty.specs.Bytes.{Ty, same_bytes}
-use Rattle.ty.specs.Name.{no_id}
 
 -- ---- a score and what it says
 score_back : (s : Option ℕ) → score_of (as_score s) ≡ s
@@ -66,39 +64,33 @@ sum_turn {s'} {left} {whole} s one rest e f g =
 sum_done : {s left whole : Option ℕ} → left ≡ some 0 → plus s left ≡ whole → s ≡ whole
 sum_done {s} {left} {whole} e g = sym (plus_none_more s) ∙ ap (λ (z : Option ℕ). plus s z) (sym e) ∙ g
 
--- ---- an argument's name
-pub name_none : (id : ℕ) → id ≡ no_id → name_in id ≡ none
-unfolding name_in
-name_none id e = choose_yes _ _ _ (eq-eqb id no_id e)
+-- ---- an argument against a parameter, by the tests of the code
+module _ (S : Symbols) (t : List ℕ) (o : Option ℕ) (x : Ty) (f : Maybe Read) (p : Read) (at : f ≡ Some p) where
+  compared_at : as_score (compared S (param_read t p) x) ≡ as_score (compared_or S o (param_here t f) x)
+  compared_at = sym (ap (λ (r : Maybe Read). as_score (compared_or S o (param_here t r) x)) at)
 
-pub name_some : (id : ℕ) → (id ≡ no_id → ⊥) → name_in id ≡ some id
-unfolding name_in
-name_some id e = choose_no _ _ _ (ne_eqb id no_id e)
+  module _ (q b : List ℕ) (part : q ≡ take p.part.len (drop p.part.start b)) (bytes : b ≡ t) (v : Bool) (same : v ≡ same_bytes x q) where
+    type_is : q ≡ (param_read t p).ty
+    type_is = part ∙ ap (λ (z : List ℕ). take p.part.len (drop p.part.start z)) bytes
 
--- ---- an argument against the parameter at a place, by the tests of the code
-module _ (S : Symbols) (t : List ℕ) (p : Params) (o : Option ℕ) (x : Ty) (place : Maybe ℕ) (j : ℕ) (at : place ≡ Some j) where
-  compared_at : as_score (compared S (param_at t p j) x) ≡ as_score (compared_or S o (param_in t p place) x)
-  compared_at = sym (ap (λ (r : Maybe ℕ). as_score (compared_or S o (param_in t p r) x)) at)
+    same_is : same_bytes x (param_read t p).ty ≡ v
+    same_is = sym (same ∙ ap (λ (z : List ℕ). same_bytes x z) type_is)
 
-  module _ (q : List ℕ) (part : q ≡ (param_at t p j).ty) (b : Bool) (same : b ≡ same_bytes x q) where
-    same_is : same_bytes x (param_at t p j).ty ≡ b
-    same_is = sym (same ∙ ap (λ (z : List ℕ). same_bytes x z) part)
-
-    pub compared_same : b ≡ true → Some (record { points = 2 }) ≡ as_score (compared_or S o (param_in t p place) x)
+    pub compared_same : v ≡ true → Some (record { points = 2 }) ≡ as_score (compared_or S o (param_here t f) x)
     unfolding compared
     compared_same e = sym (ap (λ (s : Option ℕ). as_score s) (choose_yes _ _ _ (same_is ∙ e))) ∙ compared_at
 
-    module _ (e : b ≡ false) (c : Bool) (accepts : c ≡ param_accepts S q x (param_at t p j).vararg) where
-      accepts_is : param_accepts S (param_at t p j).ty x (param_at t p j).vararg ≡ c
-      accepts_is = sym (accepts ∙ ap (λ (z : List ℕ). param_accepts S z x (param_at t p j).vararg) part)
+    module _ (e : v ≡ false) (c : Bool) (accepts : c ≡ param_accepts S q x p.vararg) where
+      accepts_is : param_accepts S (param_read t p).ty x p.vararg ≡ c
+      accepts_is = sym (accepts ∙ ap (λ (z : List ℕ). param_accepts S z x p.vararg) type_is)
 
-      pub compared_taken : c ≡ true → Some (record { points = 1 }) ≡ as_score (compared_or S o (param_in t p place) x)
+      pub compared_taken : c ≡ true → Some (record { points = 1 }) ≡ as_score (compared_or S o (param_here t f) x)
       unfolding compared
-      compared_taken f = sym (ap (λ (s : Option ℕ). as_score s) (choose_no _ _ _ (same_is ∙ e) ∙ choose_yes _ _ _ (accepts_is ∙ f))) ∙ compared_at
+      compared_taken h = sym (ap (λ (s : Option ℕ). as_score s) (choose_no _ _ _ (same_is ∙ e) ∙ choose_yes _ _ _ (accepts_is ∙ h))) ∙ compared_at
 
-      pub compared_not : c ≡ false → None ≡ as_score (compared_or S o (param_in t p place) x)
+      pub compared_not : c ≡ false → None ≡ as_score (compared_or S o (param_here t f) x)
       unfolding compared
-      compared_not f = sym (ap (λ (s : Option ℕ). as_score s) (choose_no _ _ _ (same_is ∙ e) ∙ choose_no _ _ _ (accepts_is ∙ f))) ∙ compared_at
+      compared_not h = sym (ap (λ (s : Option ℕ). as_score s) (choose_no _ _ _ (same_is ∙ e) ∙ choose_no _ _ _ (accepts_is ∙ h))) ∙ compared_at
 
 module _ (S : Symbols) where
   -- in the named pass
@@ -169,143 +161,113 @@ sum_few r s one n e h w =
     omega (arith, plus_few (score_of s) one)
 
 -- ---- the named pass
-module _ (t : List ℕ) (p : Params) (id : ℕ) (x : Ty) (m : NamedPass) where
+module _ (t : List ℕ) (p : List Read) (n : Maybe ℕ) (x : Ty) (m : NamedPass) where
   -- an unnamed argument
-  pub named_passed : id ≡ no_id → m ≡ named_more t p id x m
+  pub named_passed : n ≡ None → m ≡ named_more t p (optional n) x m
   unfolding named_one mark_one
   named_passed e =
-      let f = name_none id e in
-      pass_is (add_nothing m.score _ (ap (λ (n : Option ℕ). named_one (symbols_of t) (params_in t p) n x) f))
-      (sym (ap (λ (n : Option ℕ). mark_one (params_in t p) n m.marks) f))
+      let f : optional n ≡ none = ap (λ (k : Maybe ℕ). optional k) e in
+      pass_is (add_nothing m.score _ (ap (λ (k : Option ℕ). named_one (symbols_of t) (params_in t p) k x) f))
+      (sym (ap (λ (k : Option ℕ). mark_one (params_in t p) k m.marks) f))
 
-  -- one that names the parameter at r, if any
-  pub named_added : (id ≡ no_id → ⊥) → (r : Maybe ℕ) → r ≡ named_place t p id → (one s : Maybe Score) (marks : List Bool)
-      → one ≡ as_score (compared_or (symbols_of t) none (param_in t p r) x) → s ≡ as_score (plus (score_of m.score) (score_of one))
-      → marks ≡ mark_at (place_read r) m.marks → ◌≡◌ {A = NamedPass} (record { score = s; marks = marks }) (named_more t p id x m)
+  -- one that names the parameter q at r, if any
+  pub named_added : (id : ℕ) → n ≡ Some id → (r : Maybe ℕ) → r ≡ named_place t p id → (q : Maybe Read) → q ≡ param_at p r → (one s : Maybe Score)
+      (marks : List Bool) → one ≡ as_score (compared_or (symbols_of t) none (param_here t q) x) → s ≡ as_score (plus (score_of m.score) (score_of one))
+      → marks ≡ mark_at (place_read r) m.marks → ◌≡◌ {A = NamedPass} (record { score = s; marks = marks }) (named_more t p (optional n) x m)
   unfolding mark_one
-  named_added h r e one s marks f g k =
-      let n = name_some id h in
-      let c : score_of one ≡ named_one (symbols_of t) (params_in t p) (name_in id) x
-      = score_of_lem one _ f ∙ ap (λ (o : Option Param). compared_or (symbols_of t) none o x) (sym (param_named_is t p id r e))
-      ∙ named_is (symbols_of t) (params_in t p) id x ∙ ap (λ (z : Option ℕ). named_one (symbols_of t) (params_in t p) z x) (sym n) in
-      pass_is (g ∙ ap (λ (z : Option ℕ). as_score (plus (score_of m.score) z)) c)
+  named_added id h r e q w one s marks f g k =
+      let z : optional n ≡ some id = ap (λ (k : Maybe ℕ). optional k) h in
+      let c : score_of one ≡ named_one (symbols_of t) (params_in t p) (optional n) x
+      = score_of_lem one _ f ∙ ap (λ (o : Maybe Read). compared_or (symbols_of t) none (param_here t o) x) w
+      ∙ ap (λ (o : Option Param). compared_or (symbols_of t) none o x) (sym (param_named_is t p id r e))
+      ∙ named_is (symbols_of t) (params_in t p) id x ∙ ap (λ (k : Option ℕ). named_one (symbols_of t) (params_in t p) k x) (sym z) in
+      pass_is (g ∙ ap (λ (k : Option ℕ). as_score (plus (score_of m.score) k)) c)
       (k ∙ ap (λ (o : Option ℕ). mark_at o m.marks) (sym (place_named_is t p id r e))
-      ∙ ap (λ (z : Option ℕ). mark_one (params_in t p) z m.marks) (sym n))
+      ∙ ap (λ (k : Option ℕ). mark_one (params_in t p) k m.marks) (sym z))
 
-module _ (t : List ℕ) (p : Params) (a l : List ℕ) (x : Args) where
+module _ (t : List ℕ) (p : List Read) (ts : List Ty) (xs : List Arg) where
   -- the arguments before number i give the pass m
   pub record NamedFrom (m : NamedPass) (i : ℕ) : Type 0 where
     pub few : points_of m.score ≤ 2 * i
-    pub score : plus (score_of m.score) (named_score (symbols_of t) (params_in t p) (args_left a l x i x.count)) ≡ named_score (symbols_of t) (params_in t p) (rows_in a l x)
-    pub marked : marks_from (params_in t p) m.marks (args_left a l x i x.count) ≡ marks_of (params_in t p) (rows_in a l x)
+    pub score : plus (score_of m.score) (named_score (symbols_of t) (params_in t p) (args_in ts (drop i xs))) ≡ named_score (symbols_of t) (params_in t p) (args_in ts xs)
+    pub marked : marks_from (params_in t p) m.marks (args_in ts (drop i xs)) ≡ marks_of (params_in t p) (args_in ts xs)
 
   pub named_start : NamedFrom (record { score = Some (record { points = 0 }); marks = no_marks }) 0
-  named_start =
-      let e = args_all a l x x.count in
-      record {
-        few = omega arith;
-        score = plus_zero (named_score (symbols_of t) (params_in t p) (args_left a l x 0 x.count)) ∙ ap (λ (xs : List Arg). named_score (symbols_of t) (params_in t p) xs) e;
-        marked = ap (λ (xs : List Arg). marks_from (params_in t p) no_marks xs) e;
-      }
+  named_start = record { few = omega arith; score = plus_zero (named_score (symbols_of t) (params_in t p) (args_in ts xs)); marked = refl }
 
   module _ (m : NamedPass) (i : ℕ) (w : NamedFrom m i) where
-    pub named_next : (m' : NamedPass) (y : Ty) → i < x.count → y ≡ slot_of a l (get_or x.nodes i 0) → m' ≡ named_more t p (get_or x.names i 0) y m
-        → NamedFrom m' (i + 1)
+    pub named_next : (m' : NamedPass) (y : Ty) (d : Arg) → i < length xs → y ≡ type_at ts (get_or xs i d).node
+        → m' ≡ named_more t p (optional (get_or xs i d).name) y m → NamedFrom m' (i + 1)
     unfolding named_score marks_from
-    named_next m' y h d e' =
-        let e : m' ≡ named_more t p (get_or x.names i 0) (slot_of a l (get_or x.nodes i 0)) m = e' ∙ ap (λ (z : Ty). named_more t p (get_or x.names i 0) z m) d in
-        let g = args_next a l x i x.count h in
-        let one = named_one (symbols_of t) (params_in t p) (name_in (get_or x.names i 0)) (slot_of a l (get_or x.nodes i 0)) in
+    named_next m' y d h k e' =
+        let a = get_or xs i d in
+        let e : m' ≡ named_more t p (optional a.name) (type_at ts a.node) m = e' ∙ ap (λ (z : Ty). named_more t p (optional a.name) z m) k in
+        let g = args_next ts xs i d h in
+        let one = named_one (symbols_of t) (params_in t p) (optional a.name) (type_at ts a.node) in
         let f : m'.score ≡ as_score (plus (score_of m.score) one) = ap (λ (z : NamedPass). z.score) e in
         record {
-          few = sum_few m'.score m.score one i f (named_few (symbols_of t) (params_in t p) (name_in (get_or x.names i 0)) (slot_of a l (get_or x.nodes i 0))) w.few;
-          score = sum_turn (score_of m.score) one _ (score_of_lem m'.score _ f) (ap (λ (xs : List Arg). named_score (symbols_of t) (params_in t p) xs) g) w.score;
-          marked = ap (λ (z : NamedPass). marks_from (params_in t p) z.marks (args_left a l x (i + 1) x.count)) e
-              ∙ sym (ap (λ (xs : List Arg). marks_from (params_in t p) m.marks xs) g) ∙ w.marked;
+          few = sum_few m'.score m.score one i f (named_few (symbols_of t) (params_in t p) (optional a.name) (type_at ts a.node)) w.few;
+          score = sum_turn (score_of m.score) one _ (score_of_lem m'.score _ f) (ap (λ (xs : List Seen). named_score (symbols_of t) (params_in t p) xs) g) w.score;
+          marked = ap (λ (z : NamedPass). marks_from (params_in t p) z.marks (args_in ts (drop (i + 1) xs))) e
+              ∙ sym (ap (λ (xs : List Seen). marks_from (params_in t p) m.marks xs) g) ∙ w.marked;
         }
 
-    pub named_done : x.count ≤ i → m ≡ named_in t p (rows_in a l x)
+    pub named_done : length xs ≤ i → m ≡ named_in t p (args_in ts xs)
     unfolding named_score marks_from
     named_done h =
-        let e = args_none a l x i x.count h in
+        let e = args_none ts xs i h in
         pass_is
         (sym (score_forth m.score)
-        ∙ ap (λ (z : Option ℕ). as_score z) (sum_done (ap (λ (xs : List Arg). named_score (symbols_of t) (params_in t p) xs) e) w.score))
-        (sym (ap (λ (xs : List Arg). marks_from (params_in t p) m.marks xs) e) ∙ w.marked)
+        ∙ ap (λ (z : Option ℕ). as_score z) (sum_done (ap (λ (xs : List Seen). named_score (symbols_of t) (params_in t p) xs) e) w.score))
+        (sym (ap (λ (xs : List Seen). marks_from (params_in t p) m.marks xs) e) ∙ w.marked)
 
 -- ---- the positional pass
-module _ (S : Symbols) (f : Option Param) (v : Bool) (id : ℕ) (x : Ty) (r : Maybe Score) where
+module _ (S : Symbols) (f : Option Param) (v : Bool) (n : Maybe ℕ) (x : Ty) (r : Maybe Score) where
   -- a named argument
-  pub unnamed_passed : (id ≡ no_id → ⊥) → r ≡ as_score (plus (score_of r) (unnamed_one S f v (name_in id) x))
+  pub unnamed_passed : (id : ℕ) → n ≡ Some id → r ≡ as_score (plus (score_of r) (unnamed_one S f v (optional n) x))
   unfolding unnamed_one
-  unnamed_passed h = add_nothing r _ (ap (λ (m : Option ℕ). unnamed_one S f v m x) (name_some id h))
+  unnamed_passed id h = add_nothing r _ (ap (λ (k : Maybe ℕ). unnamed_one S f v (optional k) x) h)
 
   -- an unnamed one
-  pub unnamed_added : id ≡ no_id → (o one s : Maybe Score) → o ≡ then_some v (record { points = 1 }) → one ≡ as_score (compared_or S (score_of o) f x)
-      → s ≡ as_score (plus (score_of r) (score_of one)) → s ≡ as_score (plus (score_of r) (unnamed_one S f v (name_in id) x))
+  pub unnamed_added : n ≡ None → (o one s : Maybe Score) → o ≡ then_some v (record { points = 1 }) → one ≡ as_score (compared_or S (score_of o) f x)
+      → s ≡ as_score (plus (score_of r) (score_of one)) → s ≡ as_score (plus (score_of r) (unnamed_one S f v (optional n) x))
   unnamed_added e o one s d g k =
       k ∙ ap (λ (z : Option ℕ). as_score (plus (score_of r) z))
       (score_of_lem one _ g ∙ ap (λ (z : Maybe Score). compared_or S (score_of z) f x) d ∙ unnamed_is S f v x
-      ∙ ap (λ (m : Option ℕ). unnamed_one S f v m x) (sym (name_none id e)))
+      ∙ ap (λ (k : Maybe ℕ). unnamed_one S f v (optional k) x) (sym e))
 
-module _ (S : Symbols) (f : Option Param) (v : Bool) (a l : List ℕ) (x : Args) where
+module _ (S : Symbols) (f : Option Param) (v : Bool) (ts : List Ty) (xs : List Arg) where
   -- the arguments before number i give the score s
   pub record UnnamedFrom (s : Maybe Score) (i : ℕ) : Type 0 where
     pub few : points_of s ≤ 2 * i
-    pub score : plus (score_of s) (unnamed_score S f v (args_left a l x i x.count)) ≡ unnamed_score S f v (rows_in a l x)
+    pub score : plus (score_of s) (unnamed_score S f v (args_in ts (drop i xs))) ≡ unnamed_score S f v (args_in ts xs)
 
   pub unnamed_start : UnnamedFrom (Some (record { points = 0 })) 0
-  unnamed_start =
-      record {
-        few = omega arith;
-        score = plus_zero (unnamed_score S f v (args_left a l x 0 x.count)) ∙ ap (λ (xs : List Arg). unnamed_score S f v xs) (args_all a l x x.count);
-      }
+  unnamed_start = record { few = omega arith; score = plus_zero (unnamed_score S f v (args_in ts xs)) }
 
   module _ (s : Maybe Score) (i : ℕ) (w : UnnamedFrom s i) where
-    pub unnamed_next : (s' : Maybe Score) (y : Ty) → i < x.count → y ≡ slot_of a l (get_or x.nodes i 0)
-        → s' ≡ as_score (plus (score_of s) (unnamed_one S f v (name_in (get_or x.names i 0)) y)) → UnnamedFrom s' (i + 1)
+    pub unnamed_next : (s' : Maybe Score) (y : Ty) (d : Arg) → i < length xs → y ≡ type_at ts (get_or xs i d).node
+        → s' ≡ as_score (plus (score_of s) (unnamed_one S f v (optional (get_or xs i d).name) y)) → UnnamedFrom s' (i + 1)
     unfolding unnamed_score
-    unnamed_next s' y h d e' =
-        let one = unnamed_one S f v (name_in (get_or x.names i 0)) (slot_of a l (get_or x.nodes i 0)) in
-        let e : s' ≡ as_score (plus (score_of s) one) = e' ∙ ap (λ (z : Ty). as_score (plus (score_of s) (unnamed_one S f v (name_in (get_or x.names i 0)) z))) d in
+    unnamed_next s' y d h k e' =
+        let a = get_or xs i d in
+        let one = unnamed_one S f v (optional a.name) (type_at ts a.node) in
+        let e : s' ≡ as_score (plus (score_of s) one) = e' ∙ ap (λ (z : Ty). as_score (plus (score_of s) (unnamed_one S f v (optional a.name) z))) k in
         record {
-          few = sum_few s' s one i e (unnamed_few S f v (name_in (get_or x.names i 0)) (slot_of a l (get_or x.nodes i 0))) w.few;
-          score = sum_turn (score_of s) one _ (score_of_lem s' _ e) (ap (λ (xs : List Arg). unnamed_score S f v xs) (args_next a l x i x.count h)) w.score;
+          few = sum_few s' s one i e (unnamed_few S f v (optional a.name) (type_at ts a.node)) w.few;
+          score = sum_turn (score_of s) one _ (score_of_lem s' _ e) (ap (λ (xs : List Seen). unnamed_score S f v xs) (args_next ts xs i d h)) w.score;
         }
 
-    pub unnamed_done : x.count ≤ i → s ≡ as_score (unnamed_score S f v (rows_in a l x))
+    pub unnamed_done : length xs ≤ i → s ≡ as_score (unnamed_score S f v (args_in ts xs))
     unfolding unnamed_score
     unnamed_done h =
         sym (score_forth s)
-        ∙ ap (λ (z : Option ℕ). as_score z) (sum_done (ap (λ (xs : List Arg). unnamed_score S f v xs) (args_none a l x i x.count h)) w.score)
+        ∙ ap (λ (z : Option ℕ). as_score z) (sum_done (ap (λ (xs : List Seen). unnamed_score S f v xs) (args_none ts xs i h)) w.score)
 
 -- ---- both
-module _ (S : Symbols) where
-  named_sum_few : (ps : List Param) (xs : List Arg) → points_of (as_score (named_score S ps xs)) ≤ 2 * length xs
-  unfolding named_score
-  named_sum_few ps [] = omega arith
-  named_sum_few ps (a ∷ xs) =
-      omega
-      (arith, plus_few (named_one S ps a.name a.ty) (named_score S ps xs), named_few S ps a.name a.ty, named_sum_few ps xs)
-
-  unnamed_sum_few : (f : Option Param) (v : Bool) (xs : List Arg) → points_of (as_score (unnamed_score S f v xs)) ≤ 2 * length xs
-  unfolding unnamed_score
-  unnamed_sum_few f v [] = omega arith
-  unnamed_sum_few f v (a ∷ xs) =
-      omega
-      (arith, plus_few (unnamed_one S f v a.name a.ty) (unnamed_score S f v xs), unnamed_few S f v a.name a.ty, unnamed_sum_few f v xs)
-
--- the passes n and s of at most 16 arguments
-module _ (t : List ℕ) (f : Function) (xs : List Arg) (n : NamedPass) (s : Maybe Score) (e : n ≡ named_in t f.params xs)
+-- the passes n and s
+module _ (t : List ℕ) (f : Function) (xs : List Seen) (n : NamedPass) (s : Maybe Score) (e : n ≡ named_in t f.params xs)
     (g : s ≡ as_score (positional_in t f.params n.marks xs)) where
-  pub both_few : length xs ≤ 16 → (points_of n.score ≤ 64) × (points_of s ≤ 64)
-  both_few h =
-      let d : points_of n.score ≡ points_of (as_score (named_score (symbols_of t) (params_in t f.params) xs)) = ap (λ (z : NamedPass). points_of z.score) e in
-      let k : points_of s ≡ points_of (as_score (positional_in t f.params n.marks xs)) = ap (λ (z : Maybe Score). points_of z) g in (
-        omega (arith, named_sum_few (symbols_of t) (params_in t f.params) xs),
-        omega (arith, unnamed_sum_few (symbols_of t) (unmarked_from 0 (params_in t f.params) n.marks) (last_vararg (params_in t f.params)) xs),
-      )
-
   pub score_is : (r : Maybe Score) → r ≡ as_score (plus (score_of n.score) (score_of s)) → r ≡ as_score (score_in t f xs)
   unfolding score
   score_is r h =
@@ -320,4 +282,4 @@ pub ruleset named_one_more = (named_passed, named_added, none_few)
 
 pub ruleset unnamed_one_more = (unnamed_passed, unnamed_added, one_few, vararg_few)
 
-pub ruleset unnamed_whole = (unnamed_start, unnamed_done, free_place_is)
+pub ruleset unnamed_whole = (unnamed_start, unnamed_done)

@@ -1,5 +1,4 @@
 -- What code and proofs of the scores hand each other.
 pub mod Args
-pub mod Rows
 pub mod Params
 pub mod Scored

@@ -35,7 +35,10 @@ impl Args {
         ensures { result ≡ [] }
     {
         Args {
-            items: [Arg { node: 0, name: None }; 16],
+            items: [Arg {
+                node: 0,
+                name: None,
+            }; 16],
             count: 0,
         }
     }

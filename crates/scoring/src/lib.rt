@@ -2,6 +2,5 @@
 #![tactic(auto)]
 
 pub mod args;
-pub mod rows;
 pub mod arity;
 pub mod score;

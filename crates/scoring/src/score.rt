@@ -1,17 +1,18 @@
 // An overload's score for a call's arguments.
-ghost use Rattle.std.specs.Prelude.{ℕ, ◌≤◌, ◌<◌, ◌≡◌, List, IfSome};
-ghost use Rattle.index.specs.Inside.IndexedTable.{IndexedTable};
+ghost use Rattle.std.specs.Prelude.{ℕ, ◌≤◌, ◌<◌, ◌≡◌, List, IfSome, length};
 ghost use Rattle.symbol.specs.Lookup.{symbols_of};
-ghost use Rattle.scoring.specs.Score.{plus, unnamed_one, mark_at};
-ghost use Rattle.scoring.specs.Inside.Rows.{name_in, rows_in};
-ghost use Rattle.scoring.specs.Inside.Params.{param_in, place_read, named_place, free_place};
+ghost use Rattle.symbol.specs.Inside.LookupAnswer.{optional, params_in};
+ghost use Rattle.scoring.specs.Score.{plus, unmarked_from, unnamed_one, mark_at};
+ghost use Rattle.scoring.specs.Inside.Args.{args_in};
+ghost use Rattle.scoring.specs.Inside.Params.{param_here, param_at, place_read, named_place};
 ghost use Rattle.scoring.specs.Inside.Scored.{score_of, as_score, points_of, compared_or, named_more, named_in, positional_in, score_in};
 
-use crate::rows::Args;
+use crate::args::Args;
 use crate::arity::last_vararg;
+use area::types::{Slot, type_of};
+use index::table::Table;
 use rules::accept::param_accepts;
-use symbol::functions::{Function, Params};
-use ty::NameId;
+use symbol::functions::{Function, Param, Params};
 
 // The score of arguments that match.
 #[derive(Clone, Copy)]
@@ -42,55 +43,61 @@ fn add(a: Option<Score>, b: Option<Score>) -> Option<Score>
 
 // The place of the first parameter of a name.
 #[tactic(auto, using(crate::proofs::ParamSearch::by_name))]
-pub fn named_place(params: Params, id: u16) -> Option<usize>
-    requires { params.count ≤ 16 }
-    ensures found { (t : List ℕ) → result ≡ named_place t params id }
-    ensures below { IfSome result (λ j. j < params.count) }
+pub fn named_place(params: &Params, id: u16) -> Option<usize>
+    ensures found { (t : List ℕ) → result ≡ named_place t params.now id }
+    ensures below { IfSome result (λ j. (j < length params.now) × (length params.now ≤ 16)) }
 {
-    for j in 0..params.count {
-        if params.names[j] == id {
+    let items = params.items();
+    for j in 0..items.len() {
+        if items[j].name == id {
             return Some(j);
         }
     }
     None
 }
 
-// The place of the first parameter without a mark.
+// The parameter at a place, if there is one.
+fn at_place(params: &Params, place: Option<usize>) -> Option<Param>
+    ensures { result ≡ param_at params.now place }
+{
+    match place {
+        Some(j) => params.get(j),
+        None => None,
+    }
+}
+
+// The first parameter without a mark.
 #[tactic(auto, using(crate::proofs::ParamSearch::by_mark))]
-fn free_place(params: Params, marks: [bool; 16]) -> Option<usize>
-    requires { params.count ≤ 16 }
-    ensures found { result ≡ free_place marks 0 params.count }
-    ensures below { IfSome result (λ j. j < params.count) }
+fn free_param(params: &Params, marks: [bool; 16]) -> Option<Param>
+    ensures { (t : List ℕ) → param_here t result ≡ unmarked_from 0 (params_in t params.now) marks }
 {
-    for j in 0..params.count {
+    let items = params.items();
+    for j in 0..items.len() {
         if !marks[j] {
-            return Some(j);
+            return Some(items[j]);
         }
     }
     None
 }
 
-// An argument of the type x against the parameter at a place, and `otherwise` where there is none.
+// An argument of the type x against a parameter, and `otherwise` where there is none.
 #[tactic(auto, using(crate::proofs::Scores::comparison))]
 fn compare(
-    table: &[u8],
-    index: &[u16],
-    params: Params,
-    place: Option<usize>,
+    table: &Table<'_>,
+    param: Option<Param>,
     otherwise: Option<Score>,
     x: &[u8],
 ) -> Option<Score>
-    requires { IndexedTable table.now index.now × IfSome place (λ j. j < 16) }
-    ensures { result ≡ as_score (compared_or (symbols_of table.now) (score_of otherwise) (param_in table.now params place) x.now) }
+    ensures { result ≡ as_score (compared_or (symbols_of table.now) (score_of otherwise) (param_here table.now param) x.now) }
 {
-    let Some(j) = place else {
+    let Some(p) = param else {
         return otherwise;
     };
-    let p = area::part(table, params.starts[j], params.lens[j]);
-    if ty::same_bytes(x, p) {
+    let t = area::part(table.bytes(), p.part.start, p.part.len);
+    if ty::same_bytes(x, t) {
         return Some(Score { points: 2 });
     }
-    if param_accepts(table, index, p, x, params.varargs[j]) {
+    if param_accepts(table, t, x, p.vararg) {
         return Some(Score { points: 1 });
     }
     None
@@ -115,112 +122,94 @@ fn mark(marks: [bool; 16], place: Option<usize>) -> [bool; 16]
 // One argument more in the named pass: a named one is compared with the parameter of its name, which it marks.
 #[tactic(auto, using(crate::proofs::Scores::named_one_more))]
 fn named_turn(
-    table: &[u8],
-    index: &[u16],
-    params: Params,
-    id: u16,
+    table: &Table<'_>,
+    params: &Params,
+    name: Option<u16>,
     x: &[u8],
     m: NamedPass,
 ) -> NamedPass
-    requires { IndexedTable table.now index.now × (params.count ≤ 16) × (points_of m.score ≤ 62) }
-    ensures { result ≡ named_more table.now params id x.now m }
+    requires { points_of m.score ≤ 62 }
+    ensures { result ≡ named_more table.now params.now (optional name) x.now m }
 {
-    if id == NameId::NONE {
-        return m;
+    match name {
+        None => m,
+        Some(id) => {
+            let place = named_place(params, id);
+            let score = add(m.score, compare(table, at_place(params, place), None, x));
+            let marks = mark(m.marks, place);
+            NamedPass { score, marks }
+        }
     }
-    let place = named_place(params, id);
-    let score = add(m.score, compare(table, index, params, place, None, x));
-    let marks = mark(m.marks, place);
-    NamedPass { score, marks }
 }
 
 // The named pass.
 #[tactic(auto, using(crate::proofs::Scores::named_done))]
-fn named_pass(
-    table: &[u8],
-    index: &[u16],
-    params: Params,
-    area: &[u8],
-    lens: &[usize],
-    args: Args,
-) -> NamedPass
-    requires { IndexedTable table.now index.now × (params.count ≤ 16) × (args.count ≤ 16) }
-    ensures { result ≡ named_in table.now params (rows_in area.now lens.now args) }
+fn named_pass(table: &Table<'_>, params: &Params, slots: &[Slot], args: &Args) -> NamedPass
+    ensures is { result ≡ named_in table.now params.now (args_in slots.now args.now) }
+    ensures few { points_of result.score ≤ 64 }
 {
     let mut m = NamedPass {
         score: Some(Score { points: 0 }),
         marks: [false; 16],
     };
-    for i in 0..args.count {
-        let x = area::slot(area, lens, args.nodes[i]);
-        m = named_turn(table, index, params, args.names[i], x, m);
+    for a in args.items() {
+        m = named_turn(table, params, a.name, type_of(slots, a.node), m);
     }
     m
 }
 
-// One argument more in the positional pass: an unnamed one is compared with the parameter at a place, the first without a mark.
+// One argument more in the positional pass: an unnamed one is compared with a parameter, the first without a mark.
 // v: the last parameter is vararg.
 #[tactic(auto, using(crate::proofs::Scores::unnamed_one_more))]
 fn unnamed_turn(
-    table: &[u8],
-    index: &[u16],
-    params: Params,
-    place: Option<usize>,
+    table: &Table<'_>,
+    param: Option<Param>,
     v: bool,
-    id: u16,
+    name: Option<u16>,
     x: &[u8],
     score: Option<Score>,
 ) -> Option<Score>
-    requires { IndexedTable table.now index.now × IfSome place (λ j. j < 16) × (points_of score ≤ 62) }
+    requires { points_of score ≤ 62 }
     ensures { result ≡ as_score (plus (score_of score)
-        (unnamed_one (symbols_of table.now) (param_in table.now params place) v (name_in id) x.now)) }
+        (unnamed_one (symbols_of table.now) (param_here table.now param) v (optional name) x.now)) }
 {
-    if id != NameId::NONE {
-        return score;
+    match name {
+        Some(_) => score,
+        None => {
+            let otherwise = v.then_some(Score { points: 1 });
+            add(score, compare(table, param, otherwise, x))
+        }
     }
-    let otherwise = v.then_some(Score { points: 1 });
-    add(score, compare(table, index, params, place, otherwise, x))
 }
 
 // The positional pass.
 #[tactic(auto, using(crate::proofs::Scores::unnamed_whole))]
 fn positional_pass(
-    table: &[u8],
-    index: &[u16],
-    params: Params,
+    table: &Table<'_>,
+    params: &Params,
     marks: [bool; 16],
-    area: &[u8],
-    lens: &[usize],
-    args: Args,
+    slots: &[Slot],
+    args: &Args,
 ) -> Option<Score>
-    requires { IndexedTable table.now index.now × (params.count ≤ 16) × (args.count ≤ 16) }
-    ensures { result ≡ as_score (positional_in table.now params marks (rows_in area.now lens.now args)) }
+    ensures is { result ≡ as_score (positional_in table.now params.now marks (args_in slots.now args.now)) }
+    ensures few { points_of result ≤ 64 }
 {
-    let place = free_place(params, marks);
+    let param = free_param(params, marks);
     let v = last_vararg(params);
     let mut score = Some(Score { points: 0 });
-    for i in 0..args.count {
-        let x = area::slot(area, lens, args.nodes[i]);
-        score = unnamed_turn(table, index, params, place, v, args.names[i], x, score);
+    for a in args.items() {
+        score = unnamed_turn(table, param, v, a.name, type_of(slots, a.node), score);
     }
     score
 }
 
 // The score of an overload, and none where an argument does not match.
 #[tactic(auto, using(crate::proofs::Scores::score_is))]
-pub fn score_function(
-    table: &[u8],
-    index: &[u16],
-    f: Function,
-    area: &[u8],
-    lens: &[usize],
-    args: Args,
-) -> Option<Score>
-    requires { IndexedTable table.now index.now × (f.params.count ≤ 16) × (args.count ≤ 16) }
-    ensures { result ≡ as_score (score_in table.now f (rows_in area.now lens.now args)) }
+pub fn score_function(table: &Table<'_>, f: &Function, slots: &[Slot], args: &Args) -> Option<Score>
+    ensures { result ≡ as_score (score_in table.now f.now (args_in slots.now args.now)) }
 {
-    let params = f.params;
-    let named = named_pass(table, index, params, area, lens, args);
-    let score = positional_pass(table, index, params, named.marks, area, lens, args);
+    let params = &f.params;
+    let named = named_pass(table, params, slots, args);
+    let score = positional_pass(table, params, named.marks, slots, args);
     add(named.score, score)
 }

@@ -3,14 +3,12 @@ use Rattle.std.specs.Prelude.{ℕ, Bool, List, Option as Maybe, Some, None}
 use Rattle.std.proofs.Math.Option.{Option, none, some}
 use Rattle.ty.specs.Bytes.{Ty}
 use Rattle.symbol.specs.Lookup.{symbols_of}
-use Rattle.symbol.specs.Inside.LookupAnswer.{overload_in}
+use Rattle.symbol.specs.Inside.LookupAnswer.{params_in, overload_in}
 use Rattle.symbol.specs.Symbols.{Param, Symbols}
 use Rattle.symbol.specs.declared.functions.Function.{Function}
-use Rattle.symbol.specs.declared.functions.Params.{Params}
+use Rattle.symbol.specs.declared.functions.Param.{Param as Read}
 use Rattle.scoring.specs.Arg.{Arg}
 use Rattle.scoring.specs.Score.{compared, mark_one, marks_of, plus, named_one, named_score, positional_score, score}
-use Rattle.scoring.specs.Inside.Rows.{name_in}
-use Rattle.scoring.specs.Inside.Params.{params_in}
 use Rattle.scoring.specs.declared.score.Score.{Score}
 use Rattle.scoring.specs.declared.score.NamedPass.{NamedPass}
 
@@ -34,20 +32,17 @@ abbrev pub compared_or : Symbols → Option ℕ → Option Param → Ty → Opti
 compared_or S o none x = o
 compared_or S o (some p) x = compared S p x
 
--- the named pass n with one argument more, of the name id and the type x
-abbrev pub named_more : List ℕ → Params → ℕ → Ty → NamedPass → NamedPass
-named_more t p id x n =
-    record {
-      score = as_score (plus (score_of n.score) (named_one (symbols_of t) (params_in t p) (name_in id) x));
-      marks = mark_one (params_in t p) (name_in id) n.marks;
-    }
+-- the named pass m with one argument more, of the name n, if any, and the type x
+abbrev pub named_more : List ℕ → List Read → Option ℕ → Ty → NamedPass → NamedPass
+named_more t p n x m =
+    record { score = as_score (plus (score_of m.score) (named_one (symbols_of t) (params_in t p) n x)); marks = mark_one (params_in t p) n m.marks }
 
 -- what the named pass hands on, for the arguments xs
-abbrev pub named_in : List ℕ → Params → List Arg → NamedPass
+abbrev pub named_in : List ℕ → List Read → List Arg → NamedPass
 named_in t p xs = record { score = as_score (named_score (symbols_of t) (params_in t p) xs); marks = marks_of (params_in t p) xs }
 
 -- the score of the positional pass, with the named pass's marks
-abbrev pub positional_in : List ℕ → Params → List Bool → List Arg → Option ℕ
+abbrev pub positional_in : List ℕ → List Read → List Bool → List Arg → Option ℕ
 positional_in t p marks xs = positional_score (symbols_of t) (params_in t p) marks xs
 
 -- the score of a function that was read

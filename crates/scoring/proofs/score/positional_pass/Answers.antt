@@ -1,5 +1,6 @@
 use Rattle.scoring.proofs.Scores.{unnamed_next}
 use Rattle.scoring.proofs.score.positional_pass.Goals as goal
 
-pub loop-i-preserved : goal.loop-i-preserved
-loop-i-preserved c = unnamed_next _ _ _ _ _ _ _ _ c.loop-i.invariant _ _ c.loop-i-test.true c.slot-x.ensures c.unnamed_turn-score.ensures
+pub loop-a-preserved : goal.loop-a-preserved
+loop-a-preserved c = let e = c.items-a-items.ensures.is in
+    unnamed_next _ _ _ _ _ _ _ c.loop-a.invariant _ _ _ (rw e at c.loop-a-test.true) (rw e at c.type_of.ensures) (rw e at c.unnamed_turn-score.ensures)
