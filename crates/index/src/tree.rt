@@ -1,18 +1,14 @@
 // The search trees of the index.
 ghost use Rattle.std.specs.Prelude.{◌≡◌, ℕ, ◌+◌, ◌-◌, ◌≤◌, ◌<◌, ltb, length, drop, take};
 ghost use Rattle.ty.specs.Choose.{choose};
-ghost use Rattle.index.specs.Inside.IndexedTable.{IndexedTable};
-ghost use Rattle.index.specs.Inside.Found.{first_with, found_at};
 ghost use Rattle.index.specs.Inside.Bucket.{hash_of, word_at, round_of, digest_of};
-ghost use Rattle.record.specs.RecordKind.{record_kind_number};
 ghost use Rattle.record.specs.Inside.Walk.{WholeRecordAt};
-ghost use Rattle.index.specs.Inside.SearchKey.{tree_for, digits_for, digit_for, key_matches, KeyIn, Single};
+ghost use Rattle.index.specs.Inside.SearchKey.{tree_for, digits_for, digit_for, key_matches, KeyIn};
 ghost use Rattle.record.specs.Inside.FrontRecord.{front_record};
 ghost use Rattle.index.specs.Inside.Spot.{Open};
 ghost use Rattle.index.specs.Inside.TreeWalk.{tree_start, spot_at, TreeStepAsked, tree_step, search_of};
 
 use crate::index::{Place, bucket_count, child_at, entry_at, has_ids, key_bucket, reduced};
-use record::front::RecordKind;
 use ty::{byte_at, same_bytes};
 
 // What a search looks for: the name of the record at a place, or a kind from 2 on with its ids.
@@ -228,18 +224,4 @@ pub fn search(t: &[u8], x: &[u16], key: Key, b: usize) -> Result<Place, usize>
         c = c.step(t, x, key);
     }
     c.spot()
-}
-
-// The only record of a kind, from 2 on and not 4, with a key.
-#[tactic(auto, using(crate::proofs::Single::accepted_open, crate::proofs::Single::single_ok))]
-pub fn seek(t: &[u8], x: &[u16], kind: RecordKind, one: u16, two: u16) -> Option<Place>
-    requires { IndexedTable t.now x.now × Single (record_kind_number kind) }
-    ensures { result ≡ found_at (first_with t.now (record_kind_number kind) one two) }
-{
-    let key = Key::Ids {
-        kind: kind.number(),
-        one,
-        two,
-    };
-    search(t, x, key, tree_of(t, key)).ok()
 }
