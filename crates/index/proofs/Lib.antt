@@ -3,6 +3,7 @@ pub mod ListSearch
 pub mod Firsts
 pub mod ListWalks
 pub mod Chains
+pub mod Counted
 pub mod SearchTrees
 pub mod Paths
 pub mod Searches

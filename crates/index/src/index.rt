@@ -1,6 +1,7 @@
 // The index of a table: its entries.
 ghost use Rattle.std.specs.Prelude.{◌≡◌, ◌%◌, ◌≤◌, ◌<◌, length, get_or, set};
 ghost use Rattle.index.specs.Inside.Bucket.{key_bucket};
+ghost use Rattle.index.specs.Inside.Found.{place_at};
 ghost use Rattle.index.specs.Inside.Index.{size_of, sized, bucket_count, list_count, first_at, last_at, child_at};
 ghost use Rattle.index.specs.Inside.SearchKey.{has_ids};
 
@@ -58,6 +59,14 @@ pub fn entry_at(x: &[u16], i: usize) -> usize
     ensures { result ≡ get_or x.now i 0 }
 {
     x.get(i).copied().unwrap_or(0) as usize
+}
+
+// The record that an entry gives, by its first byte, counted from 1 there; 0 is none.
+#[tactic(auto, unfolding(crate::specs::Inside::Found::place_at))]
+pub fn place_at(x: &[u16], i: usize) -> Option<Place>
+    ensures { result ≡ place_at x.now i }
+{
+    Some(Place { at: entry_at(x, i).checked_sub(1)? })
 }
 
 // Writes an entry.

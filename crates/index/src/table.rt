@@ -9,7 +9,7 @@ ghost use Rattle.record.specs.Table.{records_of, name_count};
 ghost use Rattle.record.specs.TableRefused.{table_fault};
 
 use crate::index::{Place, entry_at};
-use crate::tree::seek;
+use crate::tree::{Key, search, tree_of};
 use record::front::RecordKind;
 use std::marker::Model;
 
@@ -58,12 +58,18 @@ impl<'a> Table<'a> {
     }
 
     // The only record of a kind, from 2 on and not 4, with a key.
-    #[tactic(auto, using(crate::proofs::Firsts::found_first))]
+    #[tactic(auto, using(crate::proofs::Firsts::found_first, crate::proofs::Single::accepted_open, crate::proofs::Single::single_ok))]
     pub fn seek(&self, kind: RecordKind, one: u16, two: u16) -> Option<Place>
         requires { Single (record_kind_number kind) }
         ensures first { result ≡ found_at (first_with self.now (record_kind_number kind) one two) }
         ensures records { FoundIs self.now (records_with (record_kind_number kind) one two (records_of self.now)) (record_kind_number kind) one two result }
     {
-        seek(self.bytes, self.index, kind, one, two)
+        let t = self.bytes;
+        let key = Key::Ids {
+            kind: kind.number(),
+            one,
+            two,
+        };
+        search(t, self.index, key, tree_of(t, key)).ok()
     }
 }

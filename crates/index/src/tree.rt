@@ -1,18 +1,14 @@
 // The search trees of the index.
 ghost use Rattle.std.specs.Prelude.{◌≡◌, ℕ, ◌+◌, ◌-◌, ◌≤◌, ◌<◌, ltb, length, drop, take};
 ghost use Rattle.ty.specs.Choose.{choose};
-ghost use Rattle.index.specs.Inside.IndexedTable.{IndexedTable};
-ghost use Rattle.index.specs.Inside.Found.{first_with, found_at};
 ghost use Rattle.index.specs.Inside.Bucket.{hash_of, word_at, round_of, digest_of};
-ghost use Rattle.record.specs.RecordKind.{record_kind_number};
 ghost use Rattle.record.specs.Inside.Walk.{WholeRecordAt};
-ghost use Rattle.index.specs.Inside.SearchKey.{tree_for, digits_for, digit_for, key_matches, KeyIn, Single};
+ghost use Rattle.index.specs.Inside.SearchKey.{tree_for, digits_for, digit_for, key_matches, KeyIn};
 ghost use Rattle.record.specs.Inside.FrontRecord.{front_record};
 ghost use Rattle.index.specs.Inside.Spot.{Open};
 ghost use Rattle.index.specs.Inside.TreeWalk.{tree_start, spot_at, TreeStepAsked, tree_step, search_of};
 
-use crate::index::{Place, bucket_count, child_at, entry_at, has_ids, key_bucket, reduced};
-use record::front::RecordKind;
+use crate::index::{Place, bucket_count, child_at, has_ids, key_bucket, place_at, reduced};
 use ty::{byte_at, same_bytes};
 
 // What a search looks for: the name of the record at a place, or a kind from 2 on with its ids.
@@ -162,12 +158,12 @@ fn has(t: &[u8], p: usize, key: Key) -> bool
     }
 }
 
-// A place in the tree of a key: an entry of the index, the record here by its first byte, counted from 1 (0 where the entry is empty), how many records are
-// above it, and the number that the last digit was taken from.
+// A place in the tree of a key: an entry of the index, the record here (none where the entry is empty), how many records are above it, and the number that the
+// last digit was taken from.
 #[derive(Clone, Copy)]
 pub struct TreeCursor {
     pub entry: usize,
-    pub here: usize,
+    pub here: Option<Place>,
     pub depth: usize,
     pub digits: usize,
 }
@@ -182,7 +178,7 @@ impl TreeCursor {
         let entry = 1 + b;
         TreeCursor {
             entry,
-            here: entry_at(x, entry),
+            here: place_at(x, entry),
             depth: 0,
             digits: 0,
         }
@@ -192,23 +188,20 @@ impl TreeCursor {
     pub fn spot(self) -> Result<Place, usize>
         ensures { result ≡ spot_at self }
     {
-        if self.here == 0 {
-            return Err(self.entry);
-        }
-        Ok(Place { at: self.here - 1 })
+        self.here.ok_or(self.entry)
     }
 
-    // One record down, as the key's next digit says.
+    // One record down from the record p here, as the key's next digit says.
     #[tactic(auto, unfolding(crate::specs::Inside::TreeWalk::tree_step))]
-    pub fn step(self, t: &[u8], x: &[u16], key: Key) -> TreeCursor
+    pub fn step(self, t: &[u8], x: &[u16], key: Key, p: Place) -> TreeCursor
         requires { TreeStepAsked t.now key self }
-        ensures { result ≡ tree_step t.now x.now key self }
+        ensures { result ≡ tree_step t.now x.now key self p }
     {
         let h = digits(t, key, self.digits, self.depth);
-        let entry = child_at(t.len(), self.here - 1, digit(t, key, h, self.depth));
+        let entry = child_at(t.len(), p.at, digit(t, key, h, self.depth));
         TreeCursor {
             entry,
-            here: entry_at(x, entry),
+            here: place_at(x, entry),
             depth: self.depth + 1,
             digits: h,
         }
@@ -221,25 +214,11 @@ pub fn search(t: &[u8], x: &[u16], key: Key, b: usize) -> Result<Place, usize>
     ensures { result ≡ search_of t.now x.now key }
 {
     let mut c = TreeCursor::new(x, b);
-    while c.here != 0 {
-        if has(t, c.here - 1, key) {
-            return c.spot();
+    while let Some(p) = c.here {
+        if has(t, p.at, key) {
+            return Ok(p);
         }
-        c = c.step(t, x, key);
+        c = c.step(t, x, key, p);
     }
     c.spot()
-}
-
-// The only record of a kind, from 2 on and not 4, with a key.
-#[tactic(auto, using(crate::proofs::Single::accepted_open, crate::proofs::Single::single_ok))]
-pub fn seek(t: &[u8], x: &[u16], kind: RecordKind, one: u16, two: u16) -> Option<Place>
-    requires { IndexedTable t.now x.now × Single (record_kind_number kind) }
-    ensures { result ≡ found_at (first_with t.now (record_kind_number kind) one two) }
-{
-    let key = Key::Ids {
-        kind: kind.number(),
-        one,
-        two,
-    };
-    search(t, x, key, tree_of(t, key)).ok()
 }

@@ -1,5 +1,5 @@
 -- What a search for the records of a kind with a key finds.
-use Rattle.std.specs.Prelude.{ℕ, zero, suc, ◌+◌, ◌≤◌, ◌<◌, length, drop, false, List, [], ◌∷◌, ◌≡◌, Option, None, Some}
+use Rattle.std.specs.Prelude.{ℕ, zero, suc, ◌+◌, ◌≤◌, ◌<◌, length, get_or, drop, false, List, [], ◌∷◌, ◌≡◌, Option, None, Some}
 use Rattle.index.specs.declared.index.Place.{Place}
 use Rattle.record.specs.Inside.Front.{front_of}
 use Rattle.record.specs.Inside.FrontRecord.{front_record}
@@ -30,6 +30,10 @@ Found = Option Place
 abbrev pub found_at : ℕ → Found
 found_at zero = None
 found_at (suc p) = Some (record { at = p })
+
+-- the record that entry i of an index gives
+abbrev pub place_at : List ℕ → ℕ → Found
+place_at x i = found_at (get_or x i 0)
 
 -- one that stands at a place, and the others behind it
 pub record HereIs (t : List ℕ) (all : List Record) (k a b : ℕ) (p : Place) : Type 0 where

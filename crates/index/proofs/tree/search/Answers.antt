@@ -14,22 +14,20 @@ loop-c-init c = sought_start c.args.t.now c.args.x.now c.args.key c.requires.0 c
 
 pub has-requires : goal.has-requires
 has-requires c = (
-  (sought_node c.args.t.now c.args.x.now c.args.key c.requires.0 c.loop-c.c c.loop-c.invariant c.loop-c-test.true).begun,
+  (sought_node c.args.t.now c.args.x.now c.args.key c.requires.0 c.loop-c.c c.loop-c.invariant _ c.in-Some.is).begun,
   c.requires.1,
   c.requires.0.short,
 )
 
 pub returns-then-has : goal.returns-then-has
-returns-then-has c = c.spot.ensures ∙ sought_found c.args.t.now c.args.x.now c.args.key c.requires.0 c.loop-c.c c.loop-c.invariant
-    (sym c.has.ensures ∙ c.if-has.true)
+returns-then-has c = sought_found c.args.t.now c.args.x.now c.args.key c.requires.0 c.loop-c.c c.loop-c.invariant _ c.in-Some.is (sym c.has.ensures ∙ c.if-has.true)
 
 pub loop-c-smaller : goal.loop-c-smaller
-loop-c-smaller c = sought_less c.args.t.now c.args.x.now c.args.key c.requires.0 c.loop-c.c c.loop-c.invariant c.loop-c-test.true c.step-c.result
-    c.step-c.ensures
+loop-c-smaller c = sought_less c.args.t.now c.args.x.now c.args.key c.requires.0 c.loop-c.c c.loop-c.invariant _ c.in-Some.is c.step-c.result c.step-c.ensures
 
 pub loop-c-preserved : goal.loop-c-preserved
-loop-c-preserved c = sought_next c.args.t.now c.args.x.now c.args.key c.requires.0 c.loop-c.c c.loop-c.invariant c.loop-c-test.true
-    (sym c.has.ensures ∙ c.if-has.false) c.step-c.result c.step-c.ensures
+loop-c-preserved c = sought_next c.args.t.now c.args.x.now c.args.key c.requires.0 c.loop-c.c c.loop-c.invariant _ c.in-Some.is (sym c.has.ensures ∙ c.if-has.false)
+    c.step-c.result c.step-c.ensures
 
 pub returns : goal.returns
-returns c = c.spot-2.ensures ∙ sought_end c.args.t.now c.args.x.now c.args.key c.requires.0 c.loop-c.c c.loop-c.invariant c.loop-c-test.false
+returns c = c.spot.ensures ∙ sought_end c.args.t.now c.args.x.now c.args.key c.requires.0 c.loop-c.c c.loop-c.invariant c.in_default.is
