@@ -7,10 +7,8 @@ use mathlib.Core.Bool.{Bool, true, false}
 use mathlib.Core.List.{List, []}
 use mathlib.Core.Path.{◌≡◌, refl, sym, ap, ◌∙◌, subst}
 use native.Mathlib.Omega.{arith}
-use Rattle.index.proofs.ListSearch.{first_yes, first_no, sits_cons, sits_next, sits_later, sits-length, here_is, searched_at}
-use Rattle.index.specs.Inside.Found.{first_in, first_with, first_from, found_at, FoundIs}
-use Rattle.index.specs.Inside.IndexedTable.{IndexedTable}
-use Rattle.index.specs.Inside.Searched.{Searched, with_at}
+use Rattle.index.proofs.ListSearch.{first_yes, first_no, sits_cons, sits_next, sits_later, sits-length, here_is}
+use Rattle.index.specs.Inside.Found.{first_in, first_with, found_at, FoundIs, first_behind}
 use Rattle.index.specs.Inside.Found.{Found}
 use Rattle.record.proofs.Accepts.{with_no}
 use Rattle.record.proofs.Records.{at_start, records-end}
@@ -73,10 +71,9 @@ module _ (t : List ℕ) (clean : table_fault t ≡ 0) (k a b : ℕ) where
   found_first r e =
       subst (λ (z : Found). FoundIs t (records_with k a b (records_of t)) k a b z) (sym e) (told (length t) 0 (omega arith) (record { index = 0; at = at_start t }))
 
--- of the first function from another on
-pub found_from : (t x : List ℕ) → IndexedTable t x → (a b v : ℕ) → Searched t v a b → (r : Found) → r ≡ found_at (first_from t 4 a b v) → FoundIs t (with_at t v a b) 4 a b r
-found_from t x ok a b v s r e = subst (λ (z : Found). FoundIs t (with_at t v a b) 4 a b z) (sym e) (go v s)
-  where
-    go : (u : ℕ) → Searched t u a b → FoundIs t (with_at t u a b) 4 a b (found_at (first_from t 4 a b u))
-    go zero q = refl
-    go (suc p) q = told t ok.clean 4 a b (length t) p (omega arith) (searched_at t x ok a b (suc p) q p refl).sits
+-- of the first behind a record
+pub found_behind : (t : List ℕ) → table_fault t ≡ 0 → (k a b p : ℕ) → Sits t p → p < length t → (r : Found) → r ≡ found_at (first_behind t k a b p)
+    → FoundIs t (records_with k a b (records_of (drop (behind t p) t))) k a b r
+found_behind t clean k a b p w some r e =
+    subst (λ (z : Found). FoundIs t (records_with k a b (records_of (drop (behind t p) t))) k a b z) (sym e)
+    (told t clean k a b (length t) (behind t p) (omega arith) (sits_next t p w some))

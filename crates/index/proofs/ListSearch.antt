@@ -11,10 +11,10 @@ use native.Mathlib.Numerals.{add-one}
 use native.Mathlib.Omega.{arith, not-le}
 use Rattle.index.proofs.Buckets.{list-below, list_kind_of}
 use Rattle.index.specs.Inside.Bucket.{key_bucket, bucket_of}
-use Rattle.index.specs.Inside.Found.{first_in, first_from, HereIs, FunctionAt}
+use Rattle.index.specs.Inside.Found.{first_in, first_from, HereIs, FunctionAt, first_with, first_behind}
 use Rattle.index.specs.Inside.Index.{list_count, list_in, first_at, next_in, next_from, next_at}
 use Rattle.index.specs.Inside.IndexedTable.{IndexedTable}
-use Rattle.index.specs.Inside.Searched.{Searched, with_at}
+use Rattle.index.specs.Inside.Searched.{Searched}
 use Rattle.index.specs.declared.index.Place.{Place}
 use Rattle.record.proofs.Accepts.{CleanFrom, clean_at, with_no}
 use Rattle.record.proofs.Agree.{same_size, same_error}
@@ -336,13 +336,7 @@ module _ (t x : List ℕ) (ok : IndexedTable t x) (a b v : ℕ) (s : Searched t 
               let w = reach t bucket r (length t - behind t p) (behind t p) (omega arith) (sits_next t p searched_at.sits searched_at.some) (sym q) in
               omega (arith, w.later, w.some, sits_later t p searched_at.sits searched_at.some)
 
--- the functions of a search are those of the table from its byte on
-pub searched_all : (t : List ℕ) (a b v : ℕ) (s : Searched t v a b) → with_at t v a b ≡ records_with 4 a b (records_of (drop s.from t))
-searched_all t a b zero s = sym (none_left t (length t) _ a b refl s.from _ (sym s.is))
-searched_all t a b (suc p) s =
-    sym ((reach t (key_bucket 4 a b % list_count (length t)) p (length t - s.from) s.from (omega arith) s.sits (sym s.is)).same a b refl)
-
--- and so is the first of them
+-- the first function of a search is the table's first from its byte on
 pub searched_from : (t : List ℕ) (a b v : ℕ) (s : Searched t v a b) → first_from t 4 a b v ≡ first_in 4 a b s.from (records_of (drop s.from t))
 searched_from t a b zero s = sym (none_first t (length t) _ a b refl s.from _ (sym s.is))
 searched_from t a b (suc p) s =
@@ -389,10 +383,11 @@ module _ (t x : List ℕ) (ok : IndexedTable t x) where
   list-first a b r e h v q =
       record { from = 0; sits = sits-start; is = q ∙ ok.indexed.first r h ∙ ap (λ (z : ℕ). next_from t z 0) e }
 
-  pub list_all : (a b r : ℕ) (e : r ≡ key_bucket 4 a b % list_count (length t)) (h : r < list_count (length t)) (v : ℕ) (q : v ≡ get_or x (first_at (length t) r) 0)
-      → with_at t v a b ≡ records_with 4 a b (records_of t)
+  pub first_of_list : (a b r : ℕ) (e : r ≡ key_bucket 4 a b % list_count (length t)) (h : r < list_count (length t)) (v : ℕ)
+      (q : v ≡ get_or x (first_at (length t) r) 0)
+      → first_from t 4 a b v ≡ first_with t 4 a b
   unfolding list-first
-  list_all a b r e h v q = searched_all t a b v (list-first a b r e h v q)
+  first_of_list a b r e h v q = searched_from t a b v (list-first a b r e h v q)
 
   module _ (p : Place) (f : FunctionAt t p) (a b : ℕ) (ea : a ≡ id_at t (p.at + 1)) (eb : b ≡ id_at t (p.at + 3)) (v : ℕ)
       (q : v ≡ get_or x (next_at (length t) p.at) 0) where
@@ -414,12 +409,9 @@ module _ (t x : List ℕ) (ok : IndexedTable t x) where
           is = q ∙ ok.indexed.next p.at f.sits f.some (function_kind_lem t p f) ∙ ap (λ (z : ℕ). next_from t z (behind t p.at)) key;
         }
 
-    pub next_all : with_at t v a b ≡ records_with 4 (id_at t (p.at + 1)) (id_at t (p.at + 3)) (records_of (drop (behind t p.at) t))
+    pub next_of_list : first_from t 4 a b v ≡ first_behind t 4 a b p.at
     unfolding next_first
-    next_all =
-        searched_all t a b v next_first
-        ∙ ap (λ (z : ℕ). records_with 4 z b (records_of (drop (behind t p.at) t))) ea
-        ∙ ap (λ (z : ℕ). records_with 4 (id_at t (p.at + 1)) z (records_of (drop (behind t p.at) t))) eb
+    next_of_list = searched_from t a b v next_first
 
 -- ---- what stands in a record that was found
 module _ (t : List ℕ) (all : List Record) (k a b : ℕ) (p : Place) (h : HereIs t all k a b p) where

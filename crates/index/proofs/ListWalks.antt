@@ -6,16 +6,14 @@ use mathlib.Core.List.{List}
 use mathlib.Core.Path.{◌≡◌, refl, sym, ap, ◌∙◌, subst}
 use native.Mathlib.Omega.{arith}
 use Rattle.index.proofs.Buckets.{list-below}
-use Rattle.index.proofs.ListSearch.{left_of, positive, searched_at, searched_first, searched_on, searched_less, searched_same, list-first, list_all}
+use Rattle.index.proofs.ListSearch.{left_of, positive, searched_at, searched_first, searched_on, searched_less, searched_same, list-first, first_of_list, next_first, next_of_list}
 use Rattle.index.specs.Inside.Bucket.{key_bucket}
 use Rattle.index.specs.Inside.Found.{first_from}
 use Rattle.index.specs.Inside.IndexedTable.{IndexedTable}
-use Rattle.index.specs.Inside.ListWalk.{list_start, here_has_key, list_step, list_followed, NextAsked}
-use Rattle.index.specs.Inside.Searched.{Searched, with_at}
+use Rattle.index.specs.Inside.ListWalk.{list_start, here_has_key, list_step, list_followed, list_first, list_next, place_listed, AtListed}
+use Rattle.index.specs.Inside.Searched.{Searched}
 use Rattle.index.specs.declared.list.ListCursor.{ListCursor}
 use Rattle.record.proofs.Accepts.{accepted_short}
-use Rattle.record.specs.Inside.Keyed.{records_with}
-use Rattle.record.specs.Table.{records_of}
 
 -- the cursor is at the first function of its bucket from some byte on
 abbrev pub ListAt : List ℕ → ListCursor → Type 0
@@ -28,11 +26,6 @@ moved c v = record { owner = c.owner; name = c.name; here = v }
 pub stays_end : (t : List ℕ) (c : ListCursor) → c.here ≡ 0 → c ≡ list_followed t c
 unfolding list_followed
 stays_end t c z = ap (moved c) (z ∙ ap (first_from t 4 c.owner c.name) (sym z))
-
--- behind a function whose entry leads on in the bucket
-pub next_at_list : (t x : List ℕ) (c : ListCursor) → NextAsked t x c → ListAt t (list_step (length t) x c)
-unfolding list_step
-next_at_list t x c a = a.searched
 
 module _ (t x : List ℕ) (ok : IndexedTable t x) (c : ListCursor) (s : ListAt t c) where
   module _ (z : c.here ≡ 0 → ⊥) where
@@ -73,6 +66,21 @@ module _ (t x : List ℕ) (ok : IndexedTable t x) (a b : ℕ) where
   unfolding list_start
   start_at = list-first t x ok a b _ refl (list-below (key_bucket 4 a b) (length t)) _ refl
 
-  pub start_all : with_at t (list_start (length t) x a b).here a b ≡ records_with 4 a b (records_of t)
-  unfolding list_start
-  start_all = list_all t x ok a b _ refl (list-below (key_bucket 4 a b) (length t)) _ refl
+  -- the first of them with the owner and the name is the table's first
+  pub start_first : list_followed t (list_start (length t) x a b) ≡ list_first t a b
+  unfolding list_start list_followed list_first
+  start_first =
+      ap (λ (n : ℕ). record { owner = a; name = b; here = n })
+      (first_of_list t x ok a b _ refl (list-below (key_bucket 4 a b) (length t)) _ refl)
+
+-- ---- the cursor behind a function with its owner and name
+module _ (t x : List ℕ) (ok : IndexedTable t x) (c : ListCursor) (h : AtListed t c) where
+  pub next_at : ListAt t (list_step (length t) x c)
+  unfolding list_step
+  next_at = next_first t x ok (place_listed c) h.function c.owner c.name h.owner h.name _ refl
+
+  pub next_list : list_followed t (list_step (length t) x c) ≡ list_next t c
+  unfolding list_step list_followed list_next
+  next_list =
+      ap (λ (n : ℕ). record { owner = c.owner; name = c.name; here = n })
+      (next_of_list t x ok (place_listed c) h.function c.owner c.name h.owner h.name _ refl)

@@ -5,11 +5,13 @@ ghost use Rattle.index.specs.Inside.Found.{found_at};
 ghost use Rattle.index.specs.Inside.Entered.{EntryAsked, link_at, entered};
 ghost use Rattle.index.specs.Inside.Index.{list_count};
 ghost use Rattle.index.specs.Inside.Searched.{Searched};
-ghost use Rattle.index.specs.Inside.ListWalk.{list_start, here_has_key, list_step, list_followed, NextAsked};
+ghost use Rattle.record.specs.TableRefused.{table_fault};
+ghost use Rattle.index.specs.Inside.ListWalk.{list_start, here_has_key, list_step, list_followed, list_first, list_next, AtListed};
 
 use crate::index::{
     Place, child_at, entry_at, first_at, has_ids, key_bucket, last_at, list_reduced, put,
 };
+use crate::table::Table;
 
 // Where the entry for a function stands that comes into bucket b behind its last function, or as its first.
 #[tactic(auto, unfolding(crate::specs::Inside::Entered::link_at, ty::specs::Choose::choose))]
@@ -92,7 +94,7 @@ impl ListCursor {
     }
 
     // At the first function with the owner and the name, from here on.
-    pub fn follow(self, t: &[u8], x: &[u16]) -> ListCursor
+    fn follow(self, t: &[u8], x: &[u16]) -> ListCursor
         requires { IndexedTable t.now x.now × Searched t.now self.here self.owner self.name }
         ensures { result ≡ list_followed t.now self }
     {
@@ -105,21 +107,23 @@ impl ListCursor {
         }
         c
     }
+
     // At the first function with an owner and a name.
-    #[tactic(auto, using(crate::proofs::ListWalks::start_at))]
-    pub fn first(t: &[u8], x: &[u16], owner: u16, name: u16) -> ListCursor
-        requires { IndexedTable t.now x.now }
-        ensures { result ≡ list_followed t.now (list_start (length t.now) x.now owner name) }
+    pub fn first(table: &Table<'_>, owner: u16, name: u16) -> ListCursor
+        ensures first { result ≡ list_first table.now owner name }
+        ensures accepted { table_fault table.now ≡ 0 }
     {
+        let (t, x) = (table.bytes(), table.index());
         ListCursor::new(t, x, owner, name).follow(t, x)
     }
 
     // At the first function with the owner and the name behind the one here.
-    #[tactic(auto, using(crate::proofs::ListWalks::next_at_list))]
-    pub fn next(self, t: &[u8], x: &[u16]) -> ListCursor
-        requires { IndexedTable t.now x.now × NextAsked t.now x.now self }
-        ensures { result ≡ list_followed t.now (list_step (length t.now) x.now self) }
+    pub fn next(self, table: &Table<'_>) -> ListCursor
+        requires { AtListed table.now self }
+        ensures next { result ≡ list_next table.now self }
+        ensures accepted { table_fault table.now ≡ 0 }
     {
+        let (t, x) = (table.bytes(), table.index());
         self.step(t, x).follow(t, x)
     }
 }

@@ -1,21 +1,19 @@
 -- The cursor along the functions of an owner and a name, step by step.
 use Prim.Native.Nat.{ℕ, zero, suc, ◌+◌, ◌-◌, ◌<◌}
-use lib.ListN.{length}
+use lib.ListN.{drop}
 use mathlib.Core.List.{List}
 use mathlib.Core.Path.{◌≡◌, refl, sym, ap, ◌∙◌, subst}
 use native.Mathlib.Omega.{arith}
-use Rattle.index.proofs.Firsts.{found_from}
-use Rattle.index.proofs.ListSearch.{next_first, next_all}
-use Rattle.index.proofs.ListWalks.{start_at, start_all}
-use Rattle.index.specs.Inside.Found.{FoundIs, FunctionAt, first_from, found_at}
-use Rattle.index.specs.Inside.IndexedTable.{IndexedTable}
-use Rattle.index.specs.Inside.ListWalk.{list_start, list_step, list_followed, NextAsked}
-use Rattle.index.specs.Inside.Searched.{Searched, with_at}
+use Rattle.index.proofs.Firsts.{found_first, found_behind}
+use Rattle.index.specs.Inside.Found.{FunctionAt, first_with, first_behind, found_at}
+use Rattle.index.specs.Inside.ListWalk.{list_first, list_next, AtListed}
 use Rattle.std.specs.Prelude.{None, Some}
 use Rattle.index.specs.Inside.Found.{Found}
 use Rattle.index.specs.declared.index.Place.{Place}
 use Rattle.index.specs.declared.list.ListCursor.{ListCursor}
-use Rattle.record.specs.Table.{Record}
+use Rattle.record.specs.Inside.Keyed.{records_with}
+use Rattle.record.specs.Inside.Walk.{behind}
+use Rattle.record.specs.Table.{Record, records_of}
 use Rattle.record.specs.TableRefused.{table_fault}
 use Rattle.symbol.proofs.FunctionLists.{first_searched, next_searched, first-keyed, next_keyed}
 use Rattle.symbol.specs.Inside.FunctionCursor.{here_of, cursor_at, functions_first, found_here, place_here, functions_next, AtFunction, Along}
@@ -33,49 +31,44 @@ found_here_lem None = refl
 found_here_lem (Some p) = refl
 
 -- ---- what the code does
-module _ (t x : List ℕ) (ok : IndexedTable t x) where
+pub next_asked : (t : List ℕ) (c : Functions) → AtFunction t c → AtListed t c.list
+next_asked t c a = record { some = a.some; function = a.function; owner = a.owner; name = a.name }
+
+module _ (t : List ℕ) (clean : table_fault t ≡ 0) where
   module _ (owner name : ℕ) where
-    abbrev S : ListCursor
-    S = list_start (length t) x owner name
+    first_found : found_at (first_with t 4 owner name) ≡ first_place (function_places t owner name)
+    first_found = first_searched t clean owner name (found_at (first_with t 4 owner name)) (found_first t clean 4 owner name _ refl)
 
-    first_found : found_at (first_from t 4 owner name S.here) ≡ first_place (function_places t owner name)
-    unfolding list_start
-    first_found =
-        first_searched t ok.clean owner name (found_at (first_from t 4 owner name S.here))
-        (subst (λ (z : List Record). FoundIs t z 4 owner name (found_at (first_from t 4 owner name S.here))) (start_all t x ok owner name)
-        (found_from t x ok owner name S.here (start_at t x ok owner name) (found_at (first_from t 4 owner name S.here)) refl))
-
-    pub first_is : (r : ListCursor) → r ≡ list_followed t S → record { list = r } ≡ functions_first t owner name
-    unfolding list_start list_followed functions_first
+    pub first_is : (r : ListCursor) → r ≡ list_first t owner name → record { list = r } ≡ functions_first t owner name
+    unfolding list_first functions_first
     first_is r f =
-        let h = sym (here_found (first_from t 4 owner name S.here)) ∙ ap here_of first_found in
+        let h = sym (here_found (first_with t 4 owner name)) ∙ ap here_of first_found in
         (λ i. record { list = f i }) ∙ (λ i. record { list = record { owner = owner; name = name; here = h i } })
 
   module _ (c : Functions) (a : AtFunction t c) where
-    abbrev N : ListCursor
-    N = list_step (length t) x c.list
+    abbrev o : ℕ
+    o = c.list.owner
 
-    next_searched_from : Searched t N.here c.list.owner c.list.name
-    unfolding list_step
-    next_searched_from = next_first t x ok (place_here c) a.function c.list.owner c.list.name a.owner a.name N.here refl
+    abbrev n : ℕ
+    n = c.list.name
 
-    pub next_asked : NextAsked t x c.list
-    next_asked = record { some = a.some; searched = next_searched_from }
+    abbrev p : Place
+    p = place_here c
 
-    next_found : found_at (first_from t 4 c.list.owner c.list.name N.here) ≡ first_place (places_behind t (place_here c))
-    unfolding list_step
+    abbrev rest : ℕ → ℕ → List Record
+    rest x y = records_with 4 x y (records_of (drop (behind t p.at) t))
+
+    next_found : found_at (first_behind t 4 o n p.at) ≡ first_place (places_behind t p)
     next_found =
-        next_searched t ok.clean (place_here c) a.function c.list.owner c.list.name a.owner a.name
-        (with_at t N.here c.list.owner c.list.name)
-        (next_all t x ok (place_here c) a.function c.list.owner c.list.name a.owner a.name N.here refl)
-        (found_at (first_from t 4 c.list.owner c.list.name N.here))
-        (found_from t x ok c.list.owner c.list.name N.here next_searched_from (found_at (first_from t 4 c.list.owner c.list.name N.here)) refl)
+        next_searched t clean p a.function o n a.owner a.name (rest o n)
+        (ap (λ (z : ℕ). rest z n) a.owner ∙ ap (λ (z : ℕ). rest (id_at t (p.at + 1)) z) a.name)
+        (found_at (first_behind t 4 o n p.at)) (found_behind t clean 4 o n p.at a.function.sits a.function.some _ refl)
 
-    pub next_is : (r : ListCursor) → r ≡ list_followed t N → record { list = r } ≡ functions_next t c
-    unfolding list_step list_followed functions_next
+    pub next_is : (r : ListCursor) → r ≡ list_next t c.list → record { list = r } ≡ functions_next t c
+    unfolding list_next functions_next
     next_is r f =
-        let h = sym (here_found (first_from t 4 c.list.owner c.list.name N.here)) ∙ ap here_of next_found in
-        (λ i. record { list = f i }) ∙ (λ i. record { list = record { owner = c.list.owner; name = c.list.name; here = h i } })
+        let h = sym (here_found (first_behind t 4 o n p.at)) ∙ ap here_of next_found in
+        (λ i. record { list = f i }) ∙ (λ i. record { list = record { owner = o; name = n; here = h i } })
 
 -- ---- WHAT STANDS AT A CURSOR
 pub first-here : (t : List ℕ) (owner name : ℕ) (c : Functions) → c ≡ functions_first t owner name → found_here c ≡ first_place (function_places t owner name)

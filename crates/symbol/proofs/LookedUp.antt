@@ -4,9 +4,9 @@ use lib.Dec.{eqb}
 use lib.ListN.{get_or, drop}
 use mathlib.Core.Bool.{false}
 use mathlib.Core.List.{List, []}
-use mathlib.Core.Path.{◌≡◌, refl, sym, ap, ◌∙◌}
+use mathlib.Core.Path.{◌≡◌, refl, sym}
 use native.Mathlib.Omega.{arith}
-use Rattle.index.proofs.ListSearch.{place-two, place-fits, place_inside, place_byte, place_id}
+use Rattle.index.proofs.ListSearch.{place-two, place-fits, place_byte, place_id}
 use Rattle.index.specs.Inside.Found.{HereIs}
 use Rattle.index.specs.declared.index.Place.{Place}
 use Rattle.record.proofs.Agree.{same_size}
@@ -16,7 +16,7 @@ use Rattle.record.specs.Layout.{record_size}
 use Rattle.record.specs.Table.{Record, records_of}
 use Rattle.record.specs.TableRefused.{table_fault}
 use Rattle.std.proofs.Math.Option as maybe
-use Rattle.std.specs.Prelude.{Option, None, Some}
+use Rattle.std.specs.Prelude.{None, Some}
 use Rattle.symbol.proofs.FieldPlaces.{field_searched}
 use Rattle.symbol.proofs.LaidLookups.{super_told, package_told, types_told, mask_told, visibility_told}
 use Rattle.symbol.specs.Inside.Places.{field_part}
@@ -24,7 +24,6 @@ use Rattle.symbol.specs.Lookup.{symbols_of}
 use Rattle.ty.proofs.Known.{known_none}
 use Rattle.ty.specs.Bytes.{id_at}
 use Rattle.ty.specs.Name.{known_id}
-use Rattle.ty.specs.declared.Part.{Part}
 
 -- the records of kind k with the key a, b
 abbrev found : List ℕ → ℕ → ℕ → ℕ → List Record

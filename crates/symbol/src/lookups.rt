@@ -98,7 +98,7 @@ impl Functions {
         ensures { result ≡ functions_first table.now owner name }
     {
         Functions {
-            list: ListCursor::first(table.bytes(), table.index(), owner, name),
+            list: ListCursor::first(table, owner, name),
         }
     }
 
@@ -109,7 +109,7 @@ impl Functions {
         ensures { result ≡ functions_next table.now self }
     {
         Functions {
-            list: self.list.next(table.bytes(), table.index()),
+            list: self.list.next(table),
         }
     }
 

@@ -22,6 +22,10 @@ abbrev pub first_from : List ℕ → ℕ → ℕ → ℕ → ℕ → ℕ
 first_from t k a b zero = 0
 first_from t k a b (suc p) = first_in k a b p (records_of (drop p t))
 
+-- the first behind the record at byte p
+abbrev pub first_behind : List ℕ → ℕ → ℕ → ℕ → ℕ → ℕ
+first_behind t k a b p = first_in k a b (behind t p) (records_of (drop (behind t p) t))
+
 -- what a search for a record finds: its place, or nothing
 abbrev pub Found : Type 0
 Found = Option Place

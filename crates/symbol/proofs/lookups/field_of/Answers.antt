@@ -1,7 +1,7 @@
 use Prim.Native.Nat.{ℕ}
 use lib.ListN.{length}
 use mathlib.Core.List.{List}
-use mathlib.Core.Path.{ap, ◌∙◌, sym}
+use mathlib.Core.Path.{ap, ◌∙◌}
 use native.Mathlib.Omega.{arith}
 use Rattle.record.specs.Inside.Walk.{behind}
 use Rattle.symbol.proofs.LookedUp.{no_field, field_here, field_behind, field_length}

@@ -1,0 +1,9 @@
+use Rattle.index.proofs.ListWalks.{next_at, next_list}
+use Rattle.index.proofs.list.ListCursor.next.Goals as goal
+
+pub follow-requires : goal.follow-requires
+follow-requires c = rw (c.step.ensures, c.bytes-t.ensures.bytes) (c.index-x.ensures, next_at _ _ c.index-x.ensures c.args.self c.requires)
+
+pub returns-clause-next : goal.returns-clause-next
+returns-clause-next c =
+    rw (c.follow.ensures, c.step.ensures, c.bytes-t.ensures.bytes) (next_list _ _ c.index-x.ensures c.args.self c.requires)
