@@ -3,7 +3,6 @@ use lib.ListN.{replicate}
 use mathlib.Core.List.{[], ◌∷◌}
 use mathlib.Core.Path.{◌≡◌, refl}
 use Rattle.area.specs.Diagnostic.{Diag, record_of, records, put_one, put_all}
-use Rattle.area.specs.Inside.Slot.{slot_of, store, store_len}
 use Rattle.area.specs.Source.{type_from}
 use Rattle.area.specs.declared.Source.TheVariants.{ListOf, Name, Inner, Pointer, Part, Function}
 use Rattle.ty.specs.Bytes.{inner_of}
@@ -27,8 +26,3 @@ pub sources : (type_from [] [] [] (Name 0) ≡ 17 ∷ 0 ∷ 0 ∷ []) × (type_f
     × (type_from (5 ∷ 12 ∷ 8 ∷ 5 ∷ []) [] [] (Function 1 2) ≡ 18 ∷ 0 ∷ 12 ∷ 8 ∷ [])
 unfolding type_from inner_of choose
 sources = (refl, refl, refl, refl, refl, refl)
-
--- what is stored in slot 1 lies there
-pub slots : slot_of (store (replicate 512 0) 1 (12 ∷ 8 ∷ [])) (store_len (replicate 2 0) 1 (12 ∷ 8 ∷ [])) 1 ≡ 12 ∷ 8 ∷ []
-unfolding slot_of store store_len
-slots = refl

@@ -39,6 +39,10 @@ holds_here s m t h = record { is = get_or-set_same s m t [] h; inside = rw (leng
 pub holds_under : (s : List Ty) (m n : ℕ) (t u : Ty) → m < n → Holds s m u → Holds (set s n t) m u
 holds_under s m n t u h w = record { is = get_or-set_other s n m t [] (λ e. omega arith) ∙ w.is; inside = rw (length-set s n t) w.inside }
 
+-- a node that holds something, with a number higher than its parent's
+pub child_of : (s : List Ty) (node m : ℕ) (t : Ty) → node < m → Holds s m t → Child s node m
+child_of s node m t h w = record { past = h; inside = w.inside }
+
 -- ---- several slots
 pub all_hold_more : (s : List Ty) (lo hi : ℕ) (ms : List ℕ) (ts : List Ty) → lo ≤ hi → AllHold s hi ms ts → AllHold s lo ms ts
 unfolding AllHold

@@ -29,7 +29,7 @@ impl Model for Slot {
 
 impl Slot {
     // A slot that holds nothing.
-    pub fn new() -> Slot
+    pub const fn new() -> Slot
         ensures { result ≡ [] }
     {
         Slot {

@@ -6,13 +6,13 @@ use lib.ListN.{length}
 use mathlib.Core.List.{List}
 use mathlib.Core.Path.{◌≡◌}
 use native.Mathlib.Omega.{arith}
-use Rattle.area.proofs.Slots.{lent_still}
 use Rattle.cycle.specs.Inside.Contract.{short_question, few_slots, middle_question, some_slots, slots_for, Space}
 use Rattle.area.specs.Inside.Slot.{slot_count}
 use Rattle.question.proofs.NodeReading.{room_of}
 use Rattle.question.specs.Inside.Stands.{TreeStands, RowStands}
 use Rattle.question.specs.Tree.{Node, Row, leaf, binary, unary, named, member, call, method, nil, cons, size, sizes, bytes, bytess}
 use Rattle.ty.proofs.Choice.{by_choice, choose_yes}
+use Rattle.ty.specs.Bytes.{Ty}
 use Rattle.ty.specs.Choose.{choose}
 
 pub slots_few : (n : ℕ) → slots_for n ≤ 64
@@ -37,11 +37,11 @@ slots_some n =
     by_choice (λ (m : ℕ). 1 ≤ m) _ (λ _. omega arith) (λ _. omega arith)
 
 -- ---- what is lent
-pub some_slots_lem : {q a l : List ℕ} → Space q a l → 1 ≤ length l
+pub some_slots_lem : {q : List ℕ} {ts : List Ty} → Space q ts → 1 ≤ length ts
 some_slots_lem {q} w = omega (arith, w.enough, slots_some (length q))
 
-pub space_still : {q a a' l l' : List ℕ} → length a' ≡ length a → length l' ≡ length l → Space q a l → Space q a' l'
-space_still {a = a} {a' = a'} {l = l} {l' = l'} e f w = record { lent = lent_still a a' l l' e f w.lent; enough = omega (arith, w.enough) }
+pub space_still : {q : List ℕ} {ts ts' : List Ty} → length ts' ≡ length ts → Space q ts → Space q ts'
+space_still e w = record { enough = omega (arith, w.enough) }
 
 -- ---- a node has at least 2 bytes
 mutual

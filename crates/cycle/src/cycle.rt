@@ -1,71 +1,71 @@
 // The node judge and the argument-row judge.
-ghost use Rattle.index.specs.Inside.IndexedTable.{IndexedTable};
 ghost use Rattle.cycle.specs.Inside.Contract.{Space, NodeAsked, JudgesNode, RowAsked, JudgesRow};
 
+use area::reports::Reports;
+use area::types::Slot;
+use index::table::Table;
 use nodes::calls::{RowJudged, begin_call, begin_method, finish_call, unlisted};
 use nodes::progress::{State, argument_name, inside};
 use nodes::rule::{finish_binary, finish_member, finish_named, finish_unary, judge_leaf};
 use question::Header;
 use question::node::{Node, node_at};
-use scoring::args::Args;
+use scoring::args::{Arg, Args};
 use ty::Kind;
 
 // Judges the tree whose root stands at s.at and has number s.node. Its type comes to lie in that number's slot.
 #[cycle(judge_node_judge_row)]
 pub fn judge_node(
-    table: &[u8],
-    index: &[u16],
+    table: &Table<'_>,
     q: &[u8],
     header: Header,
     s: State,
-    area: &mut [u8],
-    lens: &mut [usize],
-    buf: &mut [u8],
+    slots: &mut [Slot],
+    reports: &mut Reports<'_>,
 ) -> State
-    requires { Space q.now area.old lens.old × IndexedTable table.now index.now × NodeAsked q.now s }
-    ensures { JudgesNode table.now q.now header s area lens buf result }
+    requires { Space q.now slots.old × NodeAsked q.now s reports.old }
+    ensures { JudgesNode table.now q.now header s slots.old slots.new reports.old reports.new result }
 {
     let node = s.node;
+    let bytes = table.bytes();
     let Ok(read) = node_at(q, s.at) else {
         return s; // an accepted question has a node here
     };
     match read {
-        Node::Leaf { len, top: _ } => judge_leaf(q, len, s, area, lens),
+        Node::Leaf { len, top: _ } => judge_leaf(q, len, s, slots),
         Node::Binary { op } => {
-            let l = judge_node(table, index, q, header, inside(s, 2), area, lens, buf);
-            let r = judge_node(table, index, q, header, l, area, lens, buf);
-            finish_binary(table, index, op, node, l.node, r, area, lens, buf)
+            let l = judge_node(table, q, header, inside(s, 2), slots, reports);
+            let r = judge_node(table, q, header, l, slots, reports);
+            finish_binary(table, op, node, l.node, r, slots, reports)
         }
         Node::Unary { op } => {
-            let x = judge_node(table, index, q, header, inside(s, 2), area, lens, buf);
-            finish_unary(table, op, node, x, area, lens, buf)
+            let x = judge_node(table, q, header, inside(s, 2), slots, reports);
+            finish_unary(bytes, op, node, x, slots, reports)
         }
         Node::Named { id: _ } => {
-            let x = judge_node(table, index, q, header, inside(s, 3), area, lens, buf);
-            finish_named(table, node, x, area, lens)
+            let x = judge_node(table, q, header, inside(s, 3), slots, reports);
+            finish_named(bytes, node, x, slots)
         }
         Node::Member { id } => {
-            let x = judge_node(table, index, q, header, inside(s, 3), area, lens, buf);
-            finish_member(table, index, header, id, node, x, area, lens, buf)
+            let x = judge_node(table, q, header, inside(s, 3), slots, reports);
+            finish_member(table, header, id, node, x, slots, reports)
         }
         Node::Call { id, count } => {
-            let c = begin_call(table, index, header, id, node, inside(s, 4), buf);
-            match c.list {
-                None => unlisted(table, q, Kind::Error, count, node, c.state, area, lens),
+            let s = inside(s, 4);
+            match begin_call(table, header, id, node, reports) {
+                None => unlisted(bytes, q, Kind::Error, count, node, s, slots),
                 Some(owner) => {
-                    let r = judge_row(table, index, q, header, c.state, count, area, lens, buf);
-                    finish_call(table, index, owner, id, node, r, area, lens, buf)
+                    let r = judge_row(table, q, header, s, count, slots, reports);
+                    finish_call(table, owner, id, node, &r, slots, reports)
                 }
             }
         }
         Node::Method { id, count } => {
-            let x = judge_node(table, index, q, header, inside(s, 4), area, lens, buf);
-            let c = begin_method(table, index, header, id, node, x, area, lens, buf);
-            match c.list {
-                None => unlisted(table, q, Kind::Any, count, node, c.state, area, lens),
+            let x = judge_node(table, q, header, inside(s, 4), slots, reports);
+            match begin_method(table, header, id, node, slots, reports) {
+                None => unlisted(bytes, q, Kind::Any, count, node, x, slots),
                 Some(owner) => {
-                    let r = judge_row(table, index, q, header, c.state, count, area, lens, buf);
-                    finish_call(table, index, owner, id, node, r, area, lens, buf)
+                    let r = judge_row(table, q, header, x, count, slots, reports);
+                    finish_call(table, owner, id, node, &r, slots, reports)
                 }
             }
         }
@@ -75,32 +75,25 @@ pub fn judge_node(
 // Judges n arguments, the first of which stands at s.at.
 #[cycle(judge_node_judge_row)]
 fn judge_row(
-    table: &[u8],
-    index: &[u16],
+    table: &Table<'_>,
     q: &[u8],
     header: Header,
     s: State,
     n: u8,
-    area: &mut [u8],
-    lens: &mut [usize],
-    buf: &mut [u8],
+    slots: &mut [Slot],
+    reports: &mut Reports<'_>,
 ) -> RowJudged
-    requires { Space q.now area.old lens.old × IndexedTable table.now index.now × RowAsked q.now s 0 n }
-    ensures { JudgesRow table.now q.now header s n area lens buf result }
+    requires { Space q.now slots.old × RowAsked q.now s reports.old 0 n }
+    ensures { JudgesRow table.now q.now header s n slots.old slots.new reports.old reports.new result }
 {
-    let count = n as usize;
-    let mut nodes = [0usize; 16];
-    let mut names = [0u16; 16];
+    let mut args = Args::new();
     let mut e = s;
-    for k in 0..count {
-        nodes[k] = e.node;
-        names[k] = argument_name(q, e.at);
-        e = judge_node(table, index, q, header, e, area, lens, buf);
+    for k in 0..n {
+        args.push(Arg {
+            node: e.node,
+            name: argument_name(q, e.at),
+        });
+        e = judge_node(table, q, header, e, slots, reports);
     }
-    let args = Args {
-        count,
-        nodes,
-        names,
-    };
     RowJudged { args, state: e }
 }

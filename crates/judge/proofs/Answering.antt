@@ -2,13 +2,14 @@
 use Prim.Native.Nat.{ℕ, zero, suc, ◌+◌, ◌*◌, ◌≤◌}
 use borrow.Author.Tests.{eq-eqb, ne_eqb, ltb-false, eqb-true}
 use lib.Dec.{eqb, ltb}
-use lib.ListN.{length, get_or, length-take, length-replicate}
+use lib.ListN.{length, length-replicate}
 use lib.Seq.{sets}
 use mathlib.Core.Bool.{Bool, true, false, ◌&&◌}
 use mathlib.Core.List.{List, [], ◌∷◌}
 use mathlib.Core.Path.{◌≡◌, refl, sym, ap, subst, ◌∙◌}
 use native.Mathlib.Omega.{arith}
 use Rattle.area.proofs.Diagnostics.{put_all-length, put_padded}
+use Rattle.area.proofs.Reporting.{reported_bytes}
 use Rattle.written.proofs.ListFacts.{sets-zeros}
 use Rattle.area.specs.Diagnostic.{Diag, record_length, records, put_all}
 use Rattle.cycle.proofs.Spaces.{tree_room}
@@ -20,20 +21,21 @@ use Rattle.judge.specs.declared.refusal.Refusal.{Refusal}
 use Rattle.judge.specs.declared.refusal.Refusal.TheVariants.{Table, Question, TypeTooLong, ShortBuffer}
 use Rattle.cycle.proofs.Holding.{space_behind, tree_held}
 use Rattle.cycle.specs.Inside.Contract.{Space, NodeAsked, NodeIs}
-use Rattle.index.specs.Inside.IndexedTable.{IndexedTable}
-use Rattle.nodes.specs.Inside.AreaFilled.{AreaFilled}
+use Rattle.area.specs.Reported.{reported}
+use Rattle.area.specs.declared.reports.Reports.{Reports}
+use Rattle.nodes.proofs.Reaching.{reached_count}
+use Rattle.nodes.specs.Inside.SlotsFilled.{SlotsFilled}
 use Rattle.written.specs.Padding.{padded_to}
-use Rattle.area.specs.Inside.Slot.{SlotHolds, slot_of}
+use Rattle.area.specs.Inside.Slot.{Holds, type_at}
 use Rattle.nodes.specs.declared.progress.State.{State}
 use Rattle.question.proofs.Accepted.{accepted}
-use Rattle.question.proofs.QuestionFaults.{some_number}
+use Rattle.question.proofs.Faults.{some_number}
 use Rattle.question.specs.FaultNumber.{question_fault_number}
 use Rattle.question.specs.Header.{header_of}
 use Rattle.question.specs.Parse.{tree_of}
 use Rattle.question.specs.QuestionRefused.{question_fault}
 use Rattle.question.specs.declared.Header.{Header}
 use Rattle.question.specs.declared.QuestionFault.{QuestionFault}
-use Rattle.symbol.proofs.AcceptedTable.{names_few}
 use Rattle.symbol.proofs.Verdicts.{fault_some}
 use Rattle.symbol.specs.TableFault.{table_fault_number}
 use Rattle.symbol.specs.declared.checks.TableFault.{TableFault}
@@ -41,7 +43,7 @@ use Rattle.record.specs.TableRefused.{table_fault}
 use Rattle.record.specs.Table.{records_of, name_count}
 use Rattle.ty.proofs.Choice.{by_choice, choose_yes, choose_no}
 use Rattle.ty.specs.Choose.{choose}
-use Rattle.ty.specs.Name.{no_id, first_table_id}
+use Rattle.ty.specs.Bytes.{Ty}
 use Rattle.typing.proofs.Answers.{no_fault, answer_judged}
 use Rattle.typing.proofs.Demand1.{demand1}
 use Rattle.typing.proofs.Demand3.{demand3}
@@ -57,23 +59,18 @@ number_short : (len count lent : ℕ) → root_refusal len count lent ≡ None �
 unfolding root_refusal
 number_short len count lent = by_choice (λ (o : Option Refusal). o ≡ None → len ≤ answer_bytes) _ (λ _ z. absurd (cc)) (λ e _. ltb-false answer_bytes len e)
 
-module _ (s : State) (a l b : List ℕ) (o : Option Refusal) (is : o ≡ root_refusal (get_or l 0 0) s.count (length b)) where
-  pub root_no : (r : Refusal) → o ≡ Some r → (ty : List ℕ) → ty ≡ zeros answer_bytes → (b' : List ℕ) → b' ≡ zeros (length b) → RootIs s a l b b' (outcome_is (Err r) ty)
+module _ (s : State) (count : ℕ) (root : Ty) (b : List ℕ) (o : Option Refusal) (is : o ≡ root_refusal (length root) count (length b)) where
+  pub root_no : (r : Refusal) → o ≡ Some r → (ty : List ℕ) → ty ≡ zeros answer_bytes → (b' : List ℕ) → b' ≡ zeros (length b) → RootIs s count root b b' (outcome_is (Err r) ty)
   unfolding root_answer root_buffer
   root_no r e ty f b' g = record { answer = rw (← is, e, f); buffer = rw (← is, e) g }
 
-  pub root_yes : o ≡ None → (j : Outcome) → j.len ≡ get_or l 0 0 → j.count ≡ s.count → j.pass ≡ passes_at s → (ty : List ℕ) → ty ≡ padded_to answer_bytes (slot_of a l 0)
-      → RootIs s a l b b (outcome_is (Ok j) ty)
+  pub root_yes : o ≡ None → (j : Outcome) → j.len ≡ length root → j.count ≡ count → j.pass ≡ passes_at s count → (ty : List ℕ) → ty ≡ padded_to answer_bytes root
+      → RootIs s count root b b (outcome_is (Ok j) ty)
   unfolding root_answer root_buffer
   root_yes z j e f g ty h = record { answer = rw (← is, z, e, f, g, h); buffer = rw (← is, z) refl }
 
-  pub root_short : o ≡ None → length (slot_of a l 0) ≤ 256
-  unfolding slot_of
-  root_short z = let h : get_or l 0 0 ≤ answer_bytes = number_short (get_or l 0 0) s.count (length b) (sym is ∙ z) in simp length-take (omega arith)
-
--- ---- fewer names than ids
-names_known : (t : List ℕ) → table_fault t ≡ 0 → first_table_id + name_count (records_of t) ≤ no_id
-names_known t e = omega (arith, names_few t e)
+  pub root_short : o ≡ None → length root ≤ 256
+  root_short z = number_short (length root) count (length b) (sym is ∙ z)
 
 -- ---- a judgement's answer
 no_diag_lem : (ds : List Diag) → no_diag ds ≡ eqb (length ds) 0
@@ -82,11 +79,11 @@ no_diag_lem [] = refl
 no_diag_lem (d ∷ ds) = sym (ne_eqb (suc (length ds)) 0 (λ z. omega arith))
 
 -- the mark of the state behind the root is that of its judgement
-passes_at_lem : (s : State) (j : Judged) → s.count ≡ length j.diags → s.fine ≡ no_error j.typed → passes_at s ≡ passes j
+passes_at_lem : (s : State) (count : ℕ) (j : Judged) → count ≡ length j.diags → s.fine ≡ no_error j.typed → passes_at s count ≡ passes j
 unfolding passes_at passes
-passes_at_lem s j e f = rw (e, f, no_diag_lem j.diags)
+passes_at_lem s count j e f = rw (e, f, no_diag_lem j.diags)
 
-module _ (lent : ℕ) (s : State) (j : Judged) (a l b : List ℕ) (held : SlotHolds a l 0 j.ty) (cnt : s.count ≡ length j.diags) (fine : s.fine ≡ no_error j.typed)
+module _ (lent : ℕ) (s : State) (count : ℕ) (j : Judged) (root : Ty) (b : List ℕ) (held : root ≡ j.ty) (cnt : count ≡ length j.diags) (fine : s.fine ≡ no_error j.typed)
     (is : b ≡ put_all (zeros lent) 0 j.diags) where
   buffer_long : length b ≡ lent
   buffer_long = ap (λ (w : List ℕ). length w) is ∙ put_all-length (zeros lent) 0 j.diags ∙ length-replicate lent 0
@@ -94,23 +91,23 @@ module _ (lent : ℕ) (s : State) (j : Judged) (a l b : List ℕ) (held : SlotHo
   abbrev refusal : Option Refusal
   refusal = root_refusal (length j.ty) (length j.diags) lent
 
-  refusal_is : root_refusal (get_or l 0 0) s.count (length b) ≡ refusal
-  refusal_is = rw (held.len, cnt, buffer_long)
+  refusal_is : root_refusal (length root) count (length b) ≡ refusal
+  refusal_is = rw (held, cnt, buffer_long)
 
-  by_refusal : root_answer refusal s j.ty (length j.ty) ≡ answered lent j
+  by_refusal : root_answer refusal s count j.ty ≡ answered lent j
   unfolding root_answer root_refusal answered choose
   by_refusal =
-      let g : ◌≡◌ {A = of.Answer} (record { number = 0; pass = mark_of (passes_at s); ty = padded_to answer_bytes j.ty; len = length j.ty; count = s.count }) (given j)
-      = λ i. record { number = 0; pass = mark_of (passes_at_lem s j cnt fine i); ty = padded_to answer_bytes j.ty; len = length j.ty; count = cnt i } in
+      let g : ◌≡◌ {A = of.Answer} (record { number = 0; pass = mark_of (passes_at s count); ty = padded_to answer_bytes j.ty; len = length j.ty; count = count }) (given j)
+      = λ i. record { number = 0; pass = mark_of (passes_at_lem s count j cnt fine i); ty = padded_to answer_bytes j.ty; len = length j.ty; count = cnt i } in
       go g (ltb answer_bytes (length j.ty)) (ltb lent (record_length * length j.diags))
     where
-      go : root_answer None s j.ty (length j.ty) ≡ given j → (y z : Bool) → root_answer (choose y (Some TypeTooLong) (choose z (Some ShortBuffer) None)) s j.ty (length j.ty) ≡ choose y (refused 13) (choose z (refused 12) (given j))
+      go : root_answer None s count j.ty ≡ given j → (y z : Bool) → root_answer (choose y (Some TypeTooLong) (choose z (Some ShortBuffer) None)) s count j.ty ≡ choose y (refused 13) (choose z (refused 12) (given j))
       go e true z = refl
       go e false true = refl
       go e false false = e
 
-  pub root_is : root_answer (root_refusal (get_or l 0 0) s.count (length b)) s (slot_of a l 0) (get_or l 0 0) ≡ answered lent j
-  root_is = rw (refusal_is, held.is, held.len) by_refusal
+  pub root_is : root_answer (root_refusal (length root) count (length b)) s count root ≡ answered lent j
+  root_is = rw (refusal_is, held) by_refusal
 
   by_buffer : root_buffer refusal b ≡ choose (eqb (answered lent j).number 0) (padded_to lent (records j.diags)) (zeros lent)
   unfolding root_buffer root_refusal answered choose
@@ -123,7 +120,7 @@ module _ (lent : ℕ) (s : State) (j : Judged) (a l b : List ℕ) (held : SlotHo
       go false true e = ap zeros buffer_long
       go false false e = is ∙ put_padded lent j.diags (ltb-false lent (record_length * length j.diags) e)
 
-  pub buffer_is : root_buffer (root_refusal (get_or l 0 0) s.count (length b)) b ≡ choose (eqb (answered lent j).number 0) (padded_to lent (records j.diags)) (zeros lent)
+  pub buffer_is : root_buffer (root_refusal (length root) count (length b)) b ≡ choose (eqb (answered lent j).number 0) (padded_to lent (records j.diags)) (zeros lent)
   buffer_is = rw refusal_is by_buffer
 
 -- ---- a refusal before anything is judged
@@ -161,8 +158,8 @@ module _ (t q : List ℕ) (lent : ℕ) where
 
   -- ---- the judgement
   module _ (clean : table_fault t ≡ 0) (fine : question_fault (names_of t) q ≡ 0) where
-    pub root_asked : NodeAsked q (record { at = 5; node = 0; count = 0; fine = true })
-    root_asked =
+    pub root_asked : {b : Reports} → b.count ≡ 0 → NodeAsked q (record { at = 5; node = 0; fine = true }) b
+    root_asked z =
         let w = accepted (names_of t) q fine in
         record {
           tree = tree_of q;
@@ -170,42 +167,50 @@ module _ (t q : List ℕ) (lent : ℕ) where
           stands = w.tree.stands;
           legal = w.tree.legal;
           room = omega (arith, tree_room q (tree_of q) 5 w.tree.stands w.tree.ends w.tree.few);
-          within = record { long = w.short; known = names_known t clean; few = omega arith };
+          within = record { long = w.short; few = omega arith };
         }
 
-    module _ {H : Header} (head : H ≡ header_of q) {a₀ a l₀ l b₀ b : List ℕ} {s : State} (clear : b₀ ≡ zeros lent)
-        (is : (x : NodeAsked q (record { at = 5; node = 0; count = 0; fine = true })) → NodeIs t H (record { at = 5; node = 0; count = 0; fine = true }) a₀ a l₀ l b₀ b s x.tree) where
-      root_node : NodeIs t (header_of q) (record { at = 5; node = 0; count = 0; fine = true }) a₀ a l₀ l (zeros lent) b s (tree_of q)
+    module _ {H : Header} (head : H ≡ header_of q) {ts ts' : List Ty} {b₀ b : Reports} {s : State} (clear : b₀.buf.now ≡ zeros lent) (none : b₀.count ≡ 0)
+        (is : (x : NodeAsked q (record { at = 5; node = 0; fine = true }) b₀) → NodeIs t H (record { at = 5; node = 0; fine = true }) ts ts' b₀ b s x.tree) where
+      root_node : NodeIs t (header_of q) (record { at = 5; node = 0; fine = true }) ts ts' b₀ b s (tree_of q)
       unfolding root_asked
-      root_node = rw (head, clear) at (is root_asked)
+      root_node = rw head at (is (root_asked none))
 
-      pub root_filled : AreaFilled a₀ a l₀ l (judgement_of t q).typed
+      pub root_filled : SlotsFilled ts ts' (judgement_of t q).typed
       root_filled = root_node.filled
 
-      pub root_few : s.count ≤ 4294967296
-      root_few =
-          let w = accepted (names_of t) q fine in
-          let cnt : s.count ≡ 0 + length (judgement_of t q).diags = ap (λ (z : State). z.count) root_node.reached.result in
-          omega (arith, root_node.few, w.tree.few)
+      root_count : b.count ≡ length (judgement_of t q).diags
+      root_count = omega (arith, reached_count root_node.reached)
 
-      root_held : {index : List ℕ} → IndexedTable t index → Space q a₀ l₀ → SlotHolds a l 0 (judgement_of t q).ty
-      root_held ok room =
+      pub root_few : b.count ≤ 4294967296
+      root_few = let w = accepted (names_of t) q fine in omega (arith, root_count, root_node.few, w.tree.few)
+
+      root_bytes : b.buf.now ≡ put_all (zeros lent) 0 (judgement_of t q).diags
+      root_bytes =
+          ap (λ (x : Reports). x.buf.now) root_node.reached.reports ∙ reported_bytes b₀ (judgement_of t q).diags
+          ∙ ap (λ (w : List ℕ). put_all w b₀.count (judgement_of t q).diags) clear ∙ ap (λ (n : ℕ). put_all (zeros lent) n (judgement_of t q).diags) none
+
+      -- the reports are still in the buffer that was lent
+      pub root_same : b₀.buf.ghost_name ≡ b.buf.ghost_name
+      unfolding reported
+      root_same = ap (λ (x : Reports). x.buf.ghost_name) (sym root_node.reached.reports)
+
+      root_held : Space q ts → Holds ts' 0 (judgement_of t q).ty
+      root_held room =
           let k = (accepted (names_of t) q fine).tree in
-          tree_held ok (header_of q) q (tree_of q) 0 5 k.stands (omega (arith, tree_room q (tree_of q) 5 k.stands k.ends k.few)) root_filled (space_behind root_filled room)
+          tree_held (record { clean = clean }) (header_of q) q (tree_of q) 0 5 k.stands (omega (arith, tree_room q (tree_of q) 5 k.stands k.ends k.few)) root_filled (space_behind root_filled room)
 
-      pub ret_judged : {index : List ℕ} → IndexedTable t index → Space q a₀ l₀ → {b' : List ℕ} {r : of.Answer} → RootIs s a l b b' r → Answered t q lent r b'
+      pub ret_judged : Space q ts → {b' b₁ : List ℕ} {r : of.Answer} → RootIs s b.count (type_at ts' 0) b.buf.now b₁ r → b' ≡ b₁ → Answered t q lent r b'
       unfolding buffer_of
-      ret_judged ok room {b'} {r} w =
-          let top : SlotHolds a l 0 (judgement_of t q).ty = root_held ok room in
+      ret_judged room {b'} {r = r} w same =
+          let top : type_at ts' 0 ≡ (judgement_of t q).ty = (root_held room).is in
           let j : Judged = judgement_of t q in
-          let zero : 0 + length j.diags ≡ length j.diags = omega arith in
-          let cnt : s.count ≡ length j.diags = ap (λ (z : State). z.count) root_node.reached.result ∙ zero in
           let mark : s.fine ≡ no_error j.typed = ap (λ (z : State). z.fine) root_node.reached.result in
-          let root = root_is lent s j a l b top cnt mark root_node.reached.buffer in
+          let root = root_is lent s b.count j (type_at ts' 0) b.buf.now top root_count mark root_bytes in
           let ans : answer_of t q lent ≡ answered lent j = answer_judged t q lent (no_fault t q lent clean fine) in
           record {
             answer = w.answer ∙ root ∙ sym ans;
-            buffer = w.buffer ∙ buffer_is lent s j a l b top cnt mark root_node.reached.buffer
+            buffer = same ∙ w.buffer ∙ buffer_is lent s b.count j (type_at ts' 0) b.buf.now top root_count mark root_bytes
                 ∙ ap (λ (z : of.Answer). choose (eqb z.number 0) (padded_to lent (records j.diags)) (zeros lent)) (sym ans);
           }
 

@@ -7,7 +7,6 @@ mod root;
 
 ghost use Rattle.std.specs.Prelude.{◌≡◌};
 ghost use Rattle.typing.specs.Answer.{answer_bytes, zeros};
-ghost use Rattle.area.specs.Inside.Slot.{Lent};
 ghost use Rattle.typing.specs.Demand1.{Demand1};
 ghost use Rattle.judge.specs.Answered.{answer_is, outcome_is, Answered, AnsweredInto, AcceptedDemand3, OfCall};
 

@@ -1,19 +1,24 @@
 // Room for the index and the slots: little is cleared for a short table and a short question.
-ghost use Rattle.std.specs.Prelude.{◌*◌, ◌≤◌, ◌≡◌, length};
-ghost use Rattle.area.specs.Inside.Slot.{slot_size, slot_count};
+ghost use Rattle.std.specs.Prelude.{◌≤◌, ◌≡◌, length};
+ghost use Rattle.area.specs.Inside.Slot.{slot_count};
 ghost use Rattle.cycle.specs.Inside.Contract.{Space, slots_for};
 ghost use Rattle.index.specs.Inside.Index.{index_size};
-ghost use Rattle.index.specs.Inside.IndexedTable.{IndexedTable, IndexRoom};
+ghost use Rattle.index.specs.Inside.IndexedTable.{IndexRoom};
 ghost use Rattle.record.specs.Table.{records_of, name_count};
+ghost use Rattle.record.specs.TableRefused.{table_fault};
 ghost use Rattle.judge.specs.Answered.{AnsweredInto};
 ghost use Rattle.judge.specs.Inside.Room.{Clear, Ready, JudgedIn, IndexedIn};
 
 use crate::root::answer_root;
 use crate::{Judged, Refusal};
+use area::reports::Reports;
+use area::types::{Slot, type_of};
 use cycle::cycle::judge_node;
 use index::index::TableSize;
+use index::table::Table;
 use nodes::progress::State;
 use question::{Names, check_question, read_header};
+use std::array;
 use symbol::checks::check_table;
 
 // A question of so many bytes has at most 8 nodes.
@@ -35,7 +40,7 @@ pub fn judge_sized(
 {
     if table.is_empty() {
         let index = [0u16; 1];
-        return judge_checked(table, &index, 0, question, diagnostics, ty);
+        return judge_checked(&Table::new(table, &index), 0, question, diagnostics, ty);
     }
     match TableSize::of(table.len()) {
         TableSize::Short => judge_with_room::<1461>(table, question, diagnostics, ty),
@@ -73,103 +78,82 @@ fn judge_with(
     ensures indexed_in { IndexedIn table.now index }
 {
     let names = check_table(table, index)?;
-    judge_checked(table, index, names, question, diagnostics, ty)
+    judge_checked(&Table::new(table, index), names, question, diagnostics, ty)
 }
 
 // Judges a question against an accepted table, which has so many names.
 fn judge_checked(
-    table: &[u8],
-    index: &[u16],
+    table: &Table<'_>,
     names: u16,
     question: &[u8],
     diagnostics: &mut [u8],
     ty: &mut [u8],
 ) -> Result<Judged, Refusal>
-    requires { Clear diagnostics.old ty.old × IndexedTable table.now index.now × (names ≡ name_count (records_of table.now)) }
+    requires { Clear diagnostics.old ty.old × (table_fault table.now ≡ 0) × (names ≡ name_count (records_of table.now)) }
     ensures { AnsweredInto table.now question.now diagnostics ty result }
 {
     check_question(question, Names { count: names })?;
-    judge_accepted(table, index, question, diagnostics, ty)
+    judge_accepted(table, question, diagnostics, ty)
 }
 
 // Judges an accepted question, with as many slots as its length asks.
 #[tactic(auto, using(cycle::proofs::Spaces::slots_short, cycle::proofs::Spaces::slots_middle, cycle::proofs::Spaces::slots_few))]
 fn judge_accepted(
-    table: &[u8],
-    index: &[u16],
+    table: &Table<'_>,
     question: &[u8],
     diagnostics: &mut [u8],
     ty: &mut [u8],
 ) -> Result<Judged, Refusal>
-    requires { Ready table.now index.now question.now diagnostics.old ty.old }
+    requires { Ready table.now question.now diagnostics.old ty.old }
     ensures { AnsweredInto table.now question.now diagnostics ty result }
 {
     if question.len() <= SHORT_QUESTION {
-        return judge_in_slots::<2048, 8>(table, index, question, diagnostics, ty);
+        return judge_in_slots::<8>(table, question, diagnostics, ty);
     }
     if question.len() <= MIDDLE_QUESTION {
-        return judge_in_slots::<8192, 32>(table, index, question, diagnostics, ty);
+        return judge_in_slots::<32>(table, question, diagnostics, ty);
     }
-    judge_in_slots::<16384, 64>(table, index, question, diagnostics, ty)
+    judge_in_slots::<64>(table, question, diagnostics, ty)
 }
 
-// Judges an accepted question, for which so many slots are enough, each of 256 of the bytes.
-fn judge_in_slots<const BYTES: usize, const SLOTS: usize>(
-    table: &[u8],
-    index: &[u16],
+// Judges an accepted question, for which so many slots are enough.
+fn judge_in_slots<const SLOTS: usize>(
+    table: &Table<'_>,
     question: &[u8],
     diagnostics: &mut [u8],
     ty: &mut [u8],
 ) -> Result<Judged, Refusal>
-    requires ready { Ready table.now index.now question.now diagnostics.old ty.old }
-    requires wide { BYTES ≡ slot_size * SLOTS }
+    requires ready { Ready table.now question.now diagnostics.old ty.old }
     requires few { SLOTS ≤ slot_count }
     requires enough { slots_for (length question.now) ≤ SLOTS }
     ensures { AnsweredInto table.now question.now diagnostics ty result }
 {
-    let mut area = [0u8; BYTES];
-    let mut lens = [0usize; SLOTS];
-    judge_in(
-        table,
-        index,
-        question,
-        &mut area,
-        &mut lens,
-        diagnostics,
-        ty,
-    )
+    let mut slots: [Slot; SLOTS] = array::from_fn(|_| Slot::new());
+    judge_in(table, question, &mut slots, diagnostics, ty)
 }
 
 // Judges an accepted question in slots that are lent.
 fn judge_in(
-    table: &[u8],
-    index: &[u16],
+    table: &Table<'_>,
     question: &[u8],
-    area: &mut [u8],
-    lens: &mut [usize],
+    slots: &mut [Slot],
     diagnostics: &mut [u8],
     ty: &mut [u8],
 ) -> Result<Judged, Refusal>
-    requires { Ready table.now index.now question.now diagnostics.old ty.old × Space question.now area.old lens.old }
+    requires { Ready table.now question.now diagnostics.old ty.old × Space question.now slots.old }
     ensures answered_into { AnsweredInto table.now question.now diagnostics ty result }
-    ensures judged_in { JudgedIn table.now question.now area lens }
+    ensures judged_in { JudgedIn table.now question.now slots.old slots.new }
 {
     let header = read_header(question);
     let start = State {
         at: 5,
         node: 0,
-        count: 0,
         fine: true,
     };
-    let s = judge_node(
-        table,
-        index,
-        question,
-        header,
-        start,
-        area,
-        lens,
-        diagnostics,
-    );
-    answer_root(s, area, lens, diagnostics, ty)
+    let mut reports = Reports {
+        buf: diagnostics,
+        count: 0,
+    };
+    let s = judge_node(table, question, header, start, slots, &mut reports);
+    answer_root(s, reports.count, type_of(slots, 0), reports.buf, ty)
 }

@@ -1,32 +1,30 @@
 // The answer once the root is judged: its mark and its type, or why there is none.
-ghost use Rattle.std.specs.Prelude.{◌≤◌, ◌<◌, ◌≡◌, length};
-ghost use Rattle.area.specs.Inside.Slot.{Lent};
+ghost use Rattle.std.specs.Prelude.{◌≤◌, ◌≡◌, length};
 ghost use Rattle.typing.specs.Answer.{answer_bytes, zeros};
-ghost use Rattle.judge.specs.Inside.Root.{passes_at, root_refusal, Rooted};
+ghost use Rattle.judge.specs.Answered.{outcome_is};
+ghost use Rattle.judge.specs.Inside.Root.{passes_at, root_refusal, RootIs};
 
 use crate::{Judged, Refusal};
-use area::slot;
 use nodes::progress::State;
 use written::copy_in;
 
-// The answer once the tree is judged: its root's type lies in slot 0.
+// The answer once the tree is judged: its root has the type `root`, and so many diagnostics were reported.
 pub fn answer_root(
     s: State,
-    area: &[u8],
-    lens: &[usize],
+    count: usize,
+    root: &[u8],
     diagnostics: &mut [u8],
     ty: &mut [u8],
 ) -> Result<Judged, Refusal>
-    requires { Lent area.now lens.now × (0 < length lens.now) × (s.count ≤ 4294967296) × (ty.old ≡ zeros answer_bytes) }
-    ensures { Rooted s area.now lens.now diagnostics ty result }
+    requires { (count ≤ 4294967296) × (ty.old ≡ zeros answer_bytes) }
+    ensures { RootIs s count root.now diagnostics.old diagnostics.new (outcome_is result ty.new) }
 {
-    let count = s.count;
-    let len = lens[0];
+    let len = root.len();
     let refusal = root_refusal(len, count, diagnostics.len());
     match refusal {
         None => {
-            copy_in(ty, 0, slot(area, lens, 0));
-            let pass = passes(s);
+            copy_in(ty, 0, root);
+            let pass = passes(s, count);
             Ok(Judged { len, count, pass })
         }
         Some(refusal) => {
@@ -53,8 +51,8 @@ fn root_refusal(len: usize, count: usize, lent: usize) -> Option<Refusal>
 
 // Nothing was reported, warnings included, and no visited node is Error.
 #[tactic(auto, unfolding(crate::specs::Inside::Root::passes_at))]
-fn passes(s: State) -> bool
-    ensures { result ≡ passes_at s }
+fn passes(s: State, count: usize) -> bool
+    ensures { result ≡ passes_at s count }
 {
-    (s.count == 0) & s.fine
+    (count == 0) & s.fine
 }

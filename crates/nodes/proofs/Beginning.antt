@@ -9,18 +9,15 @@ use Rattle.std.proofs.Common as std
 use Rattle.std.proofs.Common.{Some, None}
 use mathlib.Core.Path.{◌≡◌, refl, sym, ap, ◌∙◌}
 use native.Mathlib.Omega.{arith}
-use Rattle.nodes.proofs.Reaching.{and_true, state_path}
-use Rattle.nodes.proofs.Working.{at_length}
-use Rattle.nodes.specs.Inside.Call.{no_list_at, list_at, owner_of, method_owner, begun_as, buffer_begun, BegunIs}
-use Rattle.nodes.specs.Inside.Progress.{Reached}
+use Rattle.area.proofs.Reporting.{reported_none}
+use Rattle.area.specs.Reported.{reported}
+use Rattle.area.specs.declared.reports.Reports.{Reports}
+use Rattle.nodes.specs.Inside.Call.{owner_of, method_owner, list_found, before_at, Begun}
 use Rattle.nodes.specs.Inside.Row.{id_of}
-use Rattle.nodes.specs.declared.calls.Begun.{Begun}
-use Rattle.nodes.specs.declared.progress.State.{State}
 use Rattle.operators.specs.Diag.{reported_at as at_node}
-use Rattle.area.specs.DiagnosticKind.{suspend_diag}
+use Rattle.operators.specs.DiagnosticKind.{suspend_diag}
 use Rattle.operators.specs.Out.{Report, report, unless}
 use Rattle.overload.specs.Before.{suspend_allowed, suspend_report, call_reports, method_reports}
-use Rattle.overload.specs.Inside.Reported.{Reported}
 use Rattle.question.specs.declared.Header.{Header}
 use Rattle.rules.specs.Access.{access_report}
 use Rattle.scoring.proofs.NoneAndNil.{some≢none}
@@ -32,7 +29,6 @@ use Rattle.ty.specs.Kind.{named_kind}
 use Rattle.ty.specs.Name.{no_id}
 use Rattle.typing.proofs.Base.{some_inj}
 use Rattle.typing.specs.Callee.{Callee, base_name, call_in, call_of, method_in, method_by, method_of}
-use Rattle.typing.specs.Mark.{no_error}
 
 -- ---- what is read of the object
 chosen_none : (x : ℕ) (b : Bool) → choose b (Some x) None ≡ None → b ≡ false
@@ -46,42 +42,41 @@ chosen_some x y true e = (refl, cc)
 chosen_some x y false e = absurd (cc)
 
 -- ---- the contract of what begins a call
-list_is : {node : ℕ} {s : State} {r : Begun} (owner : ℕ) {b b' : List ℕ} {count : ℕ} (rs : List Report) (os : List Overload) → Reported b s.count b' count (at_node node rs)
-    → r ≡ list_at owner count s → BegunIs owner node (some (record { before = rs; overloads = os })) s b b' r
-unfolding begun_as buffer_begun
-list_is {node} {s} owner rs os x f =
-    record { result = f ∙ ap (λ (n : ℕ). list_at owner n s) (x.count ∙ ap (λ (n : ℕ). s.count + n) (at_length node rs)); buffer = x.buffer }
+list_is : {node : ℕ} {r : std.Option ℕ} (owner : ℕ) {b b' : Reports} (rs : List Report) (os : List Overload) → b' ≡ reported b (at_node node rs)
+    → r ≡ Some owner → Begun owner node (some (record { before = rs; overloads = os })) b b' r
+unfolding list_found before_at
+list_is owner rs os x f = record { list = f; reports = x }
 
-no_list : {owner node : ℕ} {s : State} {r : Begun} {b : List ℕ} → r ≡ no_list_at s → BegunIs owner node none s b b r
-unfolding begun_as buffer_begun
-no_list f = record { result = f; buffer = refl }
+no_list : {owner node : ℕ} {r : std.Option ℕ} (b : Reports) → r ≡ None → Begun owner node none b b r
+unfolding list_found before_at
+no_list b f = record { list = f; reports = sym (reported_none b) }
 
-module _ (S : Symbols) (H : Header) (id node : ℕ) (s : State) (r : Begun) where
-  pub call_none : (b : List ℕ) → S.functions_of no_id id ≡ [] → r ≡ no_list_at s → BegunIs no_id node (call_of S H id) s b b r
+module _ (S : Symbols) (H : Header) (id node : ℕ) {r : std.Option ℕ} where
+  pub call_none : (b : Reports) → S.functions_of no_id id ≡ [] → r ≡ None → Begun no_id node (call_of S H id) b b r
   unfolding call_in
-  call_none b e f = rw e (no_list f)
+  call_none b e f = rw e (no_list b f)
 
-  pub call_some : {b b' : List ℕ} {o : Overload} {os : List Overload} {count : ℕ} → S.functions_of no_id id ≡ o ∷ os → Reported b s.count b' count (at_node node (call_reports S H id))
-      → r ≡ list_at no_id count s → BegunIs no_id node (call_of S H id) s b b' r
+  pub call_some : {b b' : Reports} {o : Overload} {os : List Overload} → S.functions_of no_id id ≡ o ∷ os → b' ≡ reported b (at_node node (call_reports S H id))
+      → r ≡ Some no_id → Begun no_id node (call_of S H id) b b' r
   unfolding call_in
   call_some {o = o} {os = os} e x f = rw e (list_is no_id (call_reports S H id) (o ∷ os) x f)
 
-  pub method_none : (b : List ℕ) (owner : ℕ) → S.functions_of owner id ≡ [] → r ≡ no_list_at s → BegunIs owner node (method_in S H owner id (S.functions_of owner id)) s b b r
+  pub method_none : (b : Reports) (owner : ℕ) → S.functions_of owner id ≡ [] → r ≡ None → Begun owner node (method_in S H owner id (S.functions_of owner id)) b b r
   unfolding method_in
-  method_none b owner e f = rw e (no_list f)
+  method_none b owner e f = rw e (no_list b f)
 
-  pub method_some : {b b' : List ℕ} (owner vis : ℕ) {o : Overload} {os : List Overload} {count : ℕ} → S.functions_of owner id ≡ o ∷ os → vis ≡ o.visibility
-      → Reported b s.count b' count (at_node node (method_reports S H vis owner id)) → r ≡ list_at owner count s
-      → BegunIs owner node (method_in S H owner id (S.functions_of owner id)) s b b' r
+  pub method_some : {b b' : Reports} (owner vis : ℕ) {o : Overload} {os : List Overload} → S.functions_of owner id ≡ o ∷ os → vis ≡ o.visibility
+      → b' ≡ reported b (at_node node (method_reports S H vis owner id)) → r ≡ Some owner
+      → Begun owner node (method_in S H owner id (S.functions_of owner id)) b b' r
   unfolding method_in
   method_some owner vis {o = o} {os = os} e v x f = rw e (list_is owner (method_reports S H o.visibility owner id) (o ∷ os) (rw v at x) f)
 
-  pub owner_none : (b : List ℕ) (t : Ty) {o : std.Option ℕ} → o ≡ owner_of t → o ≡ None → r ≡ no_list_at s → BegunIs (method_owner t) node (method_of S H id t) s b b r
+  pub owner_none : (b : Reports) (t : Ty) {o : std.Option ℕ} → o ≡ owner_of t → o ≡ None → r ≡ None → Begun (method_owner t) node (method_of S H id t) b b r
   unfolding method_by base_name choose
-  owner_none b t e n f = rw (chosen_none (name_of (non_null t)) (eqb (kind_of (non_null t)) named_kind) (sym e ∙ n)) (no_list f)
+  owner_none b t e n f = rw (chosen_none (name_of (non_null t)) (eqb (kind_of (non_null t)) named_kind) (sym e ∙ n)) (no_list b f)
 
-  pub owner_some : (b b' : List ℕ) (t : Ty) (owner : ℕ) {o : std.Option ℕ} → o ≡ owner_of t → o ≡ Some owner
-      → BegunIs owner node (method_in S H owner id (S.functions_of owner id)) s b b' r → BegunIs (method_owner t) node (method_of S H id t) s b b' r
+  pub owner_some : (b b' : Reports) (t : Ty) (owner : ℕ) {o : std.Option ℕ} → o ≡ owner_of t → o ≡ Some owner
+      → Begun owner node (method_in S H owner id (S.functions_of owner id)) b b' r → Begun (method_owner t) node (method_of S H id t) b b' r
   unfolding method_by base_name choose id_of
   owner_some b b' t owner e n x =
       let w = chosen_some (name_of (non_null t)) owner (eqb (kind_of (non_null t)) named_kind) (sym e ∙ n) in
@@ -89,16 +84,11 @@ module _ (S : Symbols) (H : Header) (id node : ℕ) (s : State) (r : Begun) wher
 
 -- ---- for the judge of a node
 -- the list that is found for the call at `node` is the owner's, and what is reported before the arguments has been reported
-pub record ListIs (S : Symbols) (owner id node : ℕ) (c : Callee) (s : State) (b b' : List ℕ) (r : Begun) (of : ℕ) : Type 0 where
+pub record ListIs (S : Symbols) (owner id node : ℕ) (c : Callee) (b b' : Reports) (of : ℕ) : Type 0 where
   pub owned : of ≡ owner
   pub list : S.functions_of owner id ≡ c.overloads
-  pub reached : Reached s s.at s.node [] (at_node node c.before) b b' r.state
+  pub reports : b' ≡ reported b (at_node node c.before)
   pub few : length c.before ≤ 2
-
--- there is none, and nothing happens
-pub record NoList (s : State) (b b' : List ℕ) (r : Begun) : Type 0 where
-  pub state : r.state ≡ s
-  pub buffer : b' ≡ b
 
 unless_few : (ok : Bool) (r : Report) → length (unless ok r) ≤ 1
 unfolding unless
@@ -109,9 +99,9 @@ unfolding access_report
 access_few S H vis owner = by_choice (λ (rs : List Report). length rs ≤ 1) _ (λ _. omega arith) (λ _. omega arith)
 
 -- what is found: the owner's list, and at most 2 reports before the arguments
-record Listed (S : Symbols) (owner id : ℕ) (c : Callee) : Type 0 where
-  list : S.functions_of owner id ≡ c.overloads
-  few : length c.before ≤ 2
+pub record Listed (S : Symbols) (owner id : ℕ) (c : Callee) : Type 0 where
+  pub list : S.functions_of owner id ≡ c.overloads
+  pub few : length c.before ≤ 2
 
 module _ (S : Symbols) (H : Header) (id : ℕ) where
   call_listed : (c : Callee) → call_of S H id ≡ some c → Listed S no_id id c
@@ -147,36 +137,25 @@ module _ (S : Symbols) (H : Header) (id : ℕ) where
   method_listed none c f = absurd (some≢none (sym f))
   method_listed (some owner) c f = owned_listed owner c f
 
-module _ {owner node : ℕ} {s : State} {b b' : List ℕ} {r : Begun} where
-  pub begun_none : (found : Option Callee) → BegunIs owner node found s b b' r → r.list ≡ None → (found ≡ none) × NoList s b b' r
-  unfolding begun_as buffer_begun
-  begun_none none x e = (refl, record { state = ap (λ (z : Begun). z.state) x.result; buffer = x.buffer })
-  begun_none (some c) x e = let f = ap (λ (z : Begun). z.list) x.result in absurd (cc)
+module _ {owner node : ℕ} {b b' : Reports} {r : std.Option ℕ} where
+  pub begun_none : (found : Option Callee) → Begun owner node found b b' r → r ≡ None → (found ≡ none) × (b' ≡ b)
+  unfolding list_found before_at
+  begun_none none x e = (refl, x.reports ∙ reported_none b)
+  begun_none (some c) x e = let f = x.list in absurd (cc)
 
-  begun_some : (S : Symbols) (id : ℕ) (found : Option Callee) → ((c : Callee) → found ≡ some c → Listed S owner id c) → BegunIs owner node found s b b' r → {of : ℕ} → r.list ≡ Some of
-      → (c : Callee) × (found ≡ some c) × ListIs S owner id node c s b b' r of
-  unfolding begun_as buffer_begun no_error
-  begun_some S id none k x e = let f = ap (λ (z : Begun). z.list) x.result in absurd (cc)
+  pub begun_some : (S : Symbols) (id : ℕ) (found : Option Callee) → ((c : Callee) → found ≡ some c → Listed S owner id c) → Begun owner node found b b' r → {of : ℕ} → r ≡ Some of
+      → (c : Callee) × (found ≡ some c) × ListIs S owner id node c b b' of
+  unfolding list_found before_at
+  begun_some S id none k x e = let f = x.list in absurd (cc)
   begun_some S id (some c) k x e =
-      let w = k c refl in (
-        c,
-        refl,
-        record {
-          owned = (let f = ap (λ (z : Begun). z.list) x.result in cc);
-          list = w.list;
-          reached = record {
-            result = ap (λ (z : Begun). z.state) x.result ∙ state_path _ _ refl refl (ap (λ (n : ℕ). s.count + n) (sym (at_length node c.before))) (sym (and_true s.fine));
-            buffer = x.buffer;
-          };
-          few = w.few;
-        },
-      )
+      let w = k c refl in
+      (c, refl, record { owned = (let f = x.list in cc); list = w.list; reports = x.reports; few = w.few })
 
 -- a call, and a method call on an object of the type t, that find a list
-pub call_begun : (S : Symbols) (H : Header) (id : ℕ) {node : ℕ} {s : State} {b b' : List ℕ} {r : Begun} → BegunIs no_id node (call_of S H id) s b b' r → {of : ℕ} → r.list ≡ Some of
-    → (c : Callee) × (call_of S H id ≡ some c) × ListIs S no_id id node c s b b' r of
+pub call_begun : (S : Symbols) (H : Header) (id : ℕ) {node : ℕ} {b b' : Reports} {r : std.Option ℕ} → Begun no_id node (call_of S H id) b b' r → {of : ℕ} → r ≡ Some of
+    → (c : Callee) × (call_of S H id ≡ some c) × ListIs S no_id id node c b b' of
 call_begun S H id = begun_some S id (call_of S H id) (call_listed S H id)
 
-pub method_begun : (S : Symbols) (H : Header) (id : ℕ) (t : Ty) {node : ℕ} {s : State} {b b' : List ℕ} {r : Begun} → BegunIs (method_owner t) node (method_of S H id t) s b b' r → {of : ℕ} → r.list ≡ Some of
-    → (c : Callee) × (method_of S H id t ≡ some c) × ListIs S (method_owner t) id node c s b b' r of
+pub method_begun : (S : Symbols) (H : Header) (id : ℕ) (t : Ty) {node : ℕ} {b b' : Reports} {r : std.Option ℕ} → Begun (method_owner t) node (method_of S H id t) b b' r → {of : ℕ} → r ≡ Some of
+    → (c : Callee) × (method_of S H id t ≡ some c) × ListIs S (method_owner t) id node c b b' of
 method_begun S H id t = begun_some S id (method_of S H id t) (method_listed S H id (base_name t))

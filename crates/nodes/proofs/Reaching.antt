@@ -1,13 +1,12 @@
 -- Laws of how far a judgement is: one way behind another.
 use Prim.Native.Nat.{ℕ, ◌+◌}
-use lib.ListN.{length, length-append}
+use lib.ListN.{length}
 use mathlib.Core.Bool.{Bool, true, false, not, ◌&&◌}
 use mathlib.Core.List.{List, [], ◌∷◌, ◌++◌}
 use mathlib.Core.Path.{◌≡◌, refl, sym, ap, ◌∙◌}
-use native.Mathlib.Nat.{add-zero}
-use native.Mathlib.Omega.{arith}
-use Rattle.area.proofs.Diagnostics.{put_all-append, put_all_none}
+use Rattle.area.proofs.Reporting.{reported_none, reported_both, reported_more}
 use Rattle.area.specs.Diagnostic.{Diag}
+use Rattle.area.specs.declared.reports.Reports.{Reports}
 use Rattle.nodes.specs.Inside.Progress.{inside_of, Reached}
 use Rattle.nodes.specs.declared.progress.State.{State}
 use Rattle.operators.specs.Out.{error_ty}
@@ -30,36 +29,33 @@ no_error-append (x ∷ g) h =
     let n : Bool = not (same_bytes x.ty error_ty) in
     ap (λ (b : Bool). n && b) (no_error-append g h) ∙ and_assoc n (no_error g) (no_error h)
 
-pub state_path : (x y : State) → x.at ≡ y.at → x.node ≡ y.node → x.count ≡ y.count → x.fine ≡ y.fine → x ≡ y
-state_path x y a b c d = λ i. record { at = a i; node = b i; count = c i; fine = d i }
+pub state_path : (x y : State) → x.at ≡ y.at → x.node ≡ y.node → x.fine ≡ y.fine → x ≡ y
+state_path x y a b c = λ i. record { at = a i; node = b i; fine = c i }
 
 -- nothing has happened
-pub reached_here : (s : State) (b : List ℕ) → Reached s s.at s.node [] [] b b s
+pub reached_here : (s : State) (b : Reports) → Reached s s.at s.node [] [] b b s
 unfolding no_error
-reached_here s b =
-    record { result = state_path _ _ refl refl (sym (add-zero s.count)) (sym (and_true s.fine)); buffer = sym (put_all_none b s.count) }
+reached_here s b = record { result = state_path _ _ refl refl (sym (and_true s.fine)); reports = sym (reported_none b) }
 
-module _ {s e r : State} {at₁ n₁ at₂ n₂ : ℕ} {g₁ g₂ : List Given} {d₁ d₂ : List Diag} {b b₁ b₂ : List ℕ} where
+-- how many have been reported
+pub reached_count : {s r : State} {at n : ℕ} {g : List Given} {ds : List Diag} {b b₁ : Reports} → Reached s at n g ds b b₁ r → b₁.count ≡ b.count + length ds
+reached_count {ds = ds} {b = b} x = reported_more b ds x.reports
+
+module _ {s e r : State} {at₁ n₁ at₂ n₂ : ℕ} {g₁ g₂ : List Given} {d₁ d₂ : List Diag} {b b₁ b₂ : Reports} where
   pub reached_join : Reached s at₁ n₁ g₁ d₁ b b₁ e → Reached e at₂ n₂ g₂ d₂ b₁ b₂ r → Reached s at₂ n₂ (g₁ ++ g₂) (d₁ ++ d₂) b b₂ r
   reached_join x y =
-      let count : e.count ≡ s.count + length d₁ = ap (λ (z : State). z.count) x.result in
       let fine : e.fine ≡ s.fine && no_error g₁ = ap (λ (z : State). z.fine) x.result in
       let f : e.fine && no_error g₂ ≡ s.fine && no_error (g₁ ++ g₂)
       = ap (λ (z : Bool). z && no_error g₂) fine ∙ sym (and_assoc s.fine (no_error g₁) (no_error g₂))
       ∙ ap (λ (z : Bool). s.fine && z) (sym (no_error-append g₁ g₂)) in
-      let l : length (d₁ ++ d₂) ≡ length d₁ + length d₂ = length-append d₁ d₂ in
-      record {
-        result = y.result ∙ state_path _ _ refl refl (omega arith) f;
-        buffer = y.buffer ∙ rw (count, x.buffer) (sym (put_all-append b s.count d₁ d₂));
-      }
+      record { result = y.result ∙ state_path _ _ refl refl f; reports = reported_both b d₁ d₂ x.reports y.reports }
 
 -- a child's way is the node's
-pub reached_inside : {s s₁ r : State} (own : ℕ) {at n : ℕ} {g : List Given} {d : List Diag} {b b₁ : List ℕ} → s₁ ≡ inside_of s own → Reached s₁ at n g d b b₁ r → Reached s at n g d b b₁ r
+pub reached_inside : {s s₁ r : State} (own : ℕ) {at n : ℕ} {g : List Given} {d : List Diag} {b b₁ : Reports} → s₁ ≡ inside_of s own → Reached s₁ at n g d b b₁ r → Reached s at n g d b b₁ r
 reached_inside {s} {s₁} own e x =
-    let count : s₁.count ≡ s.count = ap (λ (z : State). z.count) e in
     let fine : s₁.fine ≡ s.fine = ap (λ (z : State). z.fine) e in
-    record { result = rw (count, fine) at x.result; buffer = rw count at x.buffer }
+    record { result = rw fine at x.result; reports = x.reports }
 
 -- the same position and number otherwise written
-pub reached_as : {s r : State} {at at₁ n n₁ : ℕ} {g g₁ : List Given} {d d₁ : List Diag} {b b₁ : List ℕ} → at ≡ at₁ → n ≡ n₁ → g ≡ g₁ → d ≡ d₁ → Reached s at n g d b b₁ r → Reached s at₁ n₁ g₁ d₁ b b₁ r
-reached_as {s} {r} {b = b} {b₁ = b₁} e f g h x = rw (← e, ← f, ← g, ← h) x
+pub reached_as : {s r : State} {at at₁ n n₁ : ℕ} {g g₁ : List Given} {d d₁ : List Diag} {b b₁ : Reports} → at ≡ at₁ → n ≡ n₁ → g ≡ g₁ → d ≡ d₁ → Reached s at n g d b b₁ r → Reached s at₁ n₁ g₁ d₁ b b₁ r
+reached_as e f g h x = rw (← e, ← f, ← g, ← h) x

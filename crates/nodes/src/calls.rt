@@ -1,18 +1,18 @@
 // Calls and method calls, before and behind their arguments.
 ghost use Rattle.std.specs.Prelude.{◌+◌, ◌≤◌, ◌<◌, ◌≡◌, length};
 ghost use Rattle.area.specs.Diagnostic.{count_limit};
-ghost use Rattle.scoring.specs.Inside.Args.{args_in};
-ghost use Rattle.area.specs.Inside.Slot.{Lent, slot_of, slot_count};
-ghost use Rattle.index.specs.Inside.IndexedTable.{IndexedTable};
+ghost use Rattle.area.specs.Inside.Slot.{slot_count, type_at};
 ghost use Rattle.ty.specs.Bytes.{plain_ty};
 ghost use Rattle.ty.specs.KindNumber.{kind_number};
 ghost use Rattle.ty.specs.Name.{no_id};
-ghost use Rattle.nodes.specs.Inside.Call.{no_list_at, list_at, owner_of, callee_at, owned_at, Begins, BeginsMethod, verdict_at, CallReady, FinishesCall};
-ghost use Rattle.nodes.specs.Inside.Progress.{FinishesSilently, passed_over};
-ghost use Rattle.nodes.specs.Inside.Slices.{slot_at};
+ghost use Rattle.nodes.specs.Inside.Call.{owner_of, callee_at, owned_at, method_at, method_owner, Begun, verdict_at, CallAsked, FinishedCall};
+ghost use Rattle.nodes.specs.Inside.Progress.{FinishedSilently, passed_over};
 
 use crate::progress::{State, finished};
-use area::{Source, slot, store};
+use area::Source;
+use area::reports::Reports;
+use area::types::{Slot, store, type_of};
+use index::table::Table;
 use overload::before::{before_call, before_method};
 use overload::calls::check_call_args;
 use question::Header;
@@ -22,75 +22,37 @@ use symbol::functions::read_function;
 use symbol::lookups::first_function;
 use ty::{Kind, NameId};
 
-// What a call finds: whose list of functions, NameId::NONE for nobody's, if there is one, and how far the judgement is before its arguments.
-#[derive(Clone, Copy)]
-pub struct Begun {
-    pub list: Option<u16>,
-    pub state: State,
-}
-
 // A judged argument row: its arguments, and how far the judgement is behind it.
-#[derive(Clone, Copy)]
+#[derive(Drop)]
 pub struct RowJudged {
     pub args: Args,
     pub state: State,
 }
 
-// A call finds no list: nothing is reported.
-fn no_list(s: State) -> Begun
-    ensures { result ≡ no_list_at s }
-{
-    Begun {
-        list: None,
-        state: s,
-    }
-}
-
-// A call finds the list of an owner; so many diagnostics have been reported.
-fn listed(owner: u16, count: usize, s: State) -> Begun
-    ensures { result ≡ list_at owner count s }
-{
-    let state = State {
-        at: s.at,
-        node: s.node,
-        count,
-        fine: s.fine,
-    };
-    Begun {
-        list: Some(owner),
-        state,
-    }
-}
-
-// A call of an ownerless function.
+// A call of an ownerless function: whose list there is, NameId::NONE for nobody's.
+#[tactic(auto, using(crate::proofs::Beginning::call_none, crate::proofs::Beginning::call_some, crate::proofs::Working::found_none, crate::proofs::Working::found_here_lem))]
 pub fn begin_call(
-    table: &[u8],
-    index: &[u16],
+    table: &Table<'_>,
     header: Header,
     id: u16,
     node: usize,
-    s: State,
-    buf: &mut [u8],
-) -> Begun
-    requires { IndexedTable table.now index.now × (s.count < count_limit) }
-    ensures { Begins no_id node (callee_at table.now header id) s buf result }
+    reports: &mut Reports<'_>,
+) -> Option<u16>
+    requires { reports.old.count < count_limit }
+    ensures { Begun no_id node (callee_at table.now header id) reports.old reports.new result }
 {
-    let found = first_function(table, index, NameId::NONE, id);
-    match found {
-        None => no_list(s),
-        Some(_) => {
-            let count = before_call(table, index, header, id, node, buf, s.count);
-            listed(NameId::NONE, count, s)
-        }
-    }
+    let _ = table.bytes(); // the table is accepted
+    first_function(table, NameId::NONE, id)?;
+    before_call(table, header, id, node, reports);
+    Some(NameId::NONE)
 }
 
 // The owner of a method of the object in a slot, whose base is Named, or none.
 #[tactic(auto, unfolding(ty::specs::Choose::choose))]
-fn owner_of(area: &[u8], lens: &[usize], m: usize) -> Option<u16>
-    ensures { result ≡ owner_of (slot_at area.now lens.now m) }
+fn owner_of(slots: &[Slot], m: usize) -> Option<u16>
+    ensures { result ≡ owner_of (type_at slots.now m) }
 {
-    let base = ty::non_null(slot(area, lens, m));
+    let base = ty::non_null(type_of(slots, m));
     if ty::is_kind(base, Kind::Named) {
         return Some(ty::name_of(base));
     }
@@ -99,58 +61,37 @@ fn owner_of(area: &[u8], lens: &[usize], m: usize) -> Option<u16>
 
 // A method call of a list of functions, if there is one.
 fn begin_owned(
-    table: &[u8],
-    index: &[u16],
+    table: &Table<'_>,
     header: Header,
     owner: u16,
     id: u16,
     node: usize,
-    s: State,
-    buf: &mut [u8],
-) -> Begun
-    requires { IndexedTable table.now index.now × (s.count + 2 ≤ count_limit) }
-    ensures { Begins owner node (owned_at table.now header owner id) s buf result }
+    reports: &mut Reports<'_>,
+) -> Option<u16>
+    requires { reports.old.count + 2 ≤ count_limit }
+    ensures { Begun owner node (owned_at table.now header owner id) reports.old reports.new result }
 {
-    let found = first_function(table, index, owner, id);
-    match found {
-        None => no_list(s),
-        Some(p) => {
-            let f = read_function(table, p);
-            let count = before_method(
-                table,
-                index,
-                header,
-                f.visibility,
-                owner,
-                id,
-                node,
-                buf,
-                s.count,
-            );
-            listed(owner, count, s)
-        }
-    }
+    let bytes = table.bytes();
+    let first = first_function(table, owner, id)?;
+    let f = read_function(bytes, first);
+    before_method(table, header, f.visibility, owner, id, node, reports);
+    Some(owner)
 }
 
 // A method call; its object's type lies in the slot behind the call's.
 pub fn begin_method(
-    table: &[u8],
-    index: &[u16],
+    table: &Table<'_>,
     header: Header,
     id: u16,
     node: usize,
-    s: State,
-    area: &[u8],
-    lens: &[usize],
-    buf: &mut [u8],
-) -> Begun
-    requires { IndexedTable table.now index.now × (node < slot_count) × (s.count + 2 ≤ count_limit) }
-    ensures { BeginsMethod table.now header id node (slot_at area.now lens.now (node + 1)) s buf result }
+    slots: &[Slot],
+    reports: &mut Reports<'_>,
+) -> Option<u16>
+    requires { (node < slot_count) × (reports.old.count + 2 ≤ count_limit) }
+    ensures { Begun (method_owner (type_at slots.now (node + 1))) node (method_at table.now header id (type_at slots.now (node + 1))) reports.old reports.new result }
 {
-    match owner_of(area, lens, node + 1) {
-        Some(owner) => begin_owned(table, index, header, owner, id, node, s, buf),
-        None => no_list(s),
-    }
+    let owner = owner_of(slots, node + 1)?;
+    begin_owned(table, header, owner, id, node, reports)
 }
 
 // A call without a list: its arguments stay unvisited, and its type is one without body.
@@ -161,44 +102,35 @@ pub fn unlisted(
     n: u8,
     node: usize,
     s: State,
-    area: &mut [u8],
-    lens: &mut [usize],
+    slots: &mut [Slot],
 ) -> State
-    requires { Lent area.old lens.old × (node < length lens.old) × ((passed_over q.now s n).node ≤ slot_count) }
-    ensures { FinishesSilently (passed_over q.now s n) node (plain_ty (kind_number kind)) area lens result }
+    requires { (node < length slots.old) × ((passed_over q.now s n).node ≤ slot_count) }
+    ensures { FinishedSilently (passed_over q.now s n) node (plain_ty (kind_number kind)) slots.old slots.new result }
 {
     let p = skip(q, s.at, n);
     let e = State {
         at: p.at,
         node: s.node + p.nodes,
-        count: s.count,
         fine: s.fine,
     };
-    store(area, lens, table, node, node, node, Source::Kind(kind));
-    finished(e, node, s.count, area, lens)
+    store(slots, table, node, node, node, Source::Kind(kind));
+    finished(e, node, slots)
 }
 
 // A call of a list of functions, once its arguments are judged.
 pub fn finish_call(
-    table: &[u8],
-    index: &[u16],
+    table: &Table<'_>,
     owner: u16,
     id: u16,
     node: usize,
-    row: RowJudged,
-    area: &mut [u8],
-    lens: &mut [usize],
-    buf: &mut [u8],
+    row: &RowJudged,
+    slots: &mut [Slot],
+    reports: &mut Reports<'_>,
 ) -> State
-    requires { CallReady table.now index.now area.old lens.old owner id node row }
-    ensures { FinishesCall row.state node (verdict_at table.now area.old lens.old owner id node row) area lens buf result }
+    requires { CallAsked slots.old node reports.old (verdict_at table.now slots.old owner id node row.now) }
+    ensures { FinishedCall row.now.state node (verdict_at table.now slots.old owner id node row.now) slots.old slots.new reports.old reports.new result }
 {
-    let args = row.args;
-    let s = row.state;
-    let called = check_call_args(
-        table, index, owner, id, node, area, lens, args, buf, s.count,
-    );
-    let source = called.source;
-    store(area, lens, table, node, node, node, source);
-    finished(s, node, called.count, area, lens)
+    let source = check_call_args(table, owner, id, node, slots, &row.args, reports);
+    store(slots, table.bytes(), node, node, node, source);
+    finished(row.state, node, slots)
 }

@@ -1,5 +1,5 @@
 -- The bytes of the question that are left count 18 each, the arguments of a row 1 each: a call has 4 bytes of its own and at most 16 arguments.
-use Rattle.std.proofs.Common.{◌-◌, ◌+◌, ◌*◌, ◌≤◌, length}
+use Rattle.std.proofs.Common.{◌-◌, ◌+◌, ◌*◌, ◌≤◌, ◌≡◌, length}
 use Rattle.cycle.proofs.Rows.{Turn}
 use Rattle.cycle.specs.Inside.Contract.{RowAsked}
 use Rattle.cycle.proofs.cycle.+judge_node_judge_row.Given as goal
@@ -12,6 +12,6 @@ decreases-judge_row l = 18 * (length l.q.now - l.s.at) + l.n + 1
 
 abbrev pub invariant-judge_row-loop-k : goal.invariant-judge_row-loop-k
 invariant-judge_row-loop-k l =
-    (l.n ≤ 16)
-    × ((x : RowAsked l.q l.initial.e 0 l.n) → Turn l.table l.header l.q l.initial.e l.n l.initial.nodes l.initial.names l.initial.area l.initial.lens
-    l.initial.buf l.nodes l.names l.area l.lens l.buf l.k l.e x.trees)
+    (l.n ≤ 16) × (length l.args ≡ l.k)
+    × ((x : RowAsked l.q l.initial.e l.initial.reports 0 l.n) → Turn l.table l.header l.q l.initial.e l.n l.initial.args l.initial.slots l.initial.reports l.args l.slots
+    l.reports l.k l.e x.trees)

@@ -9,5 +9,9 @@ returns-in_err-names-clause-answered_into c =
     let e : c.from_residual.result ≡ Err (Table c.in_err-names.field-0.0) = search rules in
     rw e (ret_table _ _ _ _ c.in_err-names.ensures.number _ c.requires.0.blank _ c.requires.0.buffer)
 
+pub new-requires : goal.new-requires
+new-requires c = c.in_ok-names.ensures.indexed_table (sym c.in_ok-names.ensures.number)
+
 pub judge_checked-requires : goal.judge_checked-requires
-judge_checked-requires c = (c.requires.0, c.in_ok-names.ensures.indexed_table (sym c.in_ok-names.ensures.number), c.in_ok-names.ensures.names)
+judge_checked-requires c =
+    rw c.new.ensures (c.requires.0, (c.in_ok-names.ensures.indexed_table (sym c.in_ok-names.ensures.number)).clean, c.in_ok-names.ensures.names)

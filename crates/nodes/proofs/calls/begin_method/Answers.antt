@@ -1,8 +1,9 @@
+use mathlib.Core.Path.{sym, ◌∙◌}
 use Rattle.nodes.proofs.Beginning.{owner_none, owner_some}
 use Rattle.nodes.proofs.calls.begin_method.Goals as goal
 
-pub returns-in-Some : goal.returns-in-Some
-returns-in-Some c = owner_some _ _ _ _ _ _ _ _ _ _ c.owner_of.ensures c.in-Some.is c.begin_owned.ensures
+pub returns-in_err-owner : goal.returns-in_err-owner
+returns-in_err-owner c = owner_none _ _ _ _ _ _ c.owner_of.ensures c.in_err-owner.was c.from_residual.ensures
 
-pub returns-in-None : goal.returns-in-None
-returns-in-None c = owner_none _ _ _ _ _ _ _ _ c.owner_of.ensures c.in-None.is c.no_list.ensures
+pub returns : goal.returns
+returns c = owner_some _ _ _ _ _ _ _ _ c.owner_of.ensures c.in_ok-owner.was c.begin_owned.ensures

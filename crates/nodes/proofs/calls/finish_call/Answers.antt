@@ -3,9 +3,11 @@ use Rattle.overload.proofs.CallAnswers.{called_is}
 use Rattle.nodes.proofs.calls.finish_call.Goals as goal
 
 pub store-requires : goal.store-requires
-store-requires c = call-store c.requires.0 c.requires.2 (called_is _ c.requires.1.clean _ _ _ _ _ _ _ _ c.check_call_args-called.ensures.0
-    c.check_call_args-called.ensures.1)
+store-requires c =
+    let w = called_is _ c.bytes.ensures.clean _ _ c.args.node _ _ c.check_call_args-source.ensures.source in
+    rw c.bytes.ensures.bytes (call-store _ _ c.requires w.ty w.reads)
 
 pub returns : goal.returns
-returns c = finish_called c.requires.0 c.requires.2 (called_is _ c.requires.1.clean _ _ _ _ _ _ _ _ c.check_call_args-called.ensures.0
-    c.check_call_args-called.ensures.1) c.store.ensures c.finished.ensures
+returns c =
+    let w = called_is _ c.bytes.ensures.clean _ _ c.args.node _ _ c.check_call_args-source.ensures.source in
+    finish_called _ _ c.requires w.ty c.check_call_args-source.ensures.reports (rw c.bytes.ensures.bytes at c.store.ensures) c.finished.ensures

@@ -5,4 +5,4 @@ pub store-requires : goal.store-requires
 store-requires c = named-store _ _ c.requires.0 c.requires.1
 
 pub returns : goal.returns
-returns c = finish_named _ _ c.requires.0 c.requires.1 c.store.ensures c.finished.ensures
+returns c = finish_named _ _ c.requires.0 c.store.ensures c.finished.ensures
