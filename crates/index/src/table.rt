@@ -14,6 +14,7 @@ use record::front::RecordKind;
 use std::marker::Model;
 
 // A table that draws no number, and its index.
+#[derive(Drop)]
 pub struct Table<'a> {
     bytes: &'a [u8],
     index: &'a [u16],

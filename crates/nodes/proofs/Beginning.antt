@@ -15,7 +15,7 @@ use Rattle.area.specs.declared.reports.Reports.{Reports}
 use Rattle.nodes.specs.Inside.Call.{owner_of, method_owner, list_found, before_at, Begun}
 use Rattle.nodes.specs.Inside.Row.{id_of}
 use Rattle.operators.specs.Diag.{reported_at as at_node}
-use Rattle.operators.specs.DiagnosticKind.{suspend_diag}
+use Rattle.area.specs.DiagnosticKind.{suspend_diag}
 use Rattle.operators.specs.Out.{Report, report, unless}
 use Rattle.overload.specs.Before.{suspend_allowed, suspend_report, call_reports, method_reports}
 use Rattle.question.specs.declared.Header.{Header}
