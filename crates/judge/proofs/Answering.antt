@@ -29,7 +29,7 @@ use Rattle.written.specs.Padding.{padded_to}
 use Rattle.area.specs.Inside.Slot.{Holds, type_at}
 use Rattle.nodes.specs.declared.progress.State.{State}
 use Rattle.question.proofs.Accepted.{accepted}
-use Rattle.question.proofs.Faults.{some_number}
+use Rattle.question.proofs.QuestionFaults.{some_number}
 use Rattle.question.specs.FaultNumber.{question_fault_number}
 use Rattle.question.specs.Header.{header_of}
 use Rattle.question.specs.Parse.{tree_of}
