@@ -9,10 +9,10 @@ use mathlib.Core.Path.{◌≡◌, refl, sym, ap, ◌∙◌, subst}
 use native.Mathlib.Omega.{arith}
 use Rattle.index.proofs.ListSearch.{left_of, positive}
 use Rattle.index.proofs.Searches.{Seeking, seeking_start, seeking_node, seeking_less, seeking_next, seeking_free}
-use Rattle.index.specs.Inside.SearchKey.{tree_for, digits_for, key_matches, KeyIn}
+use Rattle.index.specs.Inside.SearchKey.{tree_for, digits_for, key_matches}
 use Rattle.index.specs.Inside.SearchTree.{TreeMember, Tree}
 use Rattle.index.specs.Inside.Spot.{Open, SpotIs}
-use Rattle.index.specs.Inside.TreeWalk.{tree_start, tree_step, TreeStepAsked, spot_of, spot_at, ends_here, search_from, search_of}
+use Rattle.index.specs.Inside.TreeWalk.{tree_start, tree_step, spot_of, spot_at, ends_here, search_from, search_of}
 use Rattle.index.specs.declared.tree.Key.{Key}
 use Rattle.index.specs.declared.index.Place.{Place}
 use Rattle.std.specs.Prelude.{Result}
@@ -140,9 +140,6 @@ module _ (t x : List ℕ) (k : Key) (g : Open t x) where
     module _ (z : c.here ≡ 0 → ⊥) where
       pub sought_node : TreeMember t g.end (c.here - 1)
       sought_node = cursor_node t x k g c s.seeking z g.end g.tree
-
-      pub sought_asked : KeyIn t k → TreeStepAsked t k c
-      sought_asked i = record { some = omega (arith, positive c.here z); key = i; digits = s.digits; few = omega (arith, s.seeking.few, g.short) }
 
       pub sought_less : (n : TreeCursor) → n ≡ tree_step t x k c → left_of (length t) n.here < left_of (length t) c.here
       sought_less n q = subst (λ (y : TreeCursor). left_of (length t) y.here < left_of (length t) c.here) (sym q) (cursor_less t x k g c s.seeking z)
