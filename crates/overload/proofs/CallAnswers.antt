@@ -9,10 +9,12 @@ use mathlib.Core.Option.{Option, none, some}
 use mathlib.Core.Path.{◌≡◌, refl, sym, ap, ◌∙◌, subst}
 use native.Mathlib.Omega.{arith}
 use Rattle.std.specs.Prelude.{Option as Maybe, Some, None}
-use Rattle.area.proofs.Diagnostics.{put_all-append}
-use Rattle.area.specs.Diagnostic.{Diag, put_all}
+use Rattle.area.proofs.Reporting.{reported_both}
+use Rattle.area.specs.Diagnostic.{Diag}
+use Rattle.area.specs.Reported.{reported}
+use Rattle.area.specs.declared.reports.Reports.{Reports}
 use Rattle.area.specs.Source.{type_from}
-use Rattle.area.specs.Inside.Storable.{Reads}
+use Rattle.area.specs.Inside.Storable.{ReadsChildren}
 use Rattle.area.specs.declared.Source.{Source}
 use Rattle.area.specs.declared.Source.TheVariants.{Part}
 use Rattle.overload.proofs.FunctionListWalk.{AllStand, places_stand}
@@ -23,12 +25,10 @@ use Rattle.scoring.specs.Score.{score}
 use Rattle.overload.specs.Best.{Best}
 use Rattle.overload.specs.ByIndex.{all_unknown, mismatches}
 use Rattle.overload.specs.Inside.BestPlace.{BestPlace, nowhere, best_at, better_place, chosen_from, chosen_at, result_at, error_source, source_of}
-use Rattle.overload.specs.Inside.CallSource.{called_with, best_source, best_diags, settled_source, settled_diags, called_places, call_source}
+use Rattle.overload.specs.Inside.CallSource.{best_source, best_diags, settled_source, settled_diags, called_places, call_source}
 use Rattle.overload.specs.Inside.Picked.{picked}
-use Rattle.overload.specs.Inside.Reported.{Reported}
 use Rattle.overload.specs.Inside.Tally.{highest_at, all_unknown_at, tally_of}
 use Rattle.overload.specs.Resolve.{none_fits, tie_report, settle, resolve_in, resolve}
-use Rattle.overload.specs.declared.calls.Called.{Called}
 use Rattle.overload.specs.declared.calls.Highest.{Highest}
 use Rattle.overload.specs.declared.calls.Tally.{Tally}
 use Rattle.operators.specs.Diag.{diag}
@@ -48,16 +48,10 @@ use Rattle.ty.proofs.Choice.{by_choice, choose_yes, choose_no}
 use Rattle.ty.specs.Bytes.{Ty}
 use Rattle.ty.specs.Choose.{choose}
 
--- A call's answer: its type comes from the table or is a kind without body, and its diagnostics are reported.
-pub record CalledIs (t : List ℕ) (b : List ℕ) (n : ℕ) (b' : List ℕ) (v : Verdict) (r : Called) : Type 0 where
-  pub ty : (x y : Ty) → type_from t x y r.source ≡ v.ty
-  pub reads : (l : List ℕ) (node first second : ℕ) → Reads l node first second r.source
-  pub reported : Reported b n b' r.count v.diags
-
--- a source, and what was reported
-pub called_told : {b : List ℕ} {n : ℕ} {b' : List ℕ} {n' : ℕ} {ds : List Diag} (s s' : Source) → s ≡ s' → Reported b n b' n' ds
-    → (record { source = s; count = n' } ≡ called_with s' n ds) × (b' ≡ put_all b n ds)
-called_told s s' e w = (λ i. record { source = e i; count = w.count i }, w.buffer)
+-- A call's source: its type comes from the table or is a kind without body.
+pub record CalledIs (t : List ℕ) (v : Verdict) (r : Source) : Type 0 where
+  pub ty : (x y : Ty) → type_from t x y r ≡ v.ty
+  pub reads : (ts : List Ty) (node first second : ℕ) → ReadsChildren ts node first second r
 
 -- a result's source, of a function that was read
 pub read_source : (t : List ℕ) (p : Place) (f : Function) → f ≡ function_at t p → Part f.start f.len ≡ result_at t p
@@ -133,8 +127,8 @@ module _ (t : List ℕ) (node : ℕ) (xs : List Arg) (own : Bool) where
   o = overload_at t
 
   -- ---- one of them fits
-  module _ (n : ℕ) (p : Place) (ps : List Place) where
-    settled_source_lem : settled_source t p (tally_of t xs n (p ∷ ps)) ≡ source_of t (p ∷ ps) (chosen_at t (p ∷ ps) xs)
+  module _ (p : Place) (ps : List Place) where
+    settled_source_lem : settled_source t p (tally_of t xs (p ∷ ps)) ≡ source_of t (p ∷ ps) (chosen_at t (p ∷ ps) xs)
     unfolding source_of highest_at choose
     settled_source_lem = go ps (chosen_at t (p ∷ ps) xs)
       where
@@ -145,7 +139,7 @@ module _ (t : List ℕ) (node : ℕ) (xs : List Arg) (own : Bool) where
         go [] nowhere = refl
         go (q ∷ qs) nowhere = choose_no _ _ _ (ne_eqb (suc (suc (length qs))) 1 (λ e. omega arith))
 
-    settled_diags_lem : all_unknown_at t (p ∷ ps) xs ++ settled_diags t p node xs (tally_of t xs n (p ∷ ps)) ≡ (resolve_in S own node xs (map o (p ∷ ps))).diags
+    settled_diags_lem : all_unknown_at t (p ∷ ps) xs ++ settled_diags t p node xs (tally_of t xs (p ∷ ps)) ≡ (resolve_in S own node xs (map o (p ∷ ps))).diags
     unfolding resolve_in settle highest_at choose
     settled_diags_lem = go ps (chosen_at t (p ∷ ps) xs) ∙ ap (λ (b : Best). (settle S node xs (o p) (map o ps) b).diags) (sym (chosen_best t nowhere (p ∷ ps) xs))
       where
@@ -173,10 +167,10 @@ module _ (t : List ℕ) (node : ℕ) (xs : List Arg) (own : Bool) where
   places_ty : (ps : List Place) (x y : Ty) → AllStand t ps → type_from t x y (source_of t ps (chosen_at t ps xs)) ≡ (resolve_in S own node xs (map o ps)).ty
   unfolding resolve_in source_of type_from none_fits
   places_ty [] x y w = refl
-  places_ty (p ∷ ps) x y w = settled_ty 0 p ps x y w
+  places_ty (p ∷ ps) x y w = settled_ty p ps x y w
 
-  places_reads : (ps : List Place) (b : BestPlace) (l : List ℕ) (n first second : ℕ) → Reads l n first second (source_of t ps b)
-  unfolding source_of Reads
+  places_reads : (ps : List Place) (b : BestPlace) (l : List Ty) (n first second : ℕ) → ReadsChildren l n first second (source_of t ps b)
+  unfolding source_of ReadsChildren
   places_reads [] b l n first second = tt
   places_reads (p ∷ ps) (best_at s q m) l n first second = tt
   places_reads (p ∷ []) nowhere l n first second = tt
@@ -209,17 +203,6 @@ some_first [] p e = absurd (let z : ◌≡◌ {A = ℕ} 0 1 = cc in omega arith)
 some_first (q ∷ ps) p e = let z : q ≡ p = cc in ap (λ (x : Place). x ∷ ps) z
 
 -- ---- the whole call
--- what is reported later stands behind what was reported before
-answer_joined : (b b₁ b' : List ℕ) (n n₁ : ℕ) (s s' : Source) (ds es all : List Diag) (r : Called) → n₁ ≡ n + length ds → b₁ ≡ put_all b n ds
-    → r ≡ called_with s n₁ es → b' ≡ put_all b₁ n₁ es → s ≡ s' → ds ++ es ≡ all → (r ≡ called_with s' n all) × (b' ≡ put_all b n all)
-answer_joined b b₁ b' n n₁ s s' ds es all r count before e f same told =
-    let l : length (ds ++ es) ≡ length all = ap (λ (z : List Diag). length z) told in
-    let m : n₁ + length es ≡ n + length all = omega (arith, length-append ds es) in (
-      e ∙ (λ i. record { source = same i; count = m i }),
-      f ∙ ap (λ (k : ℕ). put_all b₁ k es) count ∙ ap (λ (c : List ℕ). put_all c (n + length ds) es) before ∙ sym (put_all-append b n ds es)
-          ∙ ap (λ (z : List Diag). put_all b n z) told,
-    )
-
 module _ (t : List ℕ) (clean : table_fault t ≡ 0) (owner id node : ℕ) (xs : List Arg) where
   abbrev os : List Overload
   os = (symbols_of t).functions_of owner id
@@ -248,50 +231,55 @@ module _ (t : List ℕ) (clean : table_fault t ≡ 0) (owner id node : ℕ) (xs 
         ∙ ap (λ (qs : List Place). (resolve_in (symbols_of t) (any_own os) node xs (map (overload_at t) qs)).diags) same_places
         ∙ ap (λ (v : Verdict). v.diags) (sym resolve_places)
 
-    module _ (b b₁ b' : List ℕ) (n : ℕ) (w : Tally) (r : Called) (tally : w ≡ tally_of t xs n ps) (buffer : b₁ ≡ put_all b n (all_unknown_at t ps xs)) where
-      abbrev Answered : Type 0
-      Answered =
-          (r ≡ called_with (call_source t owner id xs) n (resolve (symbols_of t) os node xs).diags)
-          × (b' ≡ put_all b n (resolve (symbols_of t) os node xs).diags)
-
+    module _ (w : Tally) (tally : w ≡ tally_of t xs ps) where
       -- none fits
-      pub answered_none : w.first ≡ None → r ≡ called_with error_source w.count (none_fits k node m).diags
-          → b' ≡ put_all b₁ w.count (none_fits k node m).diags → Answered
-      answered_none e f g =
-          let z : ps ≡ [] = none_first ps (sym (ap (λ (z : Tally). z.first) tally) ∙ e) in
-          answer_joined b b₁ b' n w.count _ _ (all_unknown_at t ps xs) (none_fits k node m).diags (resolve (symbols_of t) os node xs).diags r
-          (ap (λ (z : Tally). z.count) tally) buffer f g
-          (none_source t xs ∙ ap (λ (qs : List Place). source_of t qs (chosen_at t qs xs)) (sym z) ∙ same_source)
-          (ap (λ (qs : List Place). all_unknown_at t qs xs ++ (none_fits k node m).diags) z ∙ none_diags t node xs k m em
-          ∙ ap (λ (qs : List Place). (resolve_in (symbols_of t) k node xs (map (overload_at t) qs)).diags) (sym z) ∙ same_diags)
+      module _ (e : w.first ≡ None) where
+        nothing : ps ≡ []
+        nothing = none_first ps (sym (ap (λ (z : Tally). z.first) tally) ∙ e)
+
+        pub source_of_none : error_source ≡ call_source t owner id xs
+        source_of_none = none_source t xs ∙ ap (λ (qs : List Place). source_of t qs (chosen_at t qs xs)) (sym nothing) ∙ same_source
+
+        pub told_of_none : (b : Reports) {b₁ b' : Reports} → b₁ ≡ reported b (all_unknown_at t ps xs) → b' ≡ reported b₁ (none_fits k node m).diags
+            → b' ≡ reported b (resolve (symbols_of t) os node xs).diags
+        told_of_none b f g =
+            reported_both b (all_unknown_at t ps xs) (none_fits k node m).diags f g
+            ∙ ap (λ (ds : List Diag). reported b ds)
+            (ap (λ (qs : List Place). all_unknown_at t qs xs ++ (none_fits k node m).diags) nothing ∙ none_diags t node xs k m em
+            ∙ ap (λ (qs : List Place). (resolve_in (symbols_of t) k node xs (map (overload_at t) qs)).diags) (sym nothing) ∙ same_diags)
 
       -- one fits, and the first that does stands at p
-      pub answered_some : (p : Place) → w.first ≡ Some p → r ≡ called_with (settled_source t p w) w.count (settled_diags t p node xs w)
-          → b' ≡ put_all b₁ w.count (settled_diags t p node xs w) → Answered
-      answered_some p e f g =
-          let z : ps ≡ p ∷ others ps = some_first ps p (sym (ap (λ (z : Tally). z.first) tally) ∙ e) in
-          let q : w ≡ tally_of t xs n (p ∷ others ps) = tally ∙ ap (λ (qs : List Place). tally_of t xs n qs) z in
-          answer_joined b b₁ b' n w.count _ _ (all_unknown_at t ps xs) (settled_diags t p node xs w) (resolve (symbols_of t) os node xs).diags r
-          (ap (λ (z : Tally). z.count) tally) buffer f g
-          (ap (λ (u : Tally). settled_source t p u) q ∙ settled_source_lem t node xs k n p (others ps)
-          ∙ ap (λ (qs : List Place). source_of t qs (chosen_at t qs xs)) (sym z) ∙ same_source)
-          (ap (λ (qs : List Place). all_unknown_at t qs xs ++ settled_diags t p node xs w) z
-          ∙ ap (λ (u : Tally). all_unknown_at t (p ∷ others ps) xs ++ settled_diags t p node xs u) q ∙ settled_diags_lem t node xs k n p (others ps)
-          ∙ ap (λ (qs : List Place). (resolve_in (symbols_of t) k node xs (map (overload_at t) qs)).diags) (sym z) ∙ same_diags)
+      module _ (p : Place) (e : w.first ≡ Some p) where
+        firstly : ps ≡ p ∷ others ps
+        firstly = some_first ps p (sym (ap (λ (z : Tally). z.first) tally) ∙ e)
+
+        tallied : w ≡ tally_of t xs (p ∷ others ps)
+        tallied = tally ∙ ap (λ (qs : List Place). tally_of t xs qs) firstly
+
+        pub source_of_some : settled_source t p w ≡ call_source t owner id xs
+        source_of_some =
+            ap (λ (u : Tally). settled_source t p u) tallied ∙ settled_source_lem t node xs k p (others ps)
+            ∙ ap (λ (qs : List Place). source_of t qs (chosen_at t qs xs)) (sym firstly) ∙ same_source
+
+        pub told_of_some : (b : Reports) {b₁ b' : Reports} → b₁ ≡ reported b (all_unknown_at t ps xs) → b' ≡ reported b₁ (settled_diags t p node xs w)
+            → b' ≡ reported b (resolve (symbols_of t) os node xs).diags
+        told_of_some b f g =
+            reported_both b (all_unknown_at t ps xs) (settled_diags t p node xs w) f g
+            ∙ ap (λ (ds : List Diag). reported b ds)
+            (ap (λ (qs : List Place). all_unknown_at t qs xs ++ settled_diags t p node xs w) firstly
+            ∙ ap (λ (u : Tally). all_unknown_at t (p ∷ others ps) xs ++ settled_diags t p node xs u) tallied ∙ settled_diags_lem t node xs k p (others ps)
+            ∙ ap (λ (qs : List Place). (resolve_in (symbols_of t) k node xs (map (overload_at t) qs)).diags) (sym firstly) ∙ same_diags)
 
   -- THE TYPE of a call's source is that of the definition
-  pub called_is : (b b' : List ℕ) (n : ℕ) (r : Called) → r ≡ called_with (call_source t owner id xs) n (resolve (symbols_of t) os node xs).diags
-      → b' ≡ put_all b n (resolve (symbols_of t) os node xs).diags → CalledIs t b n b' (resolve (symbols_of t) os node xs) r
+  pub called_is : (r : Source) → r ≡ call_source t owner id xs → CalledIs t (resolve (symbols_of t) os node xs) r
   unfolding call_source
-  called_is b b' n r e f =
-      let source = ap (λ (c : Called). c.source) e in
+  called_is r source =
       record {
         ty = λ x y.
             ap (λ (s : Source). type_from t x y s) source
             ∙ places_ty t node xs (any_own os) (called_places t (length xs) owner id) x y (places_stand t clean (any_own os) (length xs) owner id)
             ∙ ap (λ (v : Verdict). v.ty) (sym resolve_places);
         reads = λ l m first second.
-            subst (λ (s : Source). Reads l m first second s) (sym source)
+            subst (λ (s : Source). ReadsChildren l m first second s) (sym source)
             (places_reads t node xs (any_own os) (called_places t (length xs) owner id) (chosen_at t (called_places t (length xs) owner id) xs) l m first second);
-        reported = record { count = ap (λ (c : Called). c.count) e; buffer = f };
       }

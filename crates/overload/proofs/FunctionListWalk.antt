@@ -5,8 +5,10 @@ use mathlib.Core.Bool.{Bool, true, false}
 use mathlib.Core.List.{List, [], ◌∷◌, ◌++◌, map, append_assoc, append-nil}
 use mathlib.Core.Path.{◌≡◌, refl, sym, ap, ◌∙◌, subst}
 use native.Mathlib.Omega.{arith}
-use Rattle.area.proofs.Diagnostics.{put_all_none, put_all-append}
-use Rattle.area.specs.Diagnostic.{Diag, count_limit, put_all}
+use Rattle.area.proofs.Reporting.{reported_none, reported_both}
+use Rattle.area.specs.Diagnostic.{Diag, count_limit}
+use Rattle.area.specs.Reported.{reported}
+use Rattle.area.specs.declared.reports.Reports.{Reports}
 use Rattle.overload.proofs.OverloadFold.{picked_snoc, picked_few, own-here, own_later, unknown_append}
 use Rattle.overload.proofs.Tallies.{tally_start, tally_more_lem, tally_room}
 use Rattle.scoring.specs.Arg.{Arg}
@@ -18,7 +20,6 @@ use Rattle.overload.specs.declared.calls.Tally.{Tally}
 use Rattle.symbol.proofs.AcceptedTable.{functions_few as list-few}
 use Rattle.symbol.proofs.FunctionCursors.{first-here, along_first, along_next, cursor_here, cursor_stands, cursor_next}
 use Rattle.symbol.proofs.FunctionLists.{overloads_placed, first-placed, next_placed}
-use Rattle.index.specs.Inside.IndexedTable.{IndexedTable}
 use Rattle.index.specs.Inside.Found.{FunctionAt}
 use Rattle.record.specs.TableRefused.{table_fault}
 use Rattle.symbol.specs.Inside.FunctionCursor.{functions_first, functions_next, found_here, AtFunction, Along}
@@ -33,14 +34,11 @@ use Rattle.index.specs.declared.index.Place.{Place}
 use Rattle.ty.proofs.Choice.{by_choice}
 
 -- in an accepted table
-pub functions_few : (t x : List ℕ) (owner id : ℕ) → IndexedTable t x → length ((symbols_of t).functions_of owner id) ≤ 60000
-functions_few t x owner id h = list-few t h.clean owner id
-
-places_few : (t x : List ℕ) (owner id : ℕ) → IndexedTable t x → length (function_places t owner id) ≤ 60000
-places_few t x owner id h =
+places_few : (t : List ℕ) (owner id : ℕ) → table_fault t ≡ 0 → length (function_places t owner id) ≤ 60000
+places_few t owner id clean =
     let e : length (map (overload_at t) (function_places t owner id)) ≡ length ((symbols_of t).functions_of owner id)
-    = ap (λ (os : List Overload). length os) (overloads_placed t h.clean owner id) in
-    omega (arith, length-map (function_places t owner id) (overload_at t), functions_few t x owner id h)
+    = ap (λ (os : List Overload). length os) (overloads_placed t clean owner id) in
+    omega (arith, length-map (function_places t owner id) (overload_at t), list-few t clean owner id)
 
 -- ---- how many functions are left
 unfoldable pub left_of : List ℕ → Found → ℕ
@@ -154,64 +152,65 @@ module _ (t : List ℕ) (clean : table_fault t ≡ 0) (owner id : ℕ) where
 
 -- ---- the walk
 -- of the list, some are done and the others are left; n arguments
-pub record Walking (t : List ℕ) (owner id : ℕ) (k : Bool) (n : ℕ) (xs : List Arg) (b₀ : List ℕ) (n₀ : ℕ) (b : List ℕ) (c : Functions) (w : Tally) : Type 0 where
+pub record Walking (t : List ℕ) (owner id : ℕ) (k : Bool) (n : ℕ) (xs : List Arg) (b₀ b : Reports) (c : Functions) (w : Tally) : Type 0 where
   pub done : List Place
   pub left : List Place
   pub all : done ++ left ≡ function_places t owner id
   pub cursor : CursorAt t left c
-  pub tally : w ≡ tally_of t xs n₀ (picked t k n done)
-  pub buffer : b ≡ put_all b₀ n₀ (all_unknown_at t (picked t k n done) xs)
+  pub tally : w ≡ tally_of t xs (picked t k n done)
+  pub told : b ≡ reported b₀ (all_unknown_at t (picked t k n done) xs)
 
-module _ (t x : List ℕ) (h : IndexedTable t x) (owner id : ℕ) (k : Bool) (n : ℕ) (xs : List Arg) (b₀ : List ℕ) (n₀ : ℕ) where
-  pub walk_start : (c : Functions) → c ≡ functions_first t owner id
-      → Walking t owner id k n xs b₀ n₀ b₀ c (record { first = None; fitting = 0; highest = None; count = n₀ })
+module _ (t : List ℕ) (clean : table_fault t ≡ 0) (owner id : ℕ) (k : Bool) (n : ℕ) (xs : List Arg) (b₀ : Reports) where
+  pub walk_start : (c : Functions) → c ≡ functions_first t owner id → Walking t owner id k n xs b₀ b₀ c (record { first = None; fitting = 0; highest = None })
   unfolding picked all_unknown
   walk_start c e =
       record {
         done = [];
         left = function_places t owner id;
         all = refl;
-        cursor = cursor_first t h.clean owner id c e;
-        tally = tally_start t xs n₀;
-        buffer = sym (put_all_none b₀ n₀);
+        cursor = cursor_first t clean owner id c e;
+        tally = tally_start t xs;
+        told = sym (reported_none b₀);
       }
 
-  module _ (b : List ℕ) (c : Functions) (w : Tally) (is : Walking t owner id k n xs b₀ n₀ b c w) where
-    pub walk_room : length xs ≤ 16 → n₀ + most_diagnostics ≤ count_limit → Room w
+  module _ (b : Reports) (c : Functions) (w : Tally) (is : Walking t owner id k n xs b₀ b c w) where
+    pub walk_room : length xs ≤ 16 → b₀.count + most_diagnostics ≤ count_limit → Room w b
     walk_room short room =
         let e : length (is.done ++ is.left) ≡ length (function_places t owner id) = ap (λ (ps : List Place). length ps) is.all in
         let l = length-append is.done is.left in
         let m = picked_few t k n is.done in
-        let few = places_few t x owner id h in
-        tally_room t xs n₀ w (picked t k n is.done) is.tally (omega arith) short room
+        let few = places_few t owner id clean in
+        tally_room t xs b₀ w (picked t k n is.done) is.tally is.told (omega arith) short room
 
     module _ (r : Found) (e : r ≡ found_here c) where
       -- at the end
-      pub walk_ended : r ≡ None → (w ≡ tally_of t xs n₀ (picked t k n (function_places t owner id)))
-          × (b ≡ put_all b₀ n₀ (all_unknown_at t (picked t k n (function_places t owner id)) xs))
-      walk_ended f =
-          let all = sym (append-nil is.done) ∙ ap (λ (ps : List Place). is.done ++ ps) (sym (cursor_end t h.clean is.left c is.cursor r e f)) ∙ is.all in (
-            is.tally ∙ ap (λ (ps : List Place). tally_of t xs n₀ (picked t k n ps)) all,
-            is.buffer ∙ ap (λ (ps : List Place). put_all b₀ n₀ (all_unknown_at t (picked t k n ps) xs)) all,
-          )
+      module _ (f : r ≡ None) where
+        all_done : is.done ≡ function_places t owner id
+        all_done = sym (append-nil is.done) ∙ ap (λ (ps : List Place). is.done ++ ps) (sym (cursor_end t clean is.left c is.cursor r e f)) ∙ is.all
+
+        pub walk_ended : w ≡ tally_of t xs (picked t k n (function_places t owner id))
+        walk_ended = is.tally ∙ ap (λ (ps : List Place). tally_of t xs (picked t k n ps)) all_done
+
+        pub walk_told : b ≡ reported b₀ (all_unknown_at t (picked t k n (function_places t owner id)) xs)
+        walk_told = is.told ∙ ap (λ (ps : List Place). reported b₀ (all_unknown_at t (picked t k n ps) xs)) all_done
 
       module _ (p : Place) (f : r ≡ Some p) where
         walk_is : FirstPlaceIs t is.left p
-        walk_is = cursor_is t h.clean is.left c is.cursor r e p f
+        walk_is = cursor_is t clean is.left c is.cursor r e p f
 
         pub walk_place : FunctionAt t p
         walk_place = walk_is.here
 
         pub walk_stands : AtFunction t c
-        walk_stands = cursor_at_function t h.clean is.left c is.cursor r e p f
+        walk_stands = cursor_at_function t clean is.left c is.cursor r e p f
 
         module _ (m : Functions) (q : m ≡ functions_next t c) where
           pub walk_less : left_of t (found_here m) < left_of t (found_here c)
-          walk_less = cursor_less t h.clean is.left c is.cursor r e p f m q
+          walk_less = cursor_less t clean is.left c is.cursor r e p f m q
 
-          pub walk_on : (b' : List ℕ) (w' : Tally) → w' ≡ tally_more t xs w (taken t k n p) → b' ≡ put_all b w.count (all_unknown_at t (taken t k n p) xs)
-              → Walking t owner id k n xs b₀ n₀ b' m w'
-          walk_on b' w' tally buffer =
+          pub walk_on : (b' : Reports) (w' : Tally) → w' ≡ tally_more t xs w (taken t k n p) → b' ≡ reported b (all_unknown_at t (taken t k n p) xs)
+              → Walking t owner id k n xs b₀ b' m w'
+          walk_on b' w' tally told =
               let ps = picked t k n is.done in
               let us = taken t k n p in
               let more : ps ++ us ≡ picked t k n (is.done ++ (p ∷ [])) = sym (picked_snoc t k n is.done p) in
@@ -219,22 +218,20 @@ module _ (t x : List ℕ) (h : IndexedTable t x) (owner id : ℕ) (k : Bool) (n 
                 done = is.done ++ (p ∷ []);
                 left = places_behind t p;
                 all = append_assoc is.done (p ∷ []) (places_behind t p) ∙ ap (λ (qs : List Place). is.done ++ qs) (sym walk_is.first) ∙ is.all;
-                cursor = cursor_on t h.clean is.left c is.cursor r e p f m q;
-                tally = tally ∙ ap (λ (z : Tally). tally_more t xs z us) is.tally ∙ tally_more_lem t xs n₀ ps us
-                    ∙ ap (λ (qs : List Place). tally_of t xs n₀ qs) more;
-                buffer = buffer ∙ ap (λ (m : ℕ). put_all b m (all_unknown_at t us xs)) (ap (λ (z : Tally). z.count) is.tally)
-                    ∙ ap (λ (c : List ℕ). put_all c (n₀ + length (all_unknown_at t ps xs)) (all_unknown_at t us xs)) is.buffer
-                    ∙ sym (put_all-append b₀ n₀ (all_unknown_at t ps xs) (all_unknown_at t us xs))
-                    ∙ ap (λ (ds : List Diag). put_all b₀ n₀ ds) (sym (unknown_append t ps us xs))
-                    ∙ ap (λ (qs : List Place). put_all b₀ n₀ (all_unknown_at t qs xs)) more;
+                cursor = cursor_on t clean is.left c is.cursor r e p f m q;
+                tally = tally ∙ ap (λ (z : Tally). tally_more t xs z us) is.tally ∙ tally_more_lem t xs ps us ∙ ap (λ (qs : List Place). tally_of t xs qs) more;
+                told = reported_both b₀ (all_unknown_at t ps xs) (all_unknown_at t us xs) is.told told
+                    ∙ ap (λ (ds : List Diag). reported b₀ ds) (sym (unknown_append t ps us xs))
+                    ∙ ap (λ (qs : List Place). reported b₀ (all_unknown_at t qs xs)) more;
               }
 
 -- no count wraps
-pub walked_room : (t x : List ℕ) (owner id : ℕ) (k : Bool) (n : ℕ) (xs : List Arg) (n₀ : ℕ) (w : Tally) → IndexedTable t x
-    → w ≡ tally_of t xs n₀ (picked t k n (function_places t owner id)) → length xs ≤ 16 → n₀ + most_diagnostics ≤ count_limit → Room w
-walked_room t x owner id k n xs n₀ w h e short room =
-    tally_room t xs n₀ w (picked t k n (function_places t owner id)) e
-    (omega (arith, picked_few t k n (function_places t owner id), places_few t x owner id h)) short room
+pub walked_room : (t : List ℕ) (owner id : ℕ) (k : Bool) (n : ℕ) (xs : List Arg) (b₀ : Reports) {b : Reports} (w : Tally) → table_fault t ≡ 0
+    → w ≡ tally_of t xs (picked t k n (function_places t owner id)) → b ≡ reported b₀ (all_unknown_at t (picked t k n (function_places t owner id)) xs) → length xs ≤ 16
+    → b₀.count + most_diagnostics ≤ count_limit → Room w b
+walked_room t owner id k n xs b₀ w clean e f short room =
+    tally_room t xs b₀ w (picked t k n (function_places t owner id)) e f
+    (omega (arith, picked_few t k n (function_places t owner id), places_few t owner id clean)) short room
 
 -- ---- functions stand at the places of a list
 module _ (t : List ℕ) (clean : table_fault t ≡ 0) where
@@ -263,7 +260,7 @@ module _ (t : List ℕ) (clean : table_fault t ≡ 0) where
       picked_stand k n (function_places t owner id) (found_stand (function_places t owner id) (first-placed t clean owner id _ refl))
 
   -- the first that fits
-  pub tally_place : (k : Bool) (n owner id : ℕ) (xs : List Arg) (n₀ : ℕ) (w : Tally) (p : Place)
-      → w ≡ tally_of t xs n₀ (picked t k n (function_places t owner id)) → w.first ≡ Some p → FunctionAt t p
-  tally_place k n owner id xs n₀ w p e g =
+  pub tally_place : (k : Bool) (n owner id : ℕ) (xs : List Arg) (w : Tally) (p : Place)
+      → w ≡ tally_of t xs (picked t k n (function_places t owner id)) → w.first ≡ Some p → FunctionAt t p
+  tally_place k n owner id xs w p e g =
       first_stands t (picked t k n (function_places t owner id)) p (places_stand k n owner id) (sym (ap (λ (z : Tally). z.first) e) ∙ g)

@@ -2,10 +2,11 @@
 use Prim.Native.Nat.{ℕ, suc, ◌+◌, ◌*◌, ◌≤◌}
 use lib.ListN.{length, length-append}
 use mathlib.Core.List.{List, [], ◌∷◌}
-use mathlib.Core.Path.{sym, subst}
+use mathlib.Core.Path.{◌≡◌, sym, subst}
 use native.Mathlib.Omega.{arith}
 use Rattle.area.specs.Diagnostic.{Diag}
-use Rattle.overload.proofs.FunctionListWalk.{functions_few}
+use Rattle.symbol.proofs.AcceptedTable.{functions_few}
+use Rattle.record.specs.TableRefused.{table_fault}
 use Rattle.overload.proofs.OverloadFold.{usable_few}
 use Rattle.overload.proofs.Reporting.{all_unknown_few, mismatches_few}
 use Rattle.overload.proofs.SingleReports.{access_few, at_append}
@@ -21,7 +22,6 @@ use Rattle.rules.specs.Access.{access_report}
 use Rattle.operators.specs.Diag.{diag, reported_at as at}
 use Rattle.area.specs.DiagnosticKind.{no_match_diag}
 use Rattle.operators.specs.Out.{Report, unless}
-use Rattle.index.specs.Inside.IndexedTable.{IndexedTable}
 use Rattle.symbol.specs.Lookup.{symbols_of}
 use Rattle.symbol.specs.Symbols.{Overload, Symbols}
 use Rattle.ty.proofs.Choice.{by_choice}
@@ -55,10 +55,10 @@ module _ (S : Symbols) (xs : List Arg) (short : length xs ≤ 16) where
       go (v ∷ vs) h = omega (arith, settle_few n v vs (chosen S nobody (v ∷ vs) xs))
 
 -- a call in an accepted table
-pub call_few : (t x : List ℕ) (owner id n : ℕ) (xs : List Arg) → IndexedTable t x → length xs ≤ 16
+pub call_few : (t : List ℕ) (owner id n : ℕ) (xs : List Arg) → table_fault t ≡ 0 → length xs ≤ 16
     → length (resolve (symbols_of t) ((symbols_of t).functions_of owner id) n xs).diags ≤ most_diagnostics
-call_few t x owner id n xs h short =
-    omega (arith, resolve_few (symbols_of t) xs short ((symbols_of t).functions_of owner id) n, functions_few t x owner id h)
+call_few t owner id n xs clean short =
+    omega (arith, resolve_few (symbols_of t) xs short ((symbols_of t).functions_of owner id) n, functions_few t clean owner id)
 
 -- before the arguments
 suspend_few : (S : Symbols) (H : Header) (owner id n : ℕ) → length (at n (suspend_report S H owner id)) ≤ 1

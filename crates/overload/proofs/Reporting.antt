@@ -2,61 +2,47 @@
 use Prim.Native.Nat.{ℕ, suc, ◌+◌, ◌*◌, ◌≤◌, ◌<◌, min}
 use borrow.Author.Tests.{leb-true, leb-false}
 use lib.Dec.{leb}
-use lib.ListN.{get_or, length, length-append}
+use lib.ListN.{get_or, drop, length, length-append}
 use mathlib.Core.Bool.{Bool, true, false}
 use mathlib.Core.List.{List, [], ◌∷◌, ◌++◌}
 use mathlib.Core.Option.{Option, none, some}
-use mathlib.Core.Path.{◌≡◌, refl, sym, ap, ◌∙◌, subst}
-use native.Mathlib.Nat.{add-zero}
+use mathlib.Core.Path.{◌≡◌, refl, sym, ap, ◌∙◌}
 use native.Mathlib.Omega.{arith}
-use Rattle.area.proofs.Diagnostics.{put_all_none, put_all-one, put_all-append}
-use Rattle.area.specs.Diagnostic.{Diag, put_one, put_all}
-use Rattle.scoring.proofs.ParamsAndArgsLeft.{params_left, params_all, params_next, params_none, args_left, args_all, args_next, args_none}
-use Rattle.scoring.specs.Arg.{Arg}
+use Rattle.area.proofs.Reporting.{reported_none, reported_join, reported_more}
+use Rattle.area.specs.Diagnostic.{Diag}
+use Rattle.area.specs.Reported.{reported}
+use Rattle.area.specs.declared.reports.Reports.{Reports}
+use Rattle.area.specs.Inside.Slot.{type_at}
+use Rattle.scoring.proofs.ParamsAndArgsLeft.{params_next, params_none, args_next, args_none}
+use Rattle.scoring.specs.Arg.{Arg as Seen}
+use Rattle.scoring.specs.declared.args.Arg.{Arg}
 use Rattle.overload.specs.ByIndex.{absent, unknown_one, unknowns, all_unknown, mismatch_one, mismatches}
-use Rattle.scoring.specs.Inside.Rows.{name_in, arg_at, rows_in}
-use Rattle.scoring.specs.Inside.Params.{params_in}
-use Rattle.overload.specs.Inside.Reported.{diag_if, Reported}
+use Rattle.scoring.specs.Inside.Args.{args_in}
+use Rattle.overload.specs.Inside.Reported.{diag_if}
 use Rattle.scoring.specs.Score.{param_named}
-use Rattle.scoring.specs.declared.rows.Args.{Args}
-use Rattle.symbol.specs.Inside.LookupAnswer.{param_at}
+use Rattle.symbol.specs.Inside.LookupAnswer.{optional, param_read, params_in}
 use Rattle.symbol.specs.Symbols.{Param, Overload, Symbols}
-use Rattle.symbol.specs.declared.functions.Params.{Params}
+use Rattle.symbol.specs.declared.functions.Param.{Param as Read}
 use Rattle.operators.specs.Diag.{diag}
 use Rattle.ty.proofs.Choice.{by_choice, choose_yes, choose_no}
+use Rattle.ty.specs.Bytes.{Ty}
 
-pub reported_none : (b : List ℕ) (n : ℕ) → Reported b n b n []
-reported_none b n = record { count = sym (add-zero n); buffer = sym (put_all_none b n) }
-
-pub reported_one : (b : List ℕ) (n : ℕ) (b' : List ℕ) (n' : ℕ) (d : Diag) → n' ≡ n + 1 → b' ≡ put_one b n d → Reported b n b' n' (d ∷ [])
-reported_one b n b' n' d e f = record { count = e; buffer = f ∙ sym (put_all-one b n d) }
-
-pub reported_as : {b : List ℕ} {n : ℕ} {b' : List ℕ} {n' : ℕ} {ds es : List Diag} → ds ≡ es → Reported b n b' n' ds → Reported b n b' n' es
-reported_as {b} {n} {b'} {n'} e w = subst (λ (ds : List Diag). Reported b n b' n' ds) e w
+pub reported_as : (b : Reports) {b' : Reports} {ds es : List Diag} → ds ≡ es → b' ≡ reported b ds → b' ≡ reported b es
+reported_as b e w = w ∙ ap (λ (ds : List Diag). reported b ds) e
 
 -- by the test of `report_if`
-module _ (b : List ℕ) (n : ℕ) (t : Bool) (k node i : ℕ) where
-  pub reported_yes : (b' : List ℕ) (n' : ℕ) → t ≡ true → n' ≡ n + 1 → b' ≡ put_one b n (diag k node i) → Reported b n b' n' (diag_if t k node i)
+module _ (b : Reports) (t : Bool) (k node i : ℕ) where
+  pub reported_yes : (b' : Reports) → t ≡ true → b' ≡ reported b (diag k node i ∷ []) → b' ≡ reported b (diag_if t k node i)
   unfolding diag_if
-  reported_yes b' n' e f g = reported_as (sym (choose_yes _ _ _ e)) (reported_one b n b' n' _ f g)
+  reported_yes b' e f = reported_as b (sym (choose_yes _ _ _ e)) f
 
-  pub reported_no : t ≡ false → Reported b n b n (diag_if t k node i)
+  pub reported_no : t ≡ false → b ≡ reported b (diag_if t k node i)
   unfolding diag_if
-  reported_no e = reported_as (sym (choose_no _ _ _ e)) (reported_none b n)
+  reported_no e = reported_as b (sym (choose_no _ _ _ e)) (sym (reported_none b))
 
-pub reported_append : {b : List ℕ} {n : ℕ} {b₁ : List ℕ} {n₁ : ℕ} {b₂ : List ℕ} {n₂ : ℕ} {ds es : List Diag}
-    → Reported b n b₁ n₁ ds → Reported b₁ n₁ b₂ n₂ es → Reported b n b₂ n₂ (ds ++ es)
-reported_append {b} {n} {b₁} {n₁} {b₂} {n₂} {ds} {es} v w =
-    record {
-      count = omega (arith, length-append ds es, v.count, w.count);
-      buffer = w.buffer ∙ ap (λ (k : ℕ). put_all b₁ k es) v.count ∙ ap (λ (c : List ℕ). put_all c (n + length ds) es) v.buffer
-          ∙ sym (put_all-append b n ds es);
-    }
-
--- what finishes the rest finishes the whole, once its first part is reported
-pub reported_then : (W : List ℕ → ℕ → Type 0) {b : List ℕ} {n : ℕ} {b₁ : List ℕ} {n₁ : ℕ} {ds : List Diag} (left rest : List Diag) → left ≡ ds ++ rest
-    → Reported b n b₁ n₁ ds → ((b' : List ℕ) (n' : ℕ) → Reported b n b' n' left → W b' n') → (b' : List ℕ) (n' : ℕ) → Reported b₁ n₁ b' n' rest → W b' n'
-reported_then W left rest e v k b' n' w = k b' n' (reported_as (sym e) (reported_append v w))
+-- what is left, once its first part is reported
+pub reported_then : (b : Reports) {b₁ : Reports} (ds es : List Diag) {left : List Diag} → left ≡ ds ++ es → b₁ ≡ reported b ds → reported b₁ es ≡ reported b left
+reported_then b ds es e f = ap (λ (z : Reports). reported z es) f ∙ reported_join b ds es ∙ ap (λ (z : List Diag). reported b z) (sym e)
 
 -- ---- unknown names
 absent_few : (o : Option Param) (i n : ℕ) → length (absent o i n) ≤ 1
@@ -69,56 +55,46 @@ unfolding unknown_one
 unknown_few none ps i n = omega arith
 unknown_few (some id) ps i n = absent_few (param_named id ps) i n
 
-pub unknowns_few : (ps : List Param) (i : ℕ) (xs : List Arg) → length (unknowns ps i xs) ≤ length xs
+pub unknowns_few : (ps : List Param) (i : ℕ) (xs : List Seen) → length (unknowns ps i xs) ≤ length xs
 unfolding unknowns
 unknowns_few ps i [] = omega arith
 unknowns_few ps i (a ∷ xs) =
     omega
     (arith, length-append (unknown_one a.name ps i a.node) (unknowns ps (suc i) xs), unknown_few a.name ps i a.node, unknowns_few ps (suc i) xs)
 
--- the buffer b with n diagnostics, once the arguments before number i are looked at
-pub record UnknownFrom (p : Params) (x : Args) (b₀ : List ℕ) (n₀ : ℕ) (b : List ℕ) (n i : ℕ) : Type 0 where
-  pub few : n ≤ n₀ + i
-  pub then : (t a l : List ℕ) (b' : List ℕ) (n' : ℕ) → Reported b n b' n' (unknowns (params_in t p) (i + 1) (args_left a l x i x.count))
-      → Reported b₀ n₀ b' n' (unknowns (params_in t p) 1 (rows_in a l x))
+-- the lent buffer is b, once the arguments before number i are looked at
+pub record UnknownFrom (ps : List Read) (xs : List Arg) (b₀ b : Reports) (i : ℕ) : Type 0 where
+  pub few : b.count ≤ b₀.count + i
+  pub left : (t : List ℕ) (ts : List Ty) → reported b (unknowns (params_in t ps) (i + 1) (args_in ts (drop i xs))) ≡ reported b₀ (unknowns (params_in t ps) 1 (args_in ts xs))
 
-module _ (p : Params) (x : Args) (b₀ : List ℕ) (n₀ : ℕ) where
-  pub unknown_start : UnknownFrom p x b₀ n₀ b₀ n₀ 0
-  unknown_start =
-      record {
-        few = omega arith;
-        then = λ t a l b' n' w. reported_as (ap (λ (xs : List Arg). unknowns (params_in t p) 1 xs) (args_all a l x x.count)) w;
-      }
+module _ (ps : List Read) (xs : List Arg) (b₀ : Reports) where
+  pub unknown_start : UnknownFrom ps xs b₀ b₀ 0
+  unknown_start = record { few = omega arith; left = λ t ts. refl }
 
-  module _ (b : List ℕ) (n i : ℕ) (w : UnknownFrom p x b₀ n₀ b n i) where
-    pub unknown_turn : (b₁ : List ℕ) (n₁ : ℕ) → i < x.count
-        → ((t : List ℕ) → Reported b n b₁ n₁ (unknown_one (name_in (get_or x.names i 0)) (params_in t p) (i + 1) (get_or x.nodes i 0)))
-        → UnknownFrom p x b₀ n₀ b₁ n₁ (i + 1)
+  module _ (b : Reports) (i : ℕ) (w : UnknownFrom ps xs b₀ b i) (d : Arg) where
+    pub unknown_turn : (b₁ : Reports) → i < length xs
+        → ((t : List ℕ) → b₁ ≡ reported b (unknown_one (optional (get_or xs i d).name) (params_in t ps) (i + 1) (get_or xs i d).node)) → UnknownFrom ps xs b₀ b₁ (i + 1)
     unfolding unknowns
-    unknown_turn b₁ n₁ h v =
+    unknown_turn b₁ h v =
+        let x : Arg = get_or xs i d in
         record {
           few = omega
-              (arith, w.few, (v []).count, unknown_few (name_in (get_or x.names i 0)) (params_in [] p) (i + 1) (get_or x.nodes i 0));
-          then = λ t a l.
+              (arith, w.few, reported_more b (unknown_one (optional x.name) (params_in [] ps) (i + 1) x.node) (v []), unknown_few (optional x.name) (params_in [] ps) (i + 1) x.node);
+          left = λ t ts.
               let f : suc (i + 1) ≡ i + 1 + 1 = omega arith in
-              reported_then (λ (b' : List ℕ) (n' : ℕ). Reported b₀ n₀ b' n' (unknowns (params_in t p) 1 (rows_in a l x)))
-              (unknowns (params_in t p) (i + 1) (args_left a l x i x.count))
-              (unknowns (params_in t p) (i + 1 + 1) (args_left a l x (i + 1) x.count))
-              (ap (λ (xs : List Arg). unknowns (params_in t p) (i + 1) xs) (args_next a l x i x.count h)
-              ∙ ap
-              (λ (k : ℕ). unknown_one (name_in (get_or x.names i 0)) (params_in t p) (i + 1) (get_or x.nodes i 0)
-              ++ unknowns (params_in t p) k (args_left a l x (i + 1) x.count)) f)
-              (v t) (w.then t a l);
+              reported_then b (unknown_one (optional x.name) (params_in t ps) (i + 1) x.node) (unknowns (params_in t ps) (i + 1 + 1) (args_in ts (drop (i + 1) xs)))
+              (ap (λ (z : List Seen). unknowns (params_in t ps) (i + 1) z) (args_next ts xs i d h)
+              ∙ ap (λ (k : ℕ). unknown_one (optional x.name) (params_in t ps) (i + 1) x.node ++ unknowns (params_in t ps) k (args_in ts (drop (i + 1) xs))) f)
+              (v t) ∙ w.left t ts;
         }
 
-    pub unknown_done : x.count ≤ i → (t a l : List ℕ) → Reported b₀ n₀ b n (unknowns (params_in t p) 1 (rows_in a l x))
-    unfolding unknowns
-    unknown_done h t a l =
-        w.then t a l b n
-        (reported_as (sym (ap (λ (xs : List Arg). unknowns (params_in t p) (i + 1) xs) (args_none a l x i x.count h))) (reported_none b n))
+  pub unknown_done : (b : Reports) (i : ℕ) → UnknownFrom ps xs b₀ b i → length xs ≤ i → (t : List ℕ) (ts : List Ty) → b ≡ reported b₀ (unknowns (params_in t ps) 1 (args_in ts xs))
+  unfolding unknowns
+  unknown_done b i w h t ts =
+      sym (reported_none b) ∙ ap (λ (z : List Seen). reported b (unknowns (params_in t ps) (i + 1) z)) (sym (args_none ts xs i h)) ∙ w.left t ts
 
 -- once per overload
-pub all_unknown_few : (os : List Overload) (xs : List Arg) → length xs ≤ 16 → length (all_unknown os xs) ≤ 16 * length os
+pub all_unknown_few : (os : List Overload) (xs : List Seen) → length xs ≤ 16 → length (all_unknown os xs) ≤ 16 * length os
 unfolding all_unknown
 all_unknown_few [] xs h = omega arith
 all_unknown_few (o ∷ os) xs h =
@@ -127,74 +103,65 @@ all_unknown_few (o ∷ os) xs h =
 
 -- ---- the check by index
 module _ (S : Symbols) where
-  pub mismatch_few : (q : Param) (i : ℕ) (a : Arg) → length (mismatch_one S q i a) ≤ 1
+  pub mismatch_few : (q : Param) (i : ℕ) (a : Seen) → length (mismatch_one S q i a) ≤ 1
   unfolding mismatch_one
   mismatch_few q i a = by_choice (λ (ds : List Diag). length ds ≤ 1) _ (λ _. omega arith) (λ _. omega arith)
 
-  pub mismatches_few : (ps : List Param) (i : ℕ) (xs : List Arg) → length (mismatches S ps i xs) ≤ length xs
+  pub mismatches_few : (ps : List Param) (i : ℕ) (xs : List Seen) → length (mismatches S ps i xs) ≤ length xs
   unfolding mismatches
   mismatches_few ps i [] = omega arith
   mismatches_few [] i (a ∷ xs) = omega arith
   mismatches_few (p ∷ ps) i (a ∷ xs) =
       omega (arith, length-append (mismatch_one S p i a) (mismatches S ps (suc i) xs), mismatch_few p i a, mismatches_few ps (suc i) xs)
 
-  mismatches-no_params : (i : ℕ) (xs : List Arg) → mismatches S [] i xs ≡ []
+  mismatches-no_params : (i : ℕ) (xs : List Seen) → mismatches S [] i xs ≡ []
   unfolding mismatches
   mismatches-no_params i [] = refl
   mismatches-no_params i (a ∷ xs) = refl
 
-  -- the buffer b with n diagnostics, once the arguments before number i are checked
-  pub record IndexFrom (t : List ℕ) (p : Params) (a l : List ℕ) (x : Args) (b₀ : List ℕ) (n₀ : ℕ) (b : List ℕ) (n i : ℕ) : Type 0 where
-    pub few : n ≤ n₀ + i
-    pub then : (b' : List ℕ) (n' : ℕ) → Reported b n b' n' (mismatches S (params_left t p i p.count) (i + 1) (args_left a l x i x.count))
-        → Reported b₀ n₀ b' n' (mismatches S (params_in t p) 1 (rows_in a l x))
+  -- the lent buffer is b, once the arguments before number i are checked
+  pub record IndexFrom (t : List ℕ) (ps : List Read) (ts : List Ty) (xs : List Arg) (b₀ b : Reports) (i : ℕ) : Type 0 where
+    pub few : b.count ≤ b₀.count + i
+    pub left : reported b (mismatches S (params_in t (drop i ps)) (i + 1) (args_in ts (drop i xs))) ≡ reported b₀ (mismatches S (params_in t ps) 1 (args_in ts xs))
 
-  module _ (t : List ℕ) (p : Params) (a l : List ℕ) (x : Args) (b₀ : List ℕ) (n₀ : ℕ) where
-    pub index_start : IndexFrom t p a l x b₀ n₀ b₀ n₀ 0
-    index_start =
-        record {
-          few = omega arith;
-          then = λ b' n' w.
-              reported_as
-              (ap (λ (ps : List Param). mismatches S ps 1 (args_left a l x 0 x.count)) (params_all t p p.count)
-              ∙ ap (λ (xs : List Arg). mismatches S (params_in t p) 1 xs) (args_all a l x x.count)) w;
-        }
+  -- an argument with its type
+  abbrev pub seen : List Ty → Arg → Seen
+  seen ts x = record { name = optional x.name; ty = type_at ts x.node; node = x.node }
 
-    module _ (b : List ℕ) (n i : ℕ) (w : IndexFrom t p a l x b₀ n₀ b n i) where
-      pub index_turn : (b₁ : List ℕ) (n₁ : ℕ) → i < x.count → i < p.count
-          → Reported b n b₁ n₁ (mismatch_one S (param_at t p i) (i + 1) (arg_at a l x i)) → IndexFrom t p a l x b₀ n₀ b₁ n₁ (i + 1)
+  module _ (t : List ℕ) (ps : List Read) (ts : List Ty) (xs : List Arg) (b₀ : Reports) where
+    pub index_start : IndexFrom t ps ts xs b₀ b₀ 0
+    index_start = record { few = omega arith; left = refl }
+
+    module _ (b : Reports) (i : ℕ) (w : IndexFrom t ps ts xs b₀ b i) where
+      pub index_turn : (d : Read) (e : Arg) (b₁ : Reports) → i < length xs → i < length ps
+          → b₁ ≡ reported b (mismatch_one S (param_read t (get_or ps i d)) (i + 1) (seen ts (get_or xs i e))) → IndexFrom t ps ts xs b₀ b₁ (i + 1)
       unfolding mismatches
-      index_turn b₁ n₁ h g v =
+      index_turn d e b₁ h g v =
           let f : suc (i + 1) ≡ i + 1 + 1 = omega arith in
+          let p : Param = param_read t (get_or ps i d) in
+          let x : Seen = seen ts (get_or xs i e) in
           record {
-            few = omega (arith, w.few, v.count, mismatch_few (param_at t p i) (i + 1) (arg_at a l x i));
-            then = reported_then (λ (b' : List ℕ) (n' : ℕ). Reported b₀ n₀ b' n' (mismatches S (params_in t p) 1 (rows_in a l x)))
-                (mismatches S (params_left t p i p.count) (i + 1) (args_left a l x i x.count))
-                (mismatches S (params_left t p (i + 1) p.count) (i + 1 + 1) (args_left a l x (i + 1) x.count))
-                (ap (λ (ps : List Param). mismatches S ps (i + 1) (args_left a l x i x.count)) (params_next t p i p.count g)
-                ∙ ap (λ (xs : List Arg). mismatches S (param_at t p i ∷ params_left t p (i + 1) p.count) (i + 1) xs) (args_next a l x i x.count h)
-                ∙ ap
-                (λ (k : ℕ). mismatch_one S (param_at t p i) (i + 1) (arg_at a l x i)
-                ++ mismatches S (params_left t p (i + 1) p.count) k (args_left a l x (i + 1) x.count)) f)
-                v w.then;
+            few = omega (arith, w.few, reported_more b (mismatch_one S p (i + 1) x) v, mismatch_few p (i + 1) x);
+            left = reported_then b (mismatch_one S p (i + 1) x) (mismatches S (params_in t (drop (i + 1) ps)) (i + 1 + 1) (args_in ts (drop (i + 1) xs)))
+                (ap (λ (z : List Param). mismatches S z (i + 1) (args_in ts (drop i xs))) (params_next t ps i d g)
+                ∙ ap (λ (z : List Seen). mismatches S (p ∷ params_in t (drop (i + 1) ps)) (i + 1) z) (args_next ts xs i e h)
+                ∙ ap (λ (k : ℕ). mismatch_one S p (i + 1) x ++ mismatches S (params_in t (drop (i + 1) ps)) k (args_in ts (drop (i + 1) xs))) f)
+                v ∙ w.left;
           }
 
-      pub index_done : min x.count p.count ≤ i → Reported b₀ n₀ b n (mismatches S (params_in t p) 1 (rows_in a l x))
+      pub index_done : min (length xs) (length ps) ≤ i → b ≡ reported b₀ (mismatches S (params_in t ps) 1 (args_in ts xs))
       unfolding mismatches
-      index_done h = go (leb x.count i) refl
+      index_done h = go (leb (length xs) i) refl
         where
-          go : (c : Bool) → leb x.count i ≡ c → Reported b₀ n₀ b n (mismatches S (params_in t p) 1 (rows_in a l x))
+          go : (c : Bool) → leb (length xs) i ≡ c → b ≡ reported b₀ (mismatches S (params_in t ps) 1 (args_in ts xs))
           go true e =
-              let k : x.count ≤ i = leb-true x.count i e in
-              w.then b n
-              (reported_as
-              (sym (ap (λ (xs : List Arg). mismatches S (params_left t p i p.count) (i + 1) xs) (args_none a l x i x.count k)))
-              (reported_none b n))
+              let k : length xs ≤ i = leb-true (length xs) i e in
+              sym (reported_none b)
+              ∙ ap (λ (z : List Diag). reported b z) (sym (ap (λ (z : List Seen). mismatches S (params_in t (drop i ps)) (i + 1) z) (args_none ts xs i k))) ∙ w.left
           go false e =
-              let k : i < x.count = leb-false x.count i e in
-              let m : p.count ≤ i = omega arith in
-              w.then b n
-              (reported_as
-              (sym
-              (ap (λ (ps : List Param). mismatches S ps (i + 1) (args_left a l x i x.count)) (params_none t p i p.count m)
-              ∙ mismatches-no_params (i + 1) (args_left a l x i x.count))) (reported_none b n))
+              let k : i < length xs = leb-false (length xs) i e in
+              let m : length ps ≤ i = omega arith in
+              sym (reported_none b)
+              ∙ ap (λ (z : List Diag). reported b z)
+              (sym (ap (λ (z : List Param). mismatches S z (i + 1) (args_in ts (drop i xs))) (params_none t ps i m) ∙ mismatches-no_params (i + 1) (args_in ts (drop i xs))))
+              ∙ w.left

@@ -1,6 +1,5 @@
 -- What is reported at one argument or one call, by the tests before it.
-use Prim.Native.Nat.{ℕ, ◌+◌, ◌≤◌}
-use borrow.Author.Tests.{eq-eqb}
+use Prim.Native.Nat.{ℕ, suc, ◌+◌, ◌≤◌}
 use lib.Dec.{eqb, ltb}
 use lib.ListN.{length}
 use mathlib.Core.Bool.{Bool, true, false, true≢false, false≢true, not}
@@ -10,44 +9,52 @@ use mathlib.Core.Path.{◌≡◌, refl, sym, ap, ◌∙◌}
 use native.Mathlib.Omega.{arith}
 use Rattle.area.specs.Diagnostic.{Diag}
 use Rattle.std.specs.Prelude.{Option as Maybe, Some, None, is_some}
-use Rattle.overload.proofs.Reporting.{reported_as, reported_append}
-use Rattle.scoring.proofs.ParamSearch.{param_named_is}
-use Rattle.scoring.proofs.Scores.{name_none, name_some}
+use Rattle.overload.proofs.Reporting.{reported_as}
 use Rattle.scoring.specs.Arg.{Arg}
 use Rattle.overload.specs.Before.{suspend_allowed, suspend_report, method_reports}
 use Rattle.overload.specs.ByIndex.{absent, unknown_one, passes_by_index, mismatch_one}
-use Rattle.scoring.specs.Inside.Rows.{name_in}
-use Rattle.scoring.specs.Inside.Params.{params_in, param_in, named_place}
-use Rattle.overload.specs.Inside.Reported.{diag_if, missing, unknown, Reported}
+use Rattle.scoring.specs.Inside.Params.{as_place, named_place}
+use Rattle.symbol.specs.Inside.LookupAnswer.{params_in}
+use Rattle.symbol.specs.declared.functions.Param.{Param as Read}
+use Rattle.overload.specs.Inside.Reported.{diag_if, missing, unknown}
+use Rattle.area.proofs.Reporting.{reported_both, reported_more}
+use Rattle.area.specs.Reported.{reported}
+use Rattle.area.specs.declared.reports.Reports.{Reports}
 use Rattle.overload.specs.Resolve.{none_fits, tie_report}
-use Rattle.scoring.specs.Score.{param_named}
+use Rattle.scoring.specs.Score.{param_named, place_named}
 use Rattle.question.specs.declared.Header.{Header}
 use Rattle.rules.specs.Access.{blocked, access_report}
 use Rattle.operators.specs.Diag.{diag, reported_at as at}
 use Rattle.area.specs.DiagnosticKind.{suspend_diag, unknown_name_diag, mismatch_diag, argument_count_diag, tie_diag, access_diag}
 use Rattle.operators.specs.Out.{Report, report, unless}
 use Rattle.symbol.specs.Symbols.{Param, Symbols}
-use Rattle.symbol.specs.declared.functions.Params.{Params}
 use Rattle.ty.proofs.Choice.{by_choice}
 use Rattle.ty.specs.Choose.{choose}
-use Rattle.ty.specs.Name.{no_id}
 
 -- ---- an argument's name
-module _ (t : List ℕ) (p : Params) (id : ℕ) where
-  pub unknown_unnamed : id ≡ no_id → not (eqb id no_id) ≡ unknown (name_in id) (params_in t p)
-  unfolding unknown
-  unknown_unnamed e = ap not (eq-eqb id no_id e) ∙ sym (ap (λ (m : Option ℕ). unknown m (params_in t p)) (name_none id e))
+-- a parameter has the name where it has a place
+named_told : (id j : ℕ) (ps : List Param) → missing (param_named id ps) ≡ not (is_some (as_place (place_named id j ps)))
+unfolding missing param_named place_named choose
+named_told id j [] = refl
+named_told id j (p ∷ ps) = go (eqb p.name id) (named_told id (suc j) ps)
+  where
+    go : (b : Bool) → missing (param_named id ps) ≡ not (is_some (as_place (place_named id (suc j) ps)))
+        → missing (choose b (some p) (param_named id ps)) ≡ not (is_some (as_place (choose b (some j) (place_named id (suc j) ps))))
+    go true f = refl
+    go false f = f
 
-  pub unknown_named : (id ≡ no_id → ⊥) → (r : Maybe ℕ) → r ≡ named_place t p id → (b : Bool) → is_some r ≡ not b → b ≡ unknown (name_in id) (params_in t p)
-  unfolding unknown missing
-  unknown_named h r e b d =
-      go b r d ∙ ap (λ (o : Option Param). missing o) (sym (param_named_is t p id r e)) ∙ ap (λ (m : Option ℕ). unknown m (params_in t p)) (sym (name_some id h))
-    where
-      go : (b : Bool) (r : Maybe ℕ) → is_some r ≡ not b → b ≡ missing (param_in t p r)
-      go true None d = refl
-      go false None d = absurd (false≢true d)
-      go true (Some j) d = absurd (true≢false d)
-      go false (Some j) d = refl
+row_named : (t : List ℕ) (ps : List Read) (id : ℕ) → missing (param_named id (params_in t ps)) ≡ not (is_some (as_place (place_named id 0 (params_in t ps))))
+row_named t ps id = named_told id 0 (params_in t ps)
+
+pub unknown_named : (t : List ℕ) (ps : List Read) (id : ℕ) (r : Maybe ℕ) → r ≡ named_place t ps id → (b : Bool) → is_some r ≡ not b → b ≡ unknown (some id) (params_in t ps)
+unfolding unknown missing
+unknown_named t ps id r e b d = go b (place_named id 0 (params_in t ps)) (sym (ap (λ (o : Maybe ℕ). is_some o) e) ∙ d) (row_named t ps id)
+  where
+    go : (b : Bool) (o : Option ℕ) → is_some (as_place o) ≡ not b → missing (param_named id (params_in t ps)) ≡ not (is_some (as_place o)) → b ≡ missing (param_named id (params_in t ps))
+    go true none d f = sym f
+    go false none d f = absurd (false≢true d)
+    go true (some j) d f = absurd (true≢false d)
+    go false (some j) d f = sym f
 
 pub unknown_told : (b : Bool) (m : Option ℕ) (ps : List Param) (i n : ℕ) → b ≡ unknown m ps → diag_if b unknown_name_diag n i ≡ unknown_one m ps i n
 unfolding diag_if unknown missing unknown_one absent choose
@@ -88,9 +95,9 @@ suspend_told S H owner id n = go (suspend_allowed S H owner id)
     go false = refl
 
 -- reported, where a suspend function is called from outside of one, t being whether it is
-pub suspend_reported : (S : Symbols) (H : Header) (owner id node : ℕ) (t : Bool) (b : List ℕ) (n : ℕ) (b' : List ℕ) (n' : ℕ) → t ≡ not (suspend_allowed S H owner id)
-    → Reported b n b' n' (diag_if t suspend_diag node 0) → Reported b n b' n' (at node (suspend_report S H owner id))
-suspend_reported S H owner id node t b n b' n' e w = reported_as (ap (λ (z : Bool). diag_if z suspend_diag node 0) e ∙ suspend_told S H owner id node) w
+pub suspend_reported : (S : Symbols) (H : Header) (owner id node : ℕ) (t : Bool) (b : Reports) {b' : Reports} → t ≡ not (suspend_allowed S H owner id)
+    → b' ≡ reported b (diag_if t suspend_diag node 0) → b' ≡ reported b (at node (suspend_report S H owner id))
+suspend_reported S H owner id node t b e w = reported_as b (ap (λ (z : Bool). diag_if z suspend_diag node 0) e ∙ suspend_told S H owner id node) w
 
 pub access_told : (S : Symbols) (H : Header) (vis owner n : ℕ) → diag_if (blocked S H vis owner) access_diag n vis ≡ at n (access_report S H vis owner)
 unfolding diag_if at access_report choose
@@ -105,16 +112,17 @@ unfolding at access_report
 access_few S H vis owner n = by_choice (λ (rs : List Report). length (at n rs) ≤ 1) _ (λ _. omega arith) (λ _. omega arith)
 
 -- both reports of a method call, t being whether access is blocked
-pub method_reported : (S : Symbols) (H : Header) (vis owner id node : ℕ) (t : Bool) (b : List ℕ) (n : ℕ) (b₁ : List ℕ) (n₁ : ℕ) (b' : List ℕ) (n' : ℕ) → t ≡ blocked S H vis owner
-    → Reported b n b₁ n₁ (diag_if t access_diag node vis) → Reported b₁ n₁ b' n' (at node (suspend_report S H owner id)) → Reported b n b' n' (at node (method_reports S H vis owner id))
-method_reported S H vis owner id node t b n b₁ n₁ b' n' e v w =
-    reported_as (sym (at_append node (access_report S H vis owner) (suspend_report S H owner id)))
-    (reported_append (reported_as (ap (λ (z : Bool). diag_if z access_diag node vis) e ∙ access_told S H vis owner node) v) w)
+pub method_reported : (S : Symbols) (H : Header) (vis owner id node : ℕ) (t : Bool) (b : Reports) {b₁ b' : Reports} → t ≡ blocked S H vis owner
+    → b₁ ≡ reported b (diag_if t access_diag node vis) → b' ≡ reported b₁ (at node (suspend_report S H owner id)) → b' ≡ reported b (at node (method_reports S H vis owner id))
+method_reported S H vis owner id node t b e v w =
+    reported_as b (sym (at_append node (access_report S H vis owner) (suspend_report S H owner id)))
+    (reported_both b (at node (access_report S H vis owner)) (at node (suspend_report S H owner id))
+    (reported_as b (ap (λ (z : Bool). diag_if z access_diag node vis) e ∙ access_told S H vis owner node) v) w)
 
 pub diag_few : (b : Bool) (k n i : ℕ) → length (diag_if b k n i) ≤ 1
 unfolding diag_if
 diag_few b k n i = by_choice (λ (ds : List Diag). length ds ≤ 1) _ (λ _. omega arith) (λ _. omega arith)
 
 -- at most one more
-pub count_few : (t : Bool) (k node i : ℕ) (b : List ℕ) (n : ℕ) (b' : List ℕ) (n' : ℕ) → Reported b n b' n' (diag_if t k node i) → n' ≤ n + 1
-count_few t k node i b n b' n' w = omega (arith, w.count, diag_few t k node i)
+pub count_few : (t : Bool) (k node i : ℕ) (b : Reports) {b' : Reports} → b' ≡ reported b (diag_if t k node i) → b'.count ≤ b.count + 1
+count_few t k node i b w = omega (arith, reported_more b (diag_if t k node i) w, diag_few t k node i)

@@ -1,5 +1,4 @@
 -- What code and proofs hand each other.
-pub mod Mismatch
 pub mod Reported
 pub mod Picked
 pub mod BestPlace

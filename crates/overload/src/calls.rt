@@ -1,22 +1,26 @@
 // A call of a list of functions.
-ghost use Rattle.std.specs.Prelude.{◌+◌, ◌≤◌, ◌<◌, ◌≡◌};
+ghost use Rattle.std.specs.Prelude.{◌+◌, ◌≤◌, ◌<◌, ◌≡◌, length};
 ghost use Rattle.area.specs.Diagnostic.{count_limit};
-ghost use Rattle.index.specs.Inside.IndexedTable.{IndexedTable};
+ghost use Rattle.area.specs.Reported.{reported};
 ghost use Rattle.index.specs.Inside.Found.{FunctionAt};
 ghost use Rattle.symbol.specs.Lookup.{symbols_of};
 ghost use Rattle.symbol.specs.Inside.FunctionFields.{function_at};
 ghost use Rattle.scoring.specs.Arity.{any_own};
+ghost use Rattle.scoring.specs.Inside.Args.{args_in};
 ghost use Rattle.scoring.specs.Inside.Scored.{score_of};
 ghost use Rattle.overload.specs.Resolve.{none_fits};
 ghost use Rattle.overload.specs.Inside.Picked.{taken, picked_in};
 ghost use Rattle.overload.specs.Inside.BestPlace.{error_source};
-ghost use Rattle.overload.specs.Inside.Tally.{many_of, higher_with, most_diagnostics, Room};
-ghost use Rattle.overload.specs.Inside.CallSource.{args_lent, TakesOne, TakesSome, TalliesAll, AnswersCall, SettlesCall, CallsAt};
+ghost use Rattle.overload.specs.Inside.Tally.{many_of, higher_with, unknowns_at, all_unknown_at, tally_with, tally_more, tally_of, most_diagnostics, Room};
+ghost use Rattle.overload.specs.Inside.CallSource.{settled_source, settled_diags, call_at, call_source};
 
 use crate::reports::{by_index, report_if, unknown_names};
-use area::{DiagnosticKind, Source, report};
+use area::reports::Reports;
+use area::types::Slot;
+use area::{DiagnosticKind, Source};
 use index::index::Place;
-use scoring::rows::Args;
+use index::table::Table;
+use scoring::args::Args;
 use scoring::arity::viable;
 use scoring::score::{Score, score_function};
 use symbol::functions::{Function, is_builtin_function, read_function};
@@ -32,34 +36,25 @@ pub struct Highest {
     pub len: usize,
 }
 
-// What the walk over a function list keeps: the first overload that fits in number, how many fit, the highest score, if anything matches, and how many
-// diagnostics there are.
+// What the walk over a function list keeps: the first overload that fits in number, how many fit, and the highest score, if anything matches.
 #[derive(Clone, Copy)]
 pub struct Tally {
     pub first: Option<Place>,
     pub fitting: usize,
     pub highest: Option<Highest>,
-    pub count: usize,
-}
-
-// What a call answers: where its type comes from, and how many diagnostics there are.
-#[derive(Clone, Copy)]
-pub struct Called {
-    pub source: Source,
-    pub count: usize,
 }
 
 // Whether a function of the list is not a builtin.
-fn any_own(table: &[u8], index: &[u16], owner: u16, id: u16) -> bool
-    requires { IndexedTable table.now index.now }
+fn any_own(table: &Table<'_>, owner: u16, id: u16) -> bool
     ensures { result ≡ any_own ((symbols_of table.now).functions_of owner id) }
 {
-    let mut c = Functions::first(table, index, owner, id);
+    let bytes = table.bytes();
+    let mut c = Functions::first(table, owner, id);
     while let Some(p) = c.found() {
-        if !is_builtin_function(table, p) {
+        if !is_builtin_function(bytes, p) {
             return true;
         }
-        c = c.next(table, index);
+        c = c.next(table);
     }
     false
 }
@@ -96,167 +91,150 @@ fn higher(h: Option<Highest>, start: usize, len: usize, s: Option<Score>) -> Opt
 
 // One more overload, which fits: its unknown names are reported, and it is scored.
 fn take_one(
-    table: &[u8],
-    index: &[u16],
+    table: &Table<'_>,
     p: Place,
-    f: Function,
-    area: &[u8],
-    lens: &[usize],
-    args: Args,
+    f: &Function,
+    slots: &[Slot],
+    args: &Args,
     w: Tally,
-    buf: &mut [u8],
+    reports: &mut Reports<'_>,
 ) -> Tally
-    requires { IndexedTable table.now index.now × FunctionAt table.now p × (f ≡ function_at table.now p) × (args.count ≤ 16) × Room w }
-    ensures { TakesOne table.now (args_lent area.now lens.now args) p buf w result }
+    requires { FunctionAt table.now p × (f.now ≡ function_at table.now p) × Room w reports.old }
+    ensures tally { result ≡ tally_with table.now (args_in slots.now args.now) w p }
+    ensures reports { reports.new ≡ reported reports.old (unknowns_at table.now p (args_in slots.now args.now)) }
 {
-    let count = unknown_names(f.params, args, buf, w.count);
-    let score = score_function(table, index, f, area, lens, args);
+    unknown_names(&f.params, args, reports);
+    let score = score_function(table, f, slots, args);
     Tally {
         first: w.first.or(Some(p)),
         fitting: w.fitting + 1,
         highest: higher(w.highest, f.start, f.len, score),
-        count,
     }
 }
 
-// One more function of the list. own: builtins drop out. It stays a flag: a closure in its place would only hold it.
+// One more function of the list, with n arguments. own: builtins drop out.
 fn turn(
-    table: &[u8],
-    index: &[u16],
+    table: &Table<'_>,
     own: bool,
+    n: usize,
     p: Place,
-    area: &[u8],
-    lens: &[usize],
-    args: Args,
+    f: &Function,
+    slots: &[Slot],
+    args: &Args,
     w: Tally,
-    buf: &mut [u8],
+    reports: &mut Reports<'_>,
 ) -> Tally
-    requires { IndexedTable table.now index.now × FunctionAt table.now p × (args.count ≤ 16) × Room w }
-    ensures { TakesSome table.now (args_lent area.now lens.now args) (taken table.now own args.count p) buf w result }
+    requires { FunctionAt table.now p × (f.now ≡ function_at table.now p) × Room w reports.old }
+    ensures tally { result ≡ tally_more table.now (args_in slots.now args.now) w (taken table.now own n p) }
+    ensures reports { reports.new ≡ reported reports.old (all_unknown_at table.now (taken table.now own n p) (args_in slots.now args.now)) }
 {
-    let f = read_function(table, p);
     if own & f.builtin {
         return w;
     }
-    if viable(f, args.count) {
-        return take_one(table, index, p, f, area, lens, args, w, buf);
+    if viable(f, n) {
+        return take_one(table, p, f, slots, args, w, reports);
     }
     w
 }
 
 // The walk over the list.
 fn walk(
-    table: &[u8],
-    index: &[u16],
+    table: &Table<'_>,
     own: bool,
     owner: u16,
     id: u16,
-    area: &[u8],
-    lens: &[usize],
-    args: Args,
-    buf: &mut [u8],
-    count: usize,
+    slots: &[Slot],
+    args: &Args,
+    reports: &mut Reports<'_>,
 ) -> Tally
-    requires { IndexedTable table.now index.now × (args.count ≤ 16) × (count + most_diagnostics ≤ count_limit) }
-    ensures { TalliesAll table.now (args_lent area.now lens.now args) (picked_in table.now own args.count owner id) count buf result }
+    requires { reports.old.count + most_diagnostics ≤ count_limit }
+    ensures tally { result ≡ tally_of table.now (args_in slots.now args.now) (picked_in table.now own (length args.now) owner id) }
+    ensures reports { reports.new ≡ reported reports.old
+        (all_unknown_at table.now (picked_in table.now own (length args.now) owner id) (args_in slots.now args.now)) }
 {
-    let mut c = Functions::first(table, index, owner, id);
+    let bytes = table.bytes();
+    let n = args.len();
+    let mut c = Functions::first(table, owner, id);
     let mut w = Tally {
         first: None,
         fitting: 0,
         highest: None,
-        count,
     };
     while let Some(p) = c.found() {
-        w = turn(table, index, own, p, area, lens, args, w, buf);
-        c = c.next(table, index);
+        let f = read_function(bytes, p);
+        w = turn(table, own, n, p, &f, slots, args, w, reports);
+        c = c.next(table);
     }
     w
 }
 
 // A call of functions of which none fits in number.
-fn none_fits(own: bool, node: usize, n: usize, buf: &mut [u8], count: usize) -> Called
-    requires { count < count_limit }
-    ensures { AnswersCall error_source count (none_fits own node n).diags buf result }
+fn none_fits(own: bool, node: usize, n: usize, reports: &mut Reports<'_>) -> Source
+    requires { reports.old.count < count_limit }
+    ensures source { result ≡ error_source }
+    ensures reports { reports.new ≡ reported reports.old (none_fits own node n).diags }
 {
-    let more = report_if(own, DiagnosticKind::ArgumentCount, node, n, buf, count);
-    Called {
-        source: Source::Kind(Kind::Error),
-        count: more,
-    }
+    report_if(own, DiagnosticKind::ArgumentCount, node, n, reports);
+    Source::Kind(Kind::Error)
 }
 
-// A call of functions of which at least one fits in number, the first of them being at p.
+// A call of functions of which at least one fits in number, the first of them being f, at p.
 fn settle(
-    table: &[u8],
-    index: &[u16],
+    table: &Table<'_>,
     p: Place,
+    f: &Function,
     node: usize,
-    area: &[u8],
-    lens: &[usize],
-    args: Args,
+    slots: &[Slot],
+    args: &Args,
     w: Tally,
-    buf: &mut [u8],
-) -> Called
-    requires { IndexedTable table.now index.now × FunctionAt table.now p × (args.count ≤ 16) × Room w }
-    ensures { SettlesCall table.now (args_lent area.now lens.now args) p node buf w result }
+    reports: &mut Reports<'_>,
+) -> Source
+    requires { FunctionAt table.now p × (f.now ≡ function_at table.now p) × Room w reports.old }
+    ensures source { result ≡ settled_source table.now p w }
+    ensures reports { reports.new ≡ reported reports.old (settled_diags table.now p node (args_in slots.now args.now) w) }
 {
     if let Some(best) = w.highest {
-        let tied = report_if(
-            1 < best.many,
-            DiagnosticKind::Tie,
-            node,
-            best.many,
-            buf,
-            w.count,
-        );
-        return Called {
-            source: Source::Part {
-                start: best.start,
-                len: best.len,
-            },
-            count: tied,
+        report_if(1 < best.many, DiagnosticKind::Tie, node, best.many, reports);
+        return Source::Part {
+            start: best.start,
+            len: best.len,
         };
     }
     if w.fitting == 1 {
-        let f = read_function(table, p);
-        let checked = by_index(table, index, f.params, area, lens, args, buf, w.count);
-        return Called {
-            source: Source::Part {
-                start: f.start,
-                len: f.len,
-            },
-            count: checked,
+        by_index(table, &f.params, slots, args, reports);
+        return Source::Part {
+            start: f.start,
+            len: f.len,
         };
     }
-    let more = report(buf, w.count, DiagnosticKind::NoMatch, node, 0);
-    Called {
-        source: Source::Kind(Kind::Error),
-        count: more,
-    }
+    reports.report(DiagnosticKind::NoMatch, node, 0);
+    Source::Kind(Kind::Error)
 }
 
-// The call at a node of the functions of an owner and a name, once its arguments are judged; no owner is NameId::NONE. The types of the arguments lie in their
-// slots. Reports into the lent buffer, count having been reported before.
+// The call at a node of the functions of an owner and a name, once its arguments are judged: where its type comes from. No owner is NameId::NONE. The types
+// of the arguments lie in their slots.
 pub fn check_call_args(
-    table: &[u8],
-    index: &[u16],
+    table: &Table<'_>,
     owner: u16,
     id: u16,
     node: usize,
-    area: &[u8],
-    lens: &[usize],
-    args: Args,
-    buf: &mut [u8],
-    count: usize,
-) -> Called
-    requires { IndexedTable table.now index.now × (args.count ≤ 16) × (count + most_diagnostics ≤ count_limit) }
-    ensures { CallsAt table.now owner id node area.now lens.now args buf count result }
+    slots: &[Slot],
+    args: &Args,
+    reports: &mut Reports<'_>,
+) -> Source
+    requires { reports.old.count + most_diagnostics ≤ count_limit }
+    ensures source { result ≡ call_source table.now owner id (args_in slots.now args.now) }
+    ensures reports { reports.new ≡ reported reports.old (call_at table.now owner id node slots.now args.now).diags }
 {
-    let own = any_own(table, index, owner, id);
-    let w = walk(table, index, own, owner, id, area, lens, args, buf, count);
+    let bytes = table.bytes();
+    let own = any_own(table, owner, id);
+    let n = args.len();
+    let w = walk(table, own, owner, id, slots, args, reports);
     match w.first {
-        None => none_fits(own, node, args.count, buf, w.count),
-        Some(p) => settle(table, index, p, node, area, lens, args, w, buf),
+        None => none_fits(own, node, n, reports),
+        Some(p) => {
+            let f = read_function(bytes, p);
+            settle(table, p, &f, node, slots, args, w, reports)
+        }
     }
 }

@@ -2,74 +2,68 @@
 ghost use Rattle.std.specs.Prelude.{ℕ, ◌+◌, ◌≤◌, ◌<◌, ◌≡◌, List};
 ghost use Rattle.area.specs.Diagnostic.{count_limit};
 ghost use Rattle.area.specs.DiagnosticKind.{diagnostic_number};
-ghost use Rattle.index.specs.Inside.IndexedTable.{IndexedTable};
+ghost use Rattle.area.specs.Reported.{reported};
 ghost use Rattle.symbol.specs.Lookup.{symbols_of};
-ghost use Rattle.overload.specs.ByIndex.{unknowns, passes_by_index};
-ghost use Rattle.scoring.specs.Inside.Rows.{name_in, rows_in};
-ghost use Rattle.scoring.specs.Inside.Params.{params_in};
-ghost use Rattle.overload.specs.Inside.Mismatch.{mismatches_in};
-ghost use Rattle.overload.specs.Inside.Reported.{diag_if, unknown, Reported};
+ghost use Rattle.symbol.specs.Inside.LookupAnswer.{optional, params_in};
+ghost use Rattle.overload.specs.ByIndex.{unknowns, mismatches, passes_by_index};
+ghost use Rattle.scoring.specs.Inside.Args.{args_in};
+ghost use Rattle.overload.specs.Inside.Reported.{diag_if, unknown};
+ghost use Rattle.ty.specs.Bytes.{Ty};
 
-use area::{DiagnosticKind, report};
+use area::DiagnosticKind;
+use area::reports::Reports;
+use area::types::{Slot, type_of};
+use index::table::Table;
 use rules::accept::param_accepts;
-use scoring::rows::Args;
+use scoring::args::Args;
 use scoring::score::named_place;
 use symbol::functions::Params;
-use ty::{Kind, NameId};
+use ty::Kind;
 
-// A diagnostic, where a test holds; answers the new count.
+// A diagnostic, where a test holds.
 pub fn report_if(
     test: bool,
     kind: DiagnosticKind,
     node: usize,
     number: usize,
-    buf: &mut [u8],
-    count: usize,
-) -> usize
-    requires { count < count_limit }
-    ensures { Reported buf.old count buf.new result (diag_if test (diagnostic_number kind) node number) }
+    reports: &mut Reports<'_>,
+)
+    requires { reports.old.count < count_limit }
+    ensures { reports.new ≡ reported reports.old (diag_if test (diagnostic_number kind) node number) }
 {
     if test {
-        return report(buf, count, kind, node, number);
+        reports.report(kind, node, number);
     }
-    count
 }
 
 // Whether an argument has a name that no parameter has.
-fn unknown(params: Params, id: u16) -> bool
-    requires { params.count ≤ 16 }
-    ensures { (t : List ℕ) → result ≡ unknown (name_in id) (params_in t params) }
+fn unknown(params: &Params, name: Option<u16>) -> bool
+    ensures { (t : List ℕ) → result ≡ unknown (optional name) (params_in t params.now) }
 {
-    id != NameId::NONE && named_place(params, id).is_none()
+    match name {
+        None => false,
+        Some(id) => named_place(params, id).is_none(),
+    }
 }
 
 // The unknown names among a call's arguments.
-pub fn unknown_names(params: Params, args: Args, buf: &mut [u8], count: usize) -> usize
-    requires { (params.count ≤ 16) × (args.count ≤ 16) × (count + 16 ≤ count_limit) }
-    ensures { (t a l : List ℕ) → Reported buf.old count buf.new result
-        (unknowns (params_in t params) 1 (rows_in a l args)) }
+pub fn unknown_names(params: &Params, args: &Args, reports: &mut Reports<'_>)
+    requires { reports.old.count + 16 ≤ count_limit }
+    ensures { (t : List ℕ) (ts : List Ty) → reports.new ≡ reported reports.old (unknowns (params_in t params.now) 1 (args_in ts args.now)) }
 {
-    let mut reported = count;
-    for i in 0..args.count {
-        let test = unknown(params, args.names[i]);
-        reported = report_if(
-            test,
-            DiagnosticKind::UnknownName,
-            args.nodes[i],
-            i + 1,
-            buf,
-            reported,
-        );
+    let items = args.items();
+    for i in 0..items.len() {
+        let x = items[i];
+        let test = unknown(params, x.name);
+        report_if(test, DiagnosticKind::UnknownName, x.node, i + 1, reports);
     }
-    reported
 }
 
 // Whether the check by index lets an argument of the type x pass for a parameter of the type p.
-fn passes_by_index(table: &[u8], index: &[u16], p: &[u8], x: &[u8], vararg: bool) -> bool
-    requires { IndexedTable table.now index.now }
+fn passes_by_index(table: &Table<'_>, p: &[u8], x: &[u8], vararg: bool) -> bool
     ensures { result ≡ passes_by_index (symbols_of table.now) p.now x.now vararg }
 {
-    param_accepts(table, index, p, x, vararg)
+    param_accepts(table, p, x, vararg)
         || ty::is_kind(p, Kind::Any)
         || ty::is_kind(x, Kind::Error)
         || ty::is_kind(x, Kind::Any)
@@ -77,33 +71,22 @@ fn passes_by_index(table: &[u8], index: &[u16], p: &[u8], x: &[u8], vararg: bool
 
 // The check by index: each argument against the parameter at its place, as far as there are both.
 pub fn by_index(
-    table: &[u8],
-    index: &[u16],
-    params: Params,
-    area: &[u8],
-    lens: &[usize],
-    args: Args,
-    buf: &mut [u8],
-    count: usize,
-) -> usize
-    requires { IndexedTable table.now index.now × (params.count ≤ 16) × (args.count ≤ 16) × (count + 16 ≤ count_limit) }
-    ensures { Reported buf.old count buf.new result
-        (mismatches_in table.now params area.now lens.now args) }
+    table: &Table<'_>,
+    params: &Params,
+    slots: &[Slot],
+    args: &Args,
+    reports: &mut Reports<'_>,
+)
+    requires { reports.old.count + 16 ≤ count_limit }
+    ensures { reports.new ≡ reported reports.old (mismatches (symbols_of table.now) (params_in table.now params.now) 1 (args_in slots.now args.now)) }
 {
-    let mut reported = count;
-    for i in 0..args.count.min(params.count) {
-        let node = args.nodes[i];
-        let p = area::part(table, params.starts[i], params.lens[i]);
-        let x = area::slot(area, lens, node);
-        let passes = passes_by_index(table, index, p, x, params.varargs[i]);
-        reported = report_if(
-            !passes,
-            DiagnosticKind::Mismatch,
-            node,
-            i + 1,
-            buf,
-            reported,
-        );
+    let ps = params.items();
+    let xs = args.items();
+    for i in 0..xs.len().min(ps.len()) {
+        let p = ps[i];
+        let x = xs[i];
+        let t = area::part(table.bytes(), p.part.start, p.part.len);
+        let passes = passes_by_index(table, t, type_of(slots, x.node), p.vararg);
+        report_if(!passes, DiagnosticKind::Mismatch, x.node, i + 1, reports);
     }
-    reported
 }

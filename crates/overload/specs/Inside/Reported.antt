@@ -1,16 +1,11 @@
--- Diagnostics in the lent buffer.
-use Rattle.std.specs.Prelude.{ℕ, ◌+◌, ◌≡◌, Bool, true, false, List, [], ◌∷◌, length}
+-- What is reported, by a test.
+use Rattle.std.specs.Prelude.{ℕ, Bool, true, false, List, [], ◌∷◌}
 use Rattle.std.proofs.Math.Option.{Option, none, some}
 use Rattle.ty.specs.Choose.{choose}
-use Rattle.area.specs.Diagnostic.{Diag, put_all}
+use Rattle.area.specs.Diagnostic.{Diag}
 use Rattle.operators.specs.Diag.{diag}
 use Rattle.scoring.specs.Score.{param_named}
 use Rattle.symbol.specs.Symbols.{Param}
-
--- ds were reported: the buffer was b with n diagnostics, and is b' with n'
-pub record Reported (b : List ℕ) (n : ℕ) (b' : List ℕ) (n' : ℕ) (ds : List Diag) : Type 0 where
-  pub count : n' ≡ n + length ds
-  pub buffer : b' ≡ put_all b n ds
 
 -- one diagnostic, where a test holds
 unfoldable pub diag_if : Bool → ℕ → ℕ → ℕ → List Diag

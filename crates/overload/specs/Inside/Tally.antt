@@ -9,6 +9,7 @@ use Rattle.symbol.specs.Inside.FunctionFields.{function_at}
 use Rattle.symbol.specs.Inside.Places.{first_place}
 use Rattle.index.specs.declared.index.Place.{Place}
 use Rattle.area.specs.Diagnostic.{Diag, count_limit}
+use Rattle.area.specs.declared.reports.Reports.{Reports}
 use Rattle.scoring.specs.Arg.{Arg}
 use Rattle.scoring.specs.Score.{score}
 use Rattle.overload.specs.ByIndex.{unknowns, all_unknown}
@@ -59,7 +60,6 @@ tally_with t xs w p =
       first = option_or w.first (Some p);
       fitting = w.fitting + 1;
       highest = higher_with (function_at t p).start (function_at t p).len (score (symbols_of t) (overload_at t p) xs) w.highest;
-      count = w.count + length (unknowns_at t p xs);
     }
 
 -- and once those at some places are
@@ -67,17 +67,16 @@ unfoldable pub tally_more : List ℕ → List Arg → Tally → List Place → T
 tally_more t xs w [] = w
 tally_more t xs w (p ∷ ps) = tally_more t xs (tally_with t xs w p) ps
 
--- the tally of the overloads at some places, n diagnostics having been reported before
-abbrev pub tally_of : List ℕ → List Arg → ℕ → List Place → Tally
-tally_of t xs n ps =
-    record { first = first_place ps; fitting = length ps; highest = highest_at t (chosen_at t ps xs); count = n + length (all_unknown_at t ps xs) }
+-- the tally of the overloads at some places
+abbrev pub tally_of : List ℕ → List Arg → List Place → Tally
+tally_of t xs ps = record { first = first_place ps; fitting = length ps; highest = highest_at t (chosen_at t ps xs) }
 
 -- one call reports fewer: a list has at most 60,000 functions, and each reports at most 16 unknown names
 abbrev pub most_diagnostics : ℕ
 most_diagnostics = 1048576
 
 -- so that no count wraps
-pub record Room (w : Tally) : Type 0 where
+pub record Room (w : Tally) (b : Reports) : Type 0 where
   pub fitting : w.fitting ≤ 60000
   pub many : many_of w.highest ≤ 60000
-  pub count : w.count + 17 ≤ count_limit
+  pub count : b.count + 17 ≤ count_limit

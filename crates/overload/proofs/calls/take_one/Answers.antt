@@ -1,26 +1,22 @@
-use mathlib.Core.Path.{ap, ◌∙◌}
+use mathlib.Core.Path.{ap}
 use native.Mathlib.Omega.{arith}
-use Rattle.area.specs.Diagnostic.{put_all}
+use Rattle.overload.proofs.Reporting.{reported_as}
 use Rattle.overload.proofs.Tallies.{tally_taken}
 use Rattle.scoring.proofs.Scores.{score_of_lem}
 use Rattle.overload.specs.ByIndex.{unknowns}
-use Rattle.scoring.specs.Inside.Rows.{rows_in}
+use Rattle.scoring.specs.Inside.Args.{args_in}
 use Rattle.symbol.proofs.FunctionsRead.{read_is}
 use Rattle.symbol.specs.Symbols.{Overload}
 use Rattle.overload.proofs.calls.take_one.Goals as goal
 
-pub unknown_names-count-requires : goal.unknown_names-count-requires
-unknown_names-count-requires c = ((read_is _ _ c.requires.1 _ c.requires.2).count, c.requires.3, omega (arith, c.requires.4.count))
+pub unknown_names-requires : goal.unknown_names-requires
+unknown_names-requires c = omega (arith, c.requires.2.count)
 
-pub score_function-score-requires : goal.score_function-score-requires
-score_function-score-requires c = (c.requires.0, (read_is _ _ c.requires.1 _ c.requires.2).count, c.requires.3)
+pub returns-clause-tally : goal.returns-clause-tally
+returns-clause-tally c = let read = read_is _ _ c.requires.0 _ c.requires.1 in
+    tally_taken _ _ c.args.w _ _ c.requires.1 read.same _ _ _ c.or.ensures (score_of_lem _ _ c.score_function-score.ensures) c.higher.ensures
 
-pub returns : goal.returns
-returns c = let told = c.unknown_names-count.ensures c.args.table.now c.args.area.now c.args.lens.now in
-    let read = read_is _ _ c.requires.1 _ c.requires.2 in (
-      tally_taken _ _ c.args.w _ _ c.requires.2 read.same _ _ _ _ c.or.ensures (score_of_lem _ _ c.score_function-score.ensures)
-          c.higher.ensures told.count,
-      told.buffer
-          ∙ ap (λ (o : Overload). put_all c.args.buf.now c.args.w.count (unknowns o.params 1 (rows_in c.args.area.now c.args.lens.now c.args.args)))
-          read.same,
-    )
+pub returns-clause-reports : goal.returns-clause-reports
+returns-clause-reports c = let read = read_is _ _ c.requires.0 _ c.requires.1 in
+    reported_as _ (ap (λ (o : Overload). unknowns o.params 1 (args_in c.args.slots.now c.args.args.now)) read.same)
+    (c.unknown_names.ensures c.args.table.now c.args.slots.now)
