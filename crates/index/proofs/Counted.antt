@@ -2,7 +2,6 @@
 use Prim.Native.Nat.{ℕ, zero, suc}
 use mathlib.Core.Path.{◌≡◌, refl}
 use Rattle.index.specs.Inside.Found.{Found, found_at}
-use Rattle.index.specs.declared.index.Place.{Place}
 use Rattle.std.specs.Prelude.{None, Some}
 
 abbrev pub counted : Found → ℕ

@@ -66,7 +66,9 @@ pub fn entry_at(x: &[u16], i: usize) -> usize
 pub fn place_at(x: &[u16], i: usize) -> Option<Place>
     ensures { result ≡ place_at x.now i }
 {
-    Some(Place { at: entry_at(x, i).checked_sub(1)? })
+    Some(Place {
+        at: entry_at(x, i).checked_sub(1)?,
+    })
 }
 
 // Writes an entry.

@@ -49,7 +49,7 @@ pub struct ListCursor {
 impl ListCursor {
     // At the first function of the bucket of an owner and a name.
     #[tactic(auto, unfolding(crate::specs::Inside::ListWalk::list_start))]
-    pub fn new(t: &[u8], x: &[u16], owner: u16, name: u16) -> ListCursor
+    fn new(t: &[u8], x: &[u16], owner: u16, name: u16) -> ListCursor
         ensures { result ≡ list_start (length t.now) x.now owner name }
     {
         let n = t.len();
@@ -73,7 +73,7 @@ impl ListCursor {
 
     // The function here has the owner and the name.
     #[tactic(auto, unfolding(crate::specs::Inside::ListWalk::here_has_key))]
-    pub fn has_key(self, t: &[u8]) -> bool
+    fn has_key(self, t: &[u8]) -> bool
         requires { (0 < self.here) × (self.here ≤ 60000) }
         ensures { result ≡ here_has_key t.now self }
     {
@@ -82,7 +82,7 @@ impl ListCursor {
 
     // At the next function of the bucket.
     #[tactic(auto, unfolding(crate::specs::Inside::ListWalk::list_step))]
-    pub fn step(self, t: &[u8], x: &[u16]) -> ListCursor
+    fn step(self, t: &[u8], x: &[u16]) -> ListCursor
         requires { 0 < self.here }
         ensures { result ≡ list_step (length t.now) x.now self }
     {

@@ -44,7 +44,7 @@ impl<'a> Table<'a> {
     }
 
     // The table's index.
-    pub fn index(&self) -> &'a [u16]
+    pub(crate) fn index(&self) -> &'a [u16]
         ensures { IndexedTable self.now result.now }
     {
         self.index
