@@ -56,6 +56,7 @@ fn put_front(a: Front, out: &mut [u8])
 {
     out[0] = a.number;
     out[1] = a.pass;
+    // a length in two of its eight bytes: `&a.len.to_le_bytes()[..2]` to a range of `out` is no plainer
     put_two(a.len, out, 2);
     out[4..12].copy_from_slice(&a.count.to_le_bytes());
 }

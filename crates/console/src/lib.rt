@@ -17,6 +17,7 @@ pub fn read_full<R: Read>(input: &mut R, buf: &mut [u8]) -> io::Result<usize>
     ensures bytes { IfOk result (λ n. Consumes (R.remaining input.old) (R.remaining input.new) (take n buf.new)) }
     ensures whole { IfOk result (λ n. n < length buf.new → IsAtEnd (R.remaining input.new)) }
 {
+    // no range to go over: each turn goes on by as many bytes as a read gave
     let mut at = 0;
     while at < buf.len() {
         let n = input.read(&mut buf[at..])?;

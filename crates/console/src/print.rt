@@ -105,6 +105,7 @@ impl Writer<'_> {
     }
 }
 
+// By hand: `char::from_digit` answers an Option of a char, to be opened and made a byte.
 #[tactic(auto, unfolding(crate::specs::Text::hex_digit, ty::specs::Choose::choose))]
 fn hex_digit(d: u8) -> u8
     requires { d < 16 }

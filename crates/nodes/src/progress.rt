@@ -41,6 +41,7 @@ pub fn finished(s: State, node: usize, slots: &[Slot]) -> State
 }
 
 // The name that the node at a position gives to the argument that it is.
+#[tactic(auto, using(crate::proofs::Naming::other_name, crate::proofs::Naming::fault_name), unfolding(crate::specs::Inside::Row::name_read))]
 pub fn argument_name(q: &[u8], at: usize) -> Option<u16>
     ensures { result ≡ name_at q.now at }
 {

@@ -225,14 +225,6 @@ module _ (t : List ℕ) (clean : table_fault t ≡ 0) (owner id : ℕ) (k : Bool
                     ∙ ap (λ (qs : List Place). reported b₀ (all_unknown_at t qs xs)) more;
               }
 
--- no count wraps
-pub walked_room : (t : List ℕ) (owner id : ℕ) (k : Bool) (n : ℕ) (xs : List Arg) (b₀ : Reports) {b : Reports} (w : Tally) → table_fault t ≡ 0
-    → w ≡ tally_of t xs (picked t k n (function_places t owner id)) → b ≡ reported b₀ (all_unknown_at t (picked t k n (function_places t owner id)) xs) → length xs ≤ 16
-    → b₀.count + most_diagnostics ≤ count_limit → Room w b
-walked_room t owner id k n xs b₀ w clean e f short room =
-    tally_room t xs b₀ w (picked t k n (function_places t owner id)) e f
-    (omega (arith, picked_few t k n (function_places t owner id), places_few t owner id clean)) short room
-
 -- ---- functions stand at the places of a list
 module _ (t : List ℕ) (clean : table_fault t ≡ 0) where
   found_stand : (ps : List Place) → PlaceFound t ps (first_place ps) → AllStand t ps

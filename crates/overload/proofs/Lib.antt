@@ -1,5 +1,5 @@
 pub mod LastWalkSilent
-pub mod Reporting
+pub mod ArgumentReports
 pub mod SingleReports
 pub mod OverloadFold
 pub mod Tallies

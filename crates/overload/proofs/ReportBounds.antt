@@ -8,7 +8,7 @@ use Rattle.area.specs.Diagnostic.{Diag}
 use Rattle.symbol.proofs.AcceptedTable.{functions_few}
 use Rattle.record.specs.TableRefused.{table_fault}
 use Rattle.overload.proofs.OverloadFold.{usable_few}
-use Rattle.overload.proofs.Reporting.{all_unknown_few, mismatches_few}
+use Rattle.overload.proofs.ArgumentReports.{all_unknown_few, mismatches_few}
 use Rattle.overload.proofs.SingleReports.{access_few, at_append}
 use Rattle.scoring.specs.Arg.{Arg}
 use Rattle.scoring.specs.Arity.{any_own, usable, fitting}

@@ -9,14 +9,14 @@ use mathlib.Core.Path.{◌≡◌, refl, sym, ap, ◌∙◌}
 use native.Mathlib.Omega.{arith}
 use Rattle.area.specs.Diagnostic.{Diag}
 use Rattle.std.specs.Prelude.{Option as Maybe, Some, None, is_some}
-use Rattle.overload.proofs.Reporting.{reported_as}
+use Rattle.overload.proofs.ArgumentReports.{reported_as}
 use Rattle.scoring.specs.Arg.{Arg}
 use Rattle.overload.specs.Before.{suspend_allowed, suspend_report, method_reports}
 use Rattle.overload.specs.ByIndex.{absent, unknown_one, passes_by_index, mismatch_one}
 use Rattle.scoring.specs.Inside.Params.{as_place, named_place}
 use Rattle.symbol.specs.Inside.LookupAnswer.{params_in}
 use Rattle.symbol.specs.declared.functions.Param.{Param as Read}
-use Rattle.overload.specs.Inside.Reported.{diag_if, missing, unknown}
+use Rattle.overload.specs.Inside.DiagIf.{diag_if, missing, unknown}
 use Rattle.area.proofs.Reporting.{reported_both, reported_more}
 use Rattle.area.specs.Reported.{reported}
 use Rattle.area.specs.declared.reports.Reports.{Reports}

@@ -12,7 +12,7 @@ use Rattle.area.specs.Diagnostic.{Diag, count_limit}
 use Rattle.area.specs.Reported.{reported}
 use Rattle.area.specs.declared.reports.Reports.{Reports}
 use Rattle.overload.proofs.OverloadFold.{higher_best, chosen_snoc, chosen_few, unknown_one_lem}
-use Rattle.overload.proofs.Reporting.{all_unknown_few, reported_as}
+use Rattle.overload.proofs.ArgumentReports.{all_unknown_few, reported_as}
 use Rattle.scoring.specs.Arg.{Arg}
 use Rattle.overload.specs.ByIndex.{all_unknown}
 use Rattle.overload.specs.Inside.BestPlace.{BestPlace, nowhere, chosen_from, chosen_at}

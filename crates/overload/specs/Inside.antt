@@ -1,5 +1,5 @@
 -- What code and proofs hand each other.
-pub mod Reported
+pub mod DiagIf
 pub mod Picked
 pub mod BestPlace
 pub mod Tally

@@ -3,6 +3,7 @@ ghost use Rattle.std.specs.Prelude.{◌+◌, ◌≤◌, ◌<◌, ◌≡◌, leng
 ghost use Rattle.area.specs.Diagnostic.{count_limit};
 ghost use Rattle.area.specs.Reported.{reported};
 ghost use Rattle.index.specs.Inside.Found.{FunctionAt};
+ghost use Rattle.record.specs.TableRefused.{table_fault};
 ghost use Rattle.symbol.specs.Lookup.{symbols_of};
 ghost use Rattle.symbol.specs.Inside.FunctionFields.{function_at};
 ghost use Rattle.scoring.specs.Arity.{any_own};
@@ -151,6 +152,8 @@ fn walk(
     ensures tally { result ≡ tally_of table.now (args_in slots.now args.now) (picked_in table.now own (length args.now) owner id) }
     ensures reports { reports.new ≡ reported reports.old
         (all_unknown_at table.now (picked_in table.now own (length args.now) owner id) (args_in slots.now args.now)) }
+    ensures room { Room result reports.new }
+    ensures clean { table_fault table.now ≡ 0 }
 {
     let bytes = table.bytes();
     let n = args.len();
@@ -178,18 +181,17 @@ fn none_fits(own: bool, node: usize, n: usize, reports: &mut Reports<'_>) -> Sou
     Source::Kind(Kind::Error)
 }
 
-// A call of functions of which at least one fits in number, the first of them being f, at p.
+// A call of functions of which at least one fits in number, the first of them being at p.
 fn settle(
     table: &Table<'_>,
     p: Place,
-    f: &Function,
     node: usize,
     slots: &[Slot],
     args: &Args,
     w: Tally,
     reports: &mut Reports<'_>,
 ) -> Source
-    requires { FunctionAt table.now p × (f.now ≡ function_at table.now p) × Room w reports.old }
+    requires { FunctionAt table.now p × Room w reports.old }
     ensures source { result ≡ settled_source table.now p w }
     ensures reports { reports.new ≡ reported reports.old (settled_diags table.now p node (args_in slots.now args.now) w) }
 {
@@ -201,6 +203,7 @@ fn settle(
         };
     }
     if w.fitting == 1 {
+        let f = read_function(table.bytes(), p);
         by_index(table, &f.params, slots, args, reports);
         return Source::Part {
             start: f.start,
@@ -226,15 +229,10 @@ pub fn check_call_args(
     ensures source { result ≡ call_source table.now owner id (args_in slots.now args.now) }
     ensures reports { reports.new ≡ reported reports.old (call_at table.now owner id node slots.now args.now).diags }
 {
-    let bytes = table.bytes();
     let own = any_own(table, owner, id);
-    let n = args.len();
     let w = walk(table, own, owner, id, slots, args, reports);
     match w.first {
-        None => none_fits(own, node, n, reports),
-        Some(p) => {
-            let f = read_function(bytes, p);
-            settle(table, p, &f, node, slots, args, w, reports)
-        }
+        None => none_fits(own, node, args.len(), reports),
+        Some(p) => settle(table, p, node, slots, args, w, reports),
     }
 }

@@ -7,7 +7,7 @@ ghost use Rattle.symbol.specs.Lookup.{symbols_of};
 ghost use Rattle.symbol.specs.Inside.LookupAnswer.{optional, params_in};
 ghost use Rattle.overload.specs.ByIndex.{unknowns, mismatches, passes_by_index};
 ghost use Rattle.scoring.specs.Inside.Args.{args_in};
-ghost use Rattle.overload.specs.Inside.Reported.{diag_if, unknown};
+ghost use Rattle.overload.specs.Inside.DiagIf.{diag_if, unknown};
 ghost use Rattle.ty.specs.Bytes.{Ty};
 
 use area::DiagnosticKind;

@@ -118,6 +118,7 @@ fn node_of(k: u8, there: usize, op: u8, id: u16, count: u8) -> Result<Node, Node
 fn node_in(s: &[u8]) -> Result<Node, NodeFault>
     ensures { read_of result ≡ node_in s.now }
 {
+    // a leaf apart: its type is read before the bytes that other kinds have are looked at
     let k = kind_of(s);
     if k == 0 {
         return leaf(tail(s, 1));

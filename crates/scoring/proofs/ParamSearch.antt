@@ -14,7 +14,7 @@ use native.Mathlib.Omega.{arith}
 use Rattle.scoring.proofs.ParamsAndArgsLeft.{params_next, params_none}
 use Rattle.scoring.specs.Inside.Params.{param_here, param_at, place_read, as_place, named_place}
 use Rattle.scoring.specs.Score.{param_named, place_named, unmarked_from}
-use Rattle.symbol.specs.Inside.LookupAnswer.{param_read, params_in}
+use Rattle.symbol.specs.Inside.LookupAnswer.{param_seen, params_in}
 use Rattle.symbol.specs.Symbols.{Param}
 use Rattle.symbol.specs.declared.functions.Param.{Param as Read}
 use Rattle.ty.proofs.Choice.{choose_yes, choose_no}
@@ -55,7 +55,7 @@ module _ (t : List ℕ) (ps : List Read) (id : ℕ) where
       go (d, e, f) ih = rw e (by (eqb d.name id) ih)
         where
           by : (b : Bool) → param_named id (params_in t (drop (suc j) ps)) ≡ param_here t (param_at ps (as_place (place_named id (suc j) (params_in t (drop (suc j) ps)))))
-              → choose b (some (param_read t d)) (param_named id (params_in t (drop (suc j) ps)))
+              → choose b (some (param_seen t d)) (param_named id (params_in t (drop (suc j) ps)))
               ≡ param_here t (param_at ps (as_place (choose b (some j) (place_named id (suc j) (params_in t (drop (suc j) ps))))))
           by true g = sym (ap (λ (o : Maybe Read). param_here t o) f)
           by false g = g
@@ -81,7 +81,7 @@ module _ (t : List ℕ) (ps : List Read) (marks : List Bool) (j : ℕ) where
       ap (λ (ps : List Param). unmarked_from j ps marks) (params_next t ps j d h)
       ∙ choose_yes _ _ _ e ∙ ap (λ (k : ℕ). unmarked_from k (params_in t (drop (j + 1) ps)) marks) f
 
-  pub free_here : (d : Read) → j < length ps → get_or marks j false ≡ false → unmarked_from j (params_in t (drop j ps)) marks ≡ some (param_read t (get_or ps j d))
+  pub free_here : (d : Read) → j < length ps → get_or marks j false ≡ false → unmarked_from j (params_in t (drop j ps)) marks ≡ some (param_seen t (get_or ps j d))
   unfolding unmarked_from
   free_here d h e = ap (λ (ps : List Param). unmarked_from j ps marks) (params_next t ps j d h) ∙ choose_no _ _ _ e
 

@@ -8,13 +8,13 @@ use Rattle.scoring.specs.Arg.{Arg as Seen}
 use Rattle.scoring.specs.Inside.Args.{args_in}
 use Rattle.scoring.specs.declared.args.Arg.{Arg}
 use Rattle.area.specs.Inside.Slot.{type_at}
-use Rattle.symbol.specs.Inside.LookupAnswer.{optional, param_read, params_in}
+use Rattle.symbol.specs.Inside.LookupAnswer.{optional, param_seen, params_in}
 use Rattle.symbol.specs.Symbols.{Param}
 use Rattle.symbol.specs.declared.functions.Param.{Param as Read}
 use Rattle.ty.specs.Bytes.{Ty}
 
 module _ (t : List ℕ) (ps : List Read) (i : ℕ) where
-  pub params_next : (d : Read) → i < length ps → params_in t (drop i ps) ≡ param_read t (get_or ps i d) ∷ params_in t (drop (i + 1) ps)
+  pub params_next : (d : Read) → i < length ps → params_in t (drop i ps) ≡ param_seen t (get_or ps i d) ∷ params_in t (drop (i + 1) ps)
   params_next d h = ap (params_in t) (drop_more ps i d h)
 
   pub params_none : length ps ≤ i → params_in t (drop i ps) ≡ []

@@ -22,7 +22,7 @@ use Rattle.scoring.specs.declared.args.Arg.{Arg}
 use Rattle.scoring.specs.declared.score.NamedPass.{NamedPass}
 use Rattle.scoring.specs.declared.score.Score.{Score}
 use Rattle.rules.specs.Accept.{param_accepts}
-use Rattle.symbol.specs.Inside.LookupAnswer.{optional, param_read, params_in}
+use Rattle.symbol.specs.Inside.LookupAnswer.{optional, param_seen, params_in}
 use Rattle.symbol.specs.Symbols.{Param, Symbols}
 use Rattle.symbol.specs.Lookup.{symbols_of}
 use Rattle.symbol.specs.declared.functions.Function.{Function}
@@ -66,14 +66,14 @@ sum_done {s} {left} {whole} e g = sym (plus_none_more s) ∙ ap (λ (z : Option 
 
 -- ---- an argument against a parameter, by the tests of the code
 module _ (S : Symbols) (t : List ℕ) (o : Option ℕ) (x : Ty) (f : Maybe Read) (p : Read) (at : f ≡ Some p) where
-  compared_at : as_score (compared S (param_read t p) x) ≡ as_score (compared_or S o (param_here t f) x)
+  compared_at : as_score (compared S (param_seen t p) x) ≡ as_score (compared_or S o (param_here t f) x)
   compared_at = sym (ap (λ (r : Maybe Read). as_score (compared_or S o (param_here t r) x)) at)
 
   module _ (q b : List ℕ) (part : q ≡ take p.part.len (drop p.part.start b)) (bytes : b ≡ t) (v : Bool) (same : v ≡ same_bytes x q) where
-    type_is : q ≡ (param_read t p).ty
+    type_is : q ≡ (param_seen t p).ty
     type_is = part ∙ ap (λ (z : List ℕ). take p.part.len (drop p.part.start z)) bytes
 
-    same_is : same_bytes x (param_read t p).ty ≡ v
+    same_is : same_bytes x (param_seen t p).ty ≡ v
     same_is = sym (same ∙ ap (λ (z : List ℕ). same_bytes x z) type_is)
 
     pub compared_same : v ≡ true → Some (record { points = 2 }) ≡ as_score (compared_or S o (param_here t f) x)
@@ -81,7 +81,7 @@ module _ (S : Symbols) (t : List ℕ) (o : Option ℕ) (x : Ty) (f : Maybe Read)
     compared_same e = sym (ap (λ (s : Option ℕ). as_score s) (choose_yes _ _ _ (same_is ∙ e))) ∙ compared_at
 
     module _ (e : v ≡ false) (c : Bool) (accepts : c ≡ param_accepts S q x p.vararg) where
-      accepts_is : param_accepts S (param_read t p).ty x p.vararg ≡ c
+      accepts_is : param_accepts S (param_seen t p).ty x p.vararg ≡ c
       accepts_is = sym (accepts ∙ ap (λ (z : List ℕ). param_accepts S z x p.vararg) type_is)
 
       pub compared_taken : c ≡ true → Some (record { points = 1 }) ≡ as_score (compared_or S o (param_here t f) x)

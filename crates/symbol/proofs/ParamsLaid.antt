@@ -10,7 +10,7 @@ use native.Mathlib.Nat.{sub-zero}
 use Rattle.std.proofs.lemmas.List.Elements.{All-nil, All-cons}
 use Rattle.ty.specs.Bytes.{id_at}
 use Rattle.record.proofs.Own.{drop-take}
-use Rattle.symbol.specs.Inside.LookupAnswer.{param_read, InTable}
+use Rattle.symbol.specs.Inside.LookupAnswer.{param_seen, InTable}
 use Rattle.record.specs.Inside.Keyed.{type_length}
 use Rattle.symbol.specs.Inside.FoundSymbols.{param_of, params_from}
 use Rattle.symbol.specs.Inside.FunctionFields.{param_laid, params_laid}
@@ -48,7 +48,7 @@ module _ (t : List ℕ) (end : ℕ) (high : end ≤ length t) (n at : ℕ) (insi
   pub param_room : at + 3 + type_length (part t (at + 3) end) ≤ end
   param_room = omega (arith, row.0.inside, part_length t at end high, long, inside)
 
-  here : param_of (part t at end) (type_length (drop 3 (part t at end))) ≡ param_read t (param_laid t end at)
+  here : param_of (part t at end) (type_length (drop 3 (part t at end))) ≡ param_seen t (param_laid t end at)
   here =
       let z : at + 0 ≡ at = omega arith in
       let a : id_at (part t at end) 0 ≡ id_at t at = part_id t at end 0 (omega (arith, param_room)) ∙ ap (λ (k : ℕ). id_at t k) z in
@@ -69,7 +69,7 @@ module _ (t : List ℕ) (end : ℕ) (high : end ≤ length t) (n at : ℕ) (insi
   row_behind = subst (λ (x : List ℕ). ParamsAt n x) behind row.1
 
   pub one_laid : params_from (suc n) (part t at end)
-      ≡ param_read t (param_laid t end at) ∷ params_from n (part t (at + 3 + type_length (part t (at + 3) end)) end)
+      ≡ param_seen t (param_laid t end at) ∷ params_from n (part t (at + 3 + type_length (part t (at + 3) end)) end)
   unfolding params_from
   one_laid = λ i. here i ∷ params_from n (behind i)
 
@@ -83,7 +83,7 @@ laid_are t end high (suc n) at inside row =
     let rest = laid_are t end high n (at + 3 + type_length (part t (at + 3) end)) room (row_behind t end high n at inside row) in
     record {
       count = ap suc rest.count;
-      same = ap (λ (ps : List Param). param_read t (param_laid t end at) ∷ ps) rest.same ∙ sym (one_laid t end high n at inside row);
+      same = ap (λ (ps : List Param). param_seen t (param_laid t end at) ∷ ps) rest.same ∙ sym (one_laid t end high n at inside row);
       types = All-cons (InTable t) (param_laid t end at) _ (omega (arith, room)) rest.types;
     }
 

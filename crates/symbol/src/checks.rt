@@ -226,6 +226,7 @@ fn check_records(t: &[u8], x: &mut [u16], late: &mut [u16]) -> Result<u16, Table
     let mut kind: u8 = 0;
     let mut names: u16 = 0;
     let mut looked = false;
+    // no range to go over: where the next record begins is known once this one is read
     while c.at < t.len() {
         let s = c.step(t);
         let Some(h) = s.head else {

@@ -166,6 +166,7 @@ pub fn read_type(s: &[u8], limit: u16) -> Result<TypeRead, TypeFault>
     let mut pending: usize = 1;
     let mut top: u16 = 0;
     let mut error = false;
+    // no range to go over: what is pending grows with each child and falls with each item
     while pending != 0 {
         match item_at(s, end, at) {
             Err(ItemFault::Broken) => {

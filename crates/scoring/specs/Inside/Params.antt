@@ -3,7 +3,7 @@ use Rattle.std.specs.Prelude.{ℕ, List, Option as Maybe, Some, None}
 use Rattle.std.specs.List.{slice_get}
 use Rattle.std.proofs.Math.Option.{Option, none, some}
 use Rattle.symbol.specs.Symbols.{Param}
-use Rattle.symbol.specs.Inside.LookupAnswer.{param_read, params_in}
+use Rattle.symbol.specs.Inside.LookupAnswer.{param_seen, params_in}
 use Rattle.symbol.specs.declared.functions.Param.{Param as Read}
 use Rattle.scoring.specs.Score.{place_named}
 
@@ -20,7 +20,7 @@ as_place (some j) = Some j
 -- the parameter that was read, if there is one
 abbrev pub param_here : List ℕ → Maybe Read → Option Param
 param_here t None = none
-param_here t (Some p) = some (param_read t p)
+param_here t (Some p) = some (param_seen t p)
 
 -- the parameter at a place, if there is one
 abbrev pub param_at : List Read → Maybe ℕ → Maybe Read

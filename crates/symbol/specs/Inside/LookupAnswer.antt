@@ -51,11 +51,11 @@ FunctionFound t all None = all ≡ []
 FunctionFound t all (Some p) = FunctionIs t all p
 
 -- ---- a function that was read: its types are parts of the table
-abbrev pub param_read : List ℕ → Read → Param
-param_read t p = record { name = p.name; default = p.default; vararg = p.vararg; ty = take p.part.len (drop p.part.start t) }
+abbrev pub param_seen : List ℕ → Read → Param
+param_seen t p = record { name = p.name; default = p.default; vararg = p.vararg; ty = take p.part.len (drop p.part.start t) }
 
 abbrev pub params_in : List ℕ → List Read → List Param
-params_in t ps = map (param_read t) ps
+params_in t ps = map (param_seen t) ps
 
 abbrev pub overload_in : List ℕ → Function → Overload
 overload_in t f =

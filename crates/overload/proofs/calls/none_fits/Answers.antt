@@ -1,4 +1,4 @@
-use Rattle.overload.proofs.Reporting.{reported_as}
+use Rattle.overload.proofs.ArgumentReports.{reported_as}
 use Rattle.overload.proofs.SingleReports.{none_told}
 use Rattle.overload.proofs.calls.none_fits.Goals as goal
 

@@ -1,6 +1,6 @@
 use mathlib.Core.Path.{ap}
 use native.Mathlib.Omega.{arith}
-use Rattle.overload.proofs.Reporting.{reported_as}
+use Rattle.overload.proofs.ArgumentReports.{reported_as}
 use Rattle.overload.proofs.Tallies.{tally_taken}
 use Rattle.scoring.proofs.Scores.{score_of_lem}
 use Rattle.overload.specs.ByIndex.{unknowns}

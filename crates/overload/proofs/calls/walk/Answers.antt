@@ -33,3 +33,7 @@ returns-clause-tally c = rw c.len-n.ensures.is at (walk_ended _ c.bytes-bytes.en
 
 pub returns-clause-reports : goal.returns-clause-reports
 returns-clause-reports c = rw c.len-n.ensures.is at (walk_told _ c.bytes-bytes.ensures.clean _ _ _ _ _ _ _ _ _ c.loop-p.invariant _ c.found.ensures c.in_default.is)
+
+pub returns-clause-room : goal.returns-clause-room
+returns-clause-room c = walk_room _ c.bytes-bytes.ensures.clean _ _ _ _ _ _ _ _ _ c.loop-p.invariant
+    (omega (arith, args_length c.args.slots.now c.args.args.now, c.len-n.ensures.few)) c.requires

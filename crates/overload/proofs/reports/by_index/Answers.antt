@@ -1,5 +1,5 @@
 use native.Mathlib.Omega.{arith}
-use Rattle.overload.proofs.Reporting.{reported_as, index_start, index_turn, index_done}
+use Rattle.overload.proofs.ArgumentReports.{reported_as, index_start, index_turn, index_done}
 use Rattle.overload.proofs.SingleReports.{mismatch_told}
 use Rattle.overload.proofs.reports.by_index.Goals as goal
 

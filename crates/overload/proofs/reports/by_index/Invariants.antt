@@ -1,4 +1,4 @@
-use Rattle.overload.proofs.Reporting.{IndexFrom}
+use Rattle.overload.proofs.ArgumentReports.{IndexFrom}
 use Rattle.symbol.specs.Lookup.{symbols_of}
 use Rattle.overload.proofs.reports.by_index.Given as goal
 

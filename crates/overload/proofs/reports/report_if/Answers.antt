@@ -1,4 +1,4 @@
-use Rattle.overload.proofs.Reporting.{reported_yes, reported_no}
+use Rattle.overload.proofs.ArgumentReports.{reported_yes, reported_no}
 use Rattle.overload.proofs.reports.report_if.Goals as goal
 
 pub returns-then-test : goal.returns-then-test

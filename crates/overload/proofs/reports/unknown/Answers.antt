@@ -1,6 +1,6 @@
 use mathlib.Core.Path.{ap, refl, ◌∙◌}
 use Rattle.overload.proofs.SingleReports.{unknown_named}
-use Rattle.overload.specs.Inside.Reported.{unknown}
+use Rattle.overload.specs.Inside.DiagIf.{unknown}
 use Rattle.overload.proofs.reports.unknown.Goals as goal
 
 pub returns-in-None : goal.returns-in-None

@@ -1,7 +1,7 @@
 use lib.ListN.{length}
 use mathlib.Core.Path.{ap}
 use native.Mathlib.Omega.{arith}
-use Rattle.overload.proofs.Reporting.{reported_as, unknown_start, unknown_turn, unknown_done}
+use Rattle.overload.proofs.ArgumentReports.{reported_as, unknown_start, unknown_turn, unknown_done}
 use Rattle.overload.proofs.SingleReports.{unknown_told}
 use Rattle.overload.proofs.reports.unknown_names.Goals as goal
 

@@ -1,4 +1,4 @@
-use Rattle.overload.proofs.Reporting.{UnknownFrom}
+use Rattle.overload.proofs.ArgumentReports.{UnknownFrom}
 use Rattle.overload.proofs.reports.unknown_names.Given as goal
 
 abbrev pub invariant-loop-i : goal.invariant-loop-i

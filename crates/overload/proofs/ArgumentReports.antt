@@ -18,9 +18,9 @@ use Rattle.scoring.specs.Arg.{Arg as Seen}
 use Rattle.scoring.specs.declared.args.Arg.{Arg}
 use Rattle.overload.specs.ByIndex.{absent, unknown_one, unknowns, all_unknown, mismatch_one, mismatches}
 use Rattle.scoring.specs.Inside.Args.{args_in}
-use Rattle.overload.specs.Inside.Reported.{diag_if}
+use Rattle.overload.specs.Inside.DiagIf.{diag_if}
 use Rattle.scoring.specs.Score.{param_named}
-use Rattle.symbol.specs.Inside.LookupAnswer.{optional, param_read, params_in}
+use Rattle.symbol.specs.Inside.LookupAnswer.{optional, param_seen, params_in}
 use Rattle.symbol.specs.Symbols.{Param, Overload, Symbols}
 use Rattle.symbol.specs.declared.functions.Param.{Param as Read}
 use Rattle.operators.specs.Diag.{diag}
@@ -134,11 +134,11 @@ module _ (S : Symbols) where
 
     module _ (b : Reports) (i : ℕ) (w : IndexFrom t ps ts xs b₀ b i) where
       pub index_turn : (d : Read) (e : Arg) (b₁ : Reports) → i < length xs → i < length ps
-          → b₁ ≡ reported b (mismatch_one S (param_read t (get_or ps i d)) (i + 1) (seen ts (get_or xs i e))) → IndexFrom t ps ts xs b₀ b₁ (i + 1)
+          → b₁ ≡ reported b (mismatch_one S (param_seen t (get_or ps i d)) (i + 1) (seen ts (get_or xs i e))) → IndexFrom t ps ts xs b₀ b₁ (i + 1)
       unfolding mismatches
       index_turn d e b₁ h g v =
           let f : suc (i + 1) ≡ i + 1 + 1 = omega arith in
-          let p : Param = param_read t (get_or ps i d) in
+          let p : Param = param_seen t (get_or ps i d) in
           let x : Seen = seen ts (get_or xs i e) in
           record {
             few = omega (arith, w.few, reported_more b (mismatch_one S p (i + 1) x) v, mismatch_few p (i + 1) x);
