@@ -28,11 +28,7 @@ sized_of n a b c = go (ltb 16384 n) (ltb 2048 n)
     go false true = refl
     go false false = refl
 
--- a table of more than 16,384 bytes, of more than 2,048, and a short one
-pub buckets_many : (n : ℕ) → 16384 < n → bucket_count n ≡ 8192
-unfolding bucket_count choose
-buckets_many n h = rw (lt-ltb 16384 n h)
-
+-- a table of more than 2,048 bytes, and a short one
 pub buckets_some : (n : ℕ) → n ≤ 16384 → 2048 < n → bucket_count n ≡ 2048
 unfolding bucket_count choose
 buckets_some n h l = rw (le-ltb 16384 n h, lt-ltb 2048 n l)
@@ -40,10 +36,6 @@ buckets_some n h l = rw (le-ltb 16384 n h, lt-ltb 2048 n l)
 pub buckets_few : (n : ℕ) → n ≤ 2048 → bucket_count n ≡ 256
 unfolding bucket_count choose
 buckets_few n h = let l : n ≤ 16384 = omega arith in rw (le-ltb 16384 n l, le-ltb 2048 n h)
-
-pub lists_many : (n : ℕ) → 16384 < n → list_count n ≡ 1024
-unfolding list_count choose
-lists_many n h = rw (lt-ltb 16384 n h)
 
 pub lists_some : (n : ℕ) → n ≤ 16384 → 2048 < n → list_count n ≡ 256
 unfolding list_count choose

@@ -8,10 +8,10 @@ use native.Mathlib.Omega.{arith}
 use Rattle.index.proofs.Counted.{counted, counted_found}
 use Rattle.index.proofs.ListSearch.{left_of}
 use Rattle.index.proofs.Searches.{Seeking, seeking_start, seeking_node, seeking_less, seeking_next, seeking_free}
-use Rattle.index.specs.Inside.SearchKey.{tree_for, digits_for, key_matches, KeyIn}
+use Rattle.index.specs.Inside.SearchKey.{tree_for, digits_for, key_matches}
 use Rattle.index.specs.Inside.SearchTree.{TreeMember, Tree}
 use Rattle.index.specs.Inside.Spot.{Open, SpotIs}
-use Rattle.index.specs.Inside.TreeWalk.{tree_start, tree_step, TreeStepAsked, spot_of, spot_at, ends_at, stepped, search_from, search_of}
+use Rattle.index.specs.Inside.TreeWalk.{tree_start, tree_step, spot_of, spot_at, ends_at, stepped, search_from, search_of}
 use Rattle.index.specs.declared.tree.Key.{Key}
 use Rattle.index.specs.declared.index.Place.{Place}
 use Rattle.std.specs.Prelude.{Result, Ok, None, Some}
@@ -127,9 +127,6 @@ module _ (t x : List ℕ) (k : Key) (g : Open t x) where
 
       pub sought_node : TreeMember t g.end p.at
       sought_node = cursor_node t x k g c s.seeking p z g.end g.tree
-
-      pub sought_asked : KeyIn t k → TreeStepAsked t k c
-      sought_asked i = record { key = i; digits = s.digits; few = omega (arith, s.seeking.few, g.short) }
 
       pub sought_less : (n : TreeCursor) → n ≡ tree_step t x k c p → left_of (length t) (counted n.here) < left_of (length t) (counted c.here)
       sought_less n q =

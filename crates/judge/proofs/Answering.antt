@@ -1,12 +1,12 @@
 -- Laws of the answer, on plain values: what each return leaves.
-use Prim.Native.Nat.{ℕ, zero, suc, ◌+◌, ◌*◌, ◌≤◌}
-use borrow.Author.Tests.{eq-eqb, ne_eqb, ltb-false, eqb-true}
+use Prim.Native.Nat.{ℕ, suc, ◌+◌, ◌*◌, ◌≤◌}
+use borrow.Author.Tests.{eq-eqb, ne_eqb, ltb-false}
 use lib.Dec.{eqb, ltb}
 use lib.ListN.{length, get_or, length-take, length-replicate}
 use lib.Seq.{sets}
-use mathlib.Core.Bool.{Bool, true, false, ◌&&◌}
+use mathlib.Core.Bool.{Bool, true, false}
 use mathlib.Core.List.{List, [], ◌∷◌}
-use mathlib.Core.Path.{◌≡◌, refl, sym, ap, subst, ◌∙◌}
+use mathlib.Core.Path.{◌≡◌, refl, sym, ap, ◌∙◌}
 use native.Mathlib.Omega.{arith}
 use Rattle.area.proofs.Diagnostics.{put_all-length, put_padded}
 use Rattle.written.proofs.ListFacts.{sets-zeros}

@@ -1,14 +1,14 @@
 -- The room that is enough for the index of a table.
 use Prim.Native.Nat.{ℕ, ◌≤◌}
 use borrow.Author.Tests.{ltb-false}
-use lib.ListN.{length, replicate, length-replicate}
+use lib.ListN.{length, length-replicate}
 use mathlib.Core.List.{List}
 use mathlib.Core.Path.{◌≡◌, sym, ◌∙◌}
 use native.Mathlib.Omega.{arith}
 use Rattle.index.proofs.Rooms.{room_short, room_middle, room_long}
 use Rattle.index.specs.Inside.Index.{index_size, size_of, short_table, middle_table}
 use Rattle.index.specs.declared.index.TableSize.{TableSize}
-use Rattle.index.specs.declared.index.TableSize.TheVariants.{Short, Middle, Long}
+use Rattle.index.specs.declared.index.TableSize.TheVariants.{Short, Middle}
 use Rattle.ty.proofs.Choice.{by_choice}
 
 short_size : (n : ℕ) → size_of n ≡ Short → n ≤ short_table

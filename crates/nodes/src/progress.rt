@@ -46,6 +46,7 @@ pub fn finished(s: State, node: usize, count: usize, area: &[u8], lens: &[usize]
 }
 
 // The name that the node at a position gives to the argument that it is, NameId::NONE for none.
+#[tactic(auto, using(crate::proofs::Naming::other_name, crate::proofs::Naming::fault_name), unfolding(crate::specs::Inside::Row::name_read))]
 pub fn argument_name(q: &[u8], at: usize) -> u16
     ensures { result ≡ name_at q.now at }
 {

@@ -1,7 +1,7 @@
 -- Laws of assignability: each step goes to types that are shorter together, so the fuel does not matter, and `can_assign` unfolds into itself on them.
 --
-use mathlib.Core.Path.{◌≡◌, refl}
-use mathlib.Core.Bool.{Bool, true, false, false≢true}
+use mathlib.Core.Path.{◌≡◌, refl, sym}
+use mathlib.Core.Bool.{Bool, true, false, false≢true, ◌||◌}
 use mathlib.Core.List.{[], ◌∷◌}
 use mathlib.Core.Logic.{◌⊎◌, inl, inr}
 use Prim.Native.Nat.{ℕ, zero, suc, ◌+◌, ◌<◌}
@@ -17,6 +17,17 @@ use Rattle.operators.specs.Assign.{assign_step, answer_by, assign_in, can_assign
 use Rattle.operators.specs.Operand.{is_kind}
 use Rattle.operators.specs.declared.assign.Next.{Next}
 use Rattle.operators.specs.declared.assign.Next.TheVariants.{Yes, No, Left, Right, Both, Climb}
+
+-- a test that may be left out
+pub or_yes : (s t : Bool) → t ≡ true → true ≡ s || t
+or_yes true t e = refl
+or_yes false t e = sym e
+
+pub or_no : (s t : Bool) → t ≡ false → s ≡ s || t
+or_no true t e = refl
+or_no false t e = sym e
+
+pub ruleset either_way = (or_yes, or_no)
 
 -- a type with a kind has a byte
 pub some : (a : Ty) (k : ℕ) → k < no_kind → eqb (kind_of a) k ≡ true → 0 < length a

@@ -9,7 +9,8 @@ use console::read_full;
 use question::Names;
 use std::io::{self, Read};
 
-// Reads one question and prints its number, or answers false where the input ends.
+// Reads one question and prints its number, or answers false where the input ends. `symbol_replay`
+// has the like: a common part would take the head's length and a closure, and be longer than both.
 fn next<R: Read>(rt: &impl Print, input: &mut R) -> io::Result<bool>
     ensures { IfOk result (λ more. more ≡ false → IsAtEnd (R.remaining input.new)) }
 {

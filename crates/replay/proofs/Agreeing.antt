@@ -2,19 +2,15 @@
 use Prim.Native.Nat.{ℕ, ◌≤◌}
 use lib.ListN.{length, take, drop, length-append, length-drop}
 use lib.Seq.{length-take-le, drop_at}
-use mathlib.Core.Bool.{Bool, true, false}
 use mathlib.Core.List.{List, ◌++◌}
-use mathlib.Core.Logic.{inl, inr}
 use mathlib.Core.Path.{◌≡◌, ap, sym}
 use native.Mathlib.Omega.{arith}
 use Rattle.console.specs.Buffer.{Filled}
 use Rattle.judge_text.proofs.Whole.{filled-part}
 use Rattle.judge_text.specs.ProgramText.{answer_text}
 use Rattle.replay.specs.Agreement.{agreement}
-use Rattle.replay.specs.Inside.CaseRead.{PartRead, CaseRead}
+use Rattle.replay.specs.Inside.CaseRead.{PartRead}
 use Rattle.ty.specs.Bytes.{same_bytes}
-use Rattle.ty.specs.Choose.{choose}
-use Rattle.ty.specs.Slice.{Borrowed}
 
 -- the front of the filled buffer is compared
 pub compared : (t q e : List ℕ) (lent : ℕ) {b b' : List ℕ} {n : ℕ} → Filled b b' n (answer_text t q lent) → same_bytes (take n b') e ≡ agreement t q e lent (length b)
