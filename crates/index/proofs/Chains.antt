@@ -15,7 +15,8 @@ use Rattle.index.proofs.ListSearch.{Reached, reach, list_kind_lem, sits_cons, si
 use Rattle.record.proofs.Records.{at_start, records-joined, at_more}
 use Rattle.record.proofs.RecordSizes.{head_long, head_ways}
 use Rattle.index.specs.Inside.Bucket.{bucket_of}
-use Rattle.index.specs.Inside.Entered.{clipped, Entered, link_at, entered}
+use Rattle.index.specs.Inside.Entered.{clipped, Entered, EntryAsked, link_at, entered}
+use Rattle.index.specs.Inside.Found.{found_at, place_at}
 use Rattle.record.specs.Inside.Front.{front_of}
 use Rattle.record.specs.Inside.FrontRecord.{front_record}
 use Rattle.record.specs.Table.{records_of, joined}
@@ -174,15 +175,14 @@ pub record Lasts (t x : List ℕ) (e : ℕ) : Type 0 where
 entered-length : (n b p : ℕ) (x : List ℕ) → length (entered n b p x) ≡ length x
 unfolding entered
 entered-length n b p x =
-    length-set (set x (link_at n b (get_or x (last_at n b) 0)) (suc p)) (last_at n b) (suc p) ∙ length-set x (link_at n b (get_or x (last_at n b) 0)) (suc p)
+    length-set (set x (link_at n b (place_at x (last_at n b))) (suc p)) (last_at n b) (suc p) ∙ length-set x (link_at n b (place_at x (last_at n b))) (suc p)
 
-pub link_low : (n b last m : ℕ) → b < list_count n → last ≤ n → index_size n ≤ m → link_at n b last < m
-unfolding link_at choose
-link_low n b last m l h i = go (eqb last 0)
+pub link_low : (x : List ℕ) (n b p : ℕ) → EntryAsked x n b p → link_at n b (place_at x (last_at n b)) < length x
+link_low x n b p a = go (get_or x (last_at n b) 0) a.last
   where
-    go : (u : Bool) → choose u (first_at n b) (next_at n (last - 1)) < m
-    go true = omega arith
-    go false = omega arith
+    go : (v : ℕ) → v ≤ n → link_at n b (found_at v) < length x
+    go zero h = omega (arith, a.bucket, a.long)
+    go (suc q) h = omega (arith, a.long)
 
 module _ (t x : List ℕ) (e : ℕ) (g : Entered t x e) (l : Lasts t x e) (some : e < length t) (whole : (front_of (drop e t)).malformed ≡ false) where
   abbrev n : ℕ
@@ -309,7 +309,7 @@ module _ (t x : List ℕ) (e : ℕ) (g : Entered t x e) (l : Lasts t x e) (some 
     last = get_or x (last_at n b₀) 0
 
     abbrev y : List ℕ
-    y = set x (link_at n b₀ last) (suc e)
+    y = set x (link_at n b₀ (found_at last)) (suc e)
 
     abbrev x' : List ℕ
     x' = entered n b₀ e x
@@ -323,19 +323,13 @@ module _ (t x : List ℕ) (e : ℕ) (g : Entered t x e) (l : Lasts t x e) (some 
     Kept j = get_or x' j 0 ≡ get_or x j 0
 
     linked_first : last ≡ 0 → y ≡ set x (first_at n b₀) (suc e)
-    unfolding link_at choose
-    linked_first z = rw (eq-eqb _ _ z)
+    linked_first z = ap (λ (v : ℕ). set x (link_at n b₀ (found_at v)) (suc e)) z
 
     linked_next : (q : ℕ) → last ≡ suc q → y ≡ set x (next_at n q) (suc e)
-    unfolding link_at choose
-    linked_next q z =
-        let f : last - 1 ≡ q = omega arith in
-        let m : last ≡ 0 → ⊥ = λ w. omega (arith, z, w) in
-        let u : eqb last 0 ≡ false = ne_eqb last 0 m in
-        (rw u) ∙ ap (λ (k : ℕ). set x (next_at n k) (suc e)) f
+    linked_next q z = ap (λ (v : ℕ). set x (link_at n b₀ (found_at v)) (suc e)) z
 
     long-y : length y ≡ length x
-    long-y = length-set x (link_at n b₀ last) (suc e)
+    long-y = length-set x (link_at n b₀ (found_at last)) (suc e)
 
     long-x' : length x' ≡ length x
     long-x' = entered-length n b₀ e x

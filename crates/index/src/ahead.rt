@@ -32,6 +32,7 @@ pub fn look_ahead(t: &[u8], me: Cursor, late: &mut [u16])
     ensures { late.new ≡ marked_from t.now me.at late.old }
 {
     let mut c = me;
+    // A `while`: no bound to count to, a record says where the next begins.
     while c.at < t.len() {
         let s = c.step(t);
         mark(late, s.head, c.at);

@@ -1,5 +1,5 @@
 // The index of a table: its entries.
-ghost use Rattle.std.specs.Prelude.{◌≡◌, ◌%◌, ◌≤◌, ◌<◌, length, get_or, set};
+ghost use Rattle.std.specs.Prelude.{◌≡◌, ◌%◌, ◌≤◌, ◌<◌, ltb, length, get_or, set};
 ghost use Rattle.index.specs.Inside.Bucket.{key_bucket};
 ghost use Rattle.index.specs.Inside.Found.{place_at};
 ghost use Rattle.index.specs.Inside.Index.{size_of, sized, bucket_count, list_count, first_at, last_at, child_at};
@@ -54,7 +54,7 @@ impl TableSize {
     }
 }
 
-// An entry, with 0 past the end.
+// An entry, with 0 past the end; a number, since entry 0 is one, and those of classes ahead are compared.
 pub fn entry_at(x: &[u16], i: usize) -> usize
     ensures { result ≡ get_or x.now i 0 }
 {
@@ -71,7 +71,7 @@ pub fn place_at(x: &[u16], i: usize) -> Option<Place>
     })
 }
 
-// Writes an entry.
+// Writes an entry: one line, but its clause gives callers the equation with `set`.
 pub fn put(x: &mut [u16], i: usize, v: u16)
     requires { i < length x.old }
     ensures { x.new ≡ set x.old i v }
@@ -135,12 +135,19 @@ pub fn child_at(n: usize, p: usize, c: usize) -> usize
     TableSize::of(n).pick(641, 4609, 18433) + 2 * (p / 5) + c
 }
 
-// The record at p is of a kind and has a key; of kinds 2 and 3 the key is the first id alone.
+// The key of a record of a kind, 2 or more, is the first id alone. A test of the byte: lookups make it at each record.
+pub(crate) fn has_one_id(kind: u8) -> bool
+    ensures { result ≡ ltb kind 4 }
+{
+    kind < 4
+}
+
+// The record at p is of a kind and has a key. The kind is a number, as it is compared with the table's byte; & and | test all parts without a branch.
 pub fn has_ids(t: &[u8], p: usize, kind: u8, one: u16, two: u16) -> bool
     requires { p ≤ 60000 }
     ensures { result ≡ has_ids t.now p kind one two }
 {
-    (byte_at(t, p) == kind) & ((id_at(t, p + 1) == one) & ((kind < 4) | (id_at(t, p + 3) == two)))
+    (byte_at(t, p) == kind) & ((id_at(t, p + 1) == one) & (has_one_id(kind) | (id_at(t, p + 3) == two)))
 }
 
 // A number for the key of a record of kind 2 or more.
@@ -148,7 +155,7 @@ pub fn has_ids(t: &[u8], p: usize, kind: u8, one: u16, two: u16) -> bool
 pub fn key_bucket(kind: u8, one: u16, two: u16) -> usize
     ensures { (result ≡ key_bucket kind one two) × (result < 65536) }
 {
-    if kind < 4 {
+    if has_one_id(kind) {
         return one as usize;
     }
     (one as usize * 509 + two as usize) % 65536

@@ -9,20 +9,19 @@ ghost use Rattle.record.specs.TableRefused.{table_fault};
 ghost use Rattle.index.specs.Inside.ListWalk.{list_start, here_has_key, list_step, list_followed, list_first, list_next, AtListed};
 
 use crate::index::{
-    Place, child_at, entry_at, first_at, has_ids, key_bucket, last_at, list_reduced, put,
+    Place, child_at, entry_at, first_at, has_ids, key_bucket, last_at, list_reduced, place_at, put,
 };
 use crate::table::Table;
 
 // Where the entry for a function stands that comes into bucket b behind its last function, or as its first.
-#[tactic(auto, unfolding(crate::specs::Inside::Entered::link_at, ty::specs::Choose::choose))]
-fn link_at(n: usize, b: usize, last: usize) -> usize
+fn link_at(n: usize, b: usize, last: Option<Place>) -> usize
     requires { b < list_count n }
     ensures { result ≡ link_at n b last }
 {
-    if last == 0 {
-        return first_at(n, b);
+    match last {
+        Some(p) => child_at(n, p.at, 0),
+        None => first_at(n, b),
     }
-    child_at(n, last - 1, 0)
 }
 
 // A function at p, in bucket b of a table of n bytes, comes into the index.
@@ -32,13 +31,14 @@ pub fn enter(x: &mut [u16], n: usize, b: usize, p: usize)
     ensures { x.new ≡ entered n b p x.old }
 {
     let at = last_at(n, b);
-    let last = entry_at(x, at);
+    let link = link_at(n, b, place_at(x, at));
     let v = (p + 1) as u16;
-    put(x, link_at(n, b, last), v);
+    put(x, link, v);
     put(x, at, v);
 }
 
 // A place in the list of a bucket: the owner and the name that are looked for, and the function here by its first byte, counted from 1; 0 is the list's end.
+// That is a number, as `symbol`'s definitions of its own cursor take it.
 #[derive(Clone, Copy)]
 pub struct ListCursor {
     pub owner: u16,
@@ -99,6 +99,7 @@ impl ListCursor {
         ensures { result ≡ list_followed t.now self }
     {
         let mut c = self;
+        // A `while`: no bound to count to, the next entry stands in the function here.
         while c.here != 0 {
             if c.has_key(t) {
                 return c;

@@ -8,10 +8,13 @@ ghost use Rattle.record.specs.Inside.FrontRecord.{front_record};
 ghost use Rattle.index.specs.Inside.Spot.{Open};
 ghost use Rattle.index.specs.Inside.TreeWalk.{tree_start, spot_at, TreeStepAsked, tree_step, search_of};
 
-use crate::index::{Place, bucket_count, child_at, has_ids, key_bucket, place_at, reduced};
+use crate::index::{
+    Place, bucket_count, child_at, has_ids, has_one_id, key_bucket, place_at, reduced,
+};
 use ty::{byte_at, same_bytes};
 
-// What a search looks for: the name of the record at a place, or a kind from 2 on with its ids.
+// What a search looks for: the name of the record at a place, or a kind from 2 on with its ids. The kind is a number, as it is compared with the table's byte at
+// each record of a search; a RecordKind would be made its number there.
 #[derive(Clone, Copy)]
 pub enum Key {
     Name(Place),
@@ -93,7 +96,7 @@ fn digest(name: &[u8]) -> usize
 fn second(kind: u8, two: u16) -> usize
     ensures { (result ≡ choose (ltb kind 4) 0 two) × (result < 65536) }
 {
-    if kind < 4 {
+    if has_one_id(kind) {
         return 0;
     }
     two as usize
@@ -149,6 +152,7 @@ fn has(t: &[u8], p: usize, key: Key) -> bool
 {
     match key {
         Key::Name(at) => {
+            // A test of the byte, as has_ids makes it.
             if byte_at(t, p) != 1 {
                 return false;
             }
@@ -214,6 +218,7 @@ pub fn search(t: &[u8], x: &[u16], key: Key, b: usize) -> Result<Place, usize>
     ensures { result ≡ search_of t.now x.now key }
 {
     let mut c = TreeCursor::new(x, b);
+    // A `while`: no bound to count to, the next entry stands in the record here.
     while let Some(p) = c.here {
         if has(t, p.at, key) {
             return Ok(p);

@@ -8,7 +8,7 @@ use mathlib.Core.Option.{Option, none, some}
 use mathlib.Core.Path.{◌≡◌, refl, sym, ap, ◌∙◌}
 use native.Mathlib.Omega.{arith}
 use Rattle.area.specs.Diagnostic.{Diag}
-use Rattle.std.specs.Prelude.{Option as Maybe, Some, None, is_some}
+use Rattle.std.specs.Prelude.{Option as Maybe, is_some}
 use Rattle.overload.proofs.ArgumentReports.{reported_as}
 use Rattle.scoring.specs.Arg.{Arg}
 use Rattle.overload.specs.Before.{suspend_allowed, suspend_report, method_reports}

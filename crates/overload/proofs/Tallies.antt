@@ -1,5 +1,5 @@
 -- What the walk over a function list keeps, one function at a time.
-use Prim.Native.Nat.{ℕ, ◌+◌, ◌*◌, ◌≤◌}
+use Prim.Native.Nat.{ℕ, ◌+◌, ◌≤◌}
 use lib.ListN.{length, length-append, length-map}
 use mathlib.Core.List.{List, [], ◌∷◌, ◌++◌, map, append_assoc, append-nil}
 use mathlib.Core.Option.{Option}
@@ -8,7 +8,7 @@ use Rattle.std.specs.Option.{option_or}
 use Rattle.std.specs.Prelude.{Option as Maybe, Some, None}
 use native.Mathlib.Omega.{arith}
 use Rattle.area.proofs.Reporting.{reported_none, reported_more}
-use Rattle.area.specs.Diagnostic.{Diag, count_limit}
+use Rattle.area.specs.Diagnostic.{count_limit}
 use Rattle.area.specs.Reported.{reported}
 use Rattle.area.specs.declared.reports.Reports.{Reports}
 use Rattle.overload.proofs.OverloadFold.{higher_best, chosen_snoc, chosen_few, unknown_one_lem}

@@ -7,9 +7,7 @@ use mathlib.Core.Bool.{Bool, true, false}
 use mathlib.Core.List.{List, [], ◌∷◌}
 use mathlib.Core.Option.{Option, none, some}
 use mathlib.Core.Path.{◌≡◌, refl, sym, ap, ◌∙◌}
-use Rattle.std.specs.Prelude.{Option as Maybe, Some, None}
-use Rattle.std.proofs.lemmas.List.{drop_more}
-use Rattle.std.proofs.lemmas.Option.{slice_get-get_or}
+use Rattle.std.specs.Prelude.{Option as Maybe, Some}
 use native.Mathlib.Omega.{arith}
 use Rattle.scoring.proofs.ParamsAndArgsLeft.{params_next, params_none}
 use Rattle.scoring.specs.Inside.Params.{param_here, param_at, place_read, as_place, named_place}

@@ -2,14 +2,12 @@
 use Prim.Native.Nat.{ℕ, suc, ◌+◌, ◌≤◌, ◌<◌}
 use lib.ListN.{length, get_or, drop, drop_of_length-le}
 use mathlib.Core.List.{List, [], ◌∷◌}
-use mathlib.Core.Path.{◌≡◌, refl, ap, ◌∙◌}
+use mathlib.Core.Path.{◌≡◌, refl, ap}
 use Rattle.std.proofs.lemmas.List.{drop_more}
-use Rattle.scoring.specs.Arg.{Arg as Seen}
 use Rattle.scoring.specs.Inside.Args.{args_in}
 use Rattle.scoring.specs.declared.args.Arg.{Arg}
 use Rattle.area.specs.Inside.Slot.{type_at}
 use Rattle.symbol.specs.Inside.LookupAnswer.{optional, param_seen, params_in}
-use Rattle.symbol.specs.Symbols.{Param}
 use Rattle.symbol.specs.declared.functions.Param.{Param as Read}
 use Rattle.ty.specs.Bytes.{Ty}
 

@@ -2,7 +2,7 @@
 use Prim.Native.Nat.{ℕ, ◌+◌, ◌*◌, ◌≤◌, ◌<◌}
 use lib.ListN.{get_or, length, take, drop}
 use mathlib.Core.Bool.{Bool, true, false}
-use mathlib.Core.List.{List, [], ◌∷◌}
+use mathlib.Core.List.{List}
 use mathlib.Core.Option.{Option, none, some}
 use mathlib.Core.Path.{◌≡◌, refl, sym, ap, ◌∙◌}
 use native.Mathlib.Omega.{arith}
@@ -13,11 +13,10 @@ use Rattle.scoring.proofs.ParamSearch.{place_named_is, param_named_is}
 use Rattle.scoring.proofs.ScoreSums.{plus_zero, plus_assoc}
 use Rattle.area.specs.Inside.Slot.{type_at}
 use Rattle.scoring.specs.Arg.{Arg as Seen}
-use Rattle.scoring.specs.Arity.{last_vararg}
 use Rattle.scoring.specs.Inside.Args.{args_in}
 use Rattle.scoring.specs.Inside.Params.{param_here, param_at, place_read, named_place}
 use Rattle.scoring.specs.Inside.Scored.{score_of, as_score, points_of, compared_or, named_more, named_in, positional_in, score_in}
-use Rattle.scoring.specs.Score.{param_named, unmarked_from, plus, compared, compared_with, mark_at, mark_one, marks_from, marks_of, no_marks, named_one, named_score, unnamed_one, unnamed_score, score}
+use Rattle.scoring.specs.Score.{param_named, plus, compared, compared_with, mark_at, mark_one, marks_from, marks_of, no_marks, named_one, named_score, unnamed_one, unnamed_score, score}
 use Rattle.scoring.specs.declared.args.Arg.{Arg}
 use Rattle.scoring.specs.declared.score.NamedPass.{NamedPass}
 use Rattle.scoring.specs.declared.score.Score.{Score}

@@ -1,5 +1,6 @@
 -- The lists of functions before a byte of the table: what the index holds of them while the table is checked.
-use Rattle.std.specs.Prelude.{ℕ, suc, ◌-◌, ◌≤◌, ◌<◌, ◌≡◌, false, List, length, get_or, set, drop, leb, eqb}
+use Rattle.std.specs.Prelude.{None, Some, ℕ, suc, ◌≤◌, ◌<◌, ◌≡◌, false, List, length, get_or, set, drop, leb}
+use Rattle.index.specs.Inside.Found.{Found, place_at}
 use Rattle.ty.specs.Choose.{choose}
 use Rattle.record.specs.Inside.Front.{front_of}
 use Rattle.record.specs.Inside.FrontRecord.{front_record}
@@ -19,11 +20,12 @@ pub record Entered (t x : List ℕ) (e : ℕ) : Type 0 where
   pub whole : (p : ℕ) → Sits t p → p < e → (front_of (drop p t)).malformed ≡ false
 
 -- a function at byte p comes into bucket b: behind the bucket's last function, or as its first
-unfoldable pub link_at : ℕ → ℕ → ℕ → ℕ
-link_at n b last = choose (eqb last 0) (first_at n b) (next_at n (last - 1))
+abbrev pub link_at : ℕ → ℕ → Found → ℕ
+link_at n b None = first_at n b
+link_at n b (Some last) = next_at n last.at
 
 unfoldable pub entered : ℕ → ℕ → ℕ → List ℕ → List ℕ
-entered n b p x = set (set x (link_at n b (get_or x (last_at n b) 0)) (suc p)) (last_at n b) (suc p)
+entered n b p x = set (set x (link_at n b (place_at x (last_at n b))) (suc p)) (last_at n b) (suc p)
 
 -- what it asks: the index is long enough, and the bucket's last function begins in the table
 pub record EntryAsked (x : List ℕ) (n b p : ℕ) : Type 0 where

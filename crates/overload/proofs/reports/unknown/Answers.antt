@@ -1,4 +1,4 @@
-use mathlib.Core.Path.{ap, refl, ◌∙◌}
+use mathlib.Core.Path.{refl}
 use Rattle.overload.proofs.SingleReports.{unknown_named}
 use Rattle.overload.specs.Inside.DiagIf.{unknown}
 use Rattle.overload.proofs.reports.unknown.Goals as goal
