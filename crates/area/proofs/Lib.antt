@@ -1,4 +1,4 @@
 pub mod Diagnostics
-pub mod Held
+pub mod SlotsHeld
 pub mod Reporting
 pub mod AreaExamples

@@ -5,4 +5,7 @@ use Rattle.area.specs.declared.reports.Reports.{Reports}
 
 -- the same buffer, once several more have been reported
 unfoldable pub reported : Reports → List Diag → Reports
-reported r ds = record { buf = record { ref_ptr = r.buf.ref_ptr; ghost_name = r.buf.ghost_name; now = put_all r.buf.now r.count ds }; count = r.count + length ds }
+reported r ds = record {
+  buf = record { ref_ptr = r.buf.ref_ptr; ghost_name = r.buf.ghost_name; now = put_all r.buf.now r.count ds };
+  count = r.count + length ds;
+}

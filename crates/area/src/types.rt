@@ -47,7 +47,7 @@ impl Slot {
     }
 
     // The bytes of `front`, and then those of `rest`, are what it holds.
-    #[tactic(auto, using(crate::proofs::Held::put_both))]
+    #[tactic(auto, using(crate::proofs::SlotsHeld::put_both))]
     pub fn put(&mut self, front: &[u8], rest: &[u8])
         requires { length front.now + length rest.now ≤ slot_size }
         ensures { self.new ≡ front.now ++ rest.now }
@@ -77,7 +77,7 @@ fn store_bytes(slots: &mut [Slot], node: usize, front: &[u8], rest: &[u8])
 }
 
 // The bytes of `front`, and then the type of the child m, become the type of node.
-#[tactic(auto, using(crate::proofs::Held::set_before))]
+#[tactic(auto, using(crate::proofs::SlotsHeld::set_before))]
 fn store_child(slots: &mut [Slot], node: usize, front: &[u8], m: usize)
     requires { Child slots.old node m × (length front.now + length (type_at slots.old m) ≤ slot_size) }
     ensures { slots.new ≡ set slots.old node (front.now ++ type_at slots.old m) }
@@ -87,7 +87,7 @@ fn store_child(slots: &mut [Slot], node: usize, front: &[u8], m: usize)
 }
 
 // What the type of the child m holds becomes the type of node.
-#[tactic(auto, using(crate::proofs::Held::set_before))]
+#[tactic(auto, using(crate::proofs::SlotsHeld::set_before))]
 fn store_inner(slots: &mut [Slot], node: usize, m: usize)
     requires { Child slots.old node m × (length (inner_of (type_at slots.old m)) ≤ slot_size) }
     ensures { slots.new ≡ set slots.old node (inner_of (type_at slots.old m)) }

@@ -4,7 +4,7 @@ use lib.ListN.{length}
 use mathlib.Core.List.{List}
 use mathlib.Core.Path.{◌≡◌, sym}
 use native.Mathlib.Omega.{arith}
-use Rattle.area.proofs.Held.{all_hold_more}
+use Rattle.area.proofs.SlotsHeld.{all_hold_more}
 use Rattle.area.specs.Inside.Slot.{Holds, AllHold}
 use Rattle.nodes.proofs.Filling.{filled-first, filled-rest, filled_as, filled-last, filled-under, filled-long}
 use Rattle.cycle.proofs.Spaces.{slots_few, space_still}

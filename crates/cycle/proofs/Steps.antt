@@ -5,7 +5,7 @@ use mathlib.Core.List.{List, [], ◌∷◌, ◌++◌, append-nil}
 use mathlib.Core.Path.{◌≡◌, refl, sym, ap, ◌∙◌}
 use native.Mathlib.Numerals.{add-one}
 use native.Mathlib.Omega.{arith}
-use Rattle.area.proofs.Held.{child_of}
+use Rattle.area.proofs.SlotsHeld.{child_of}
 use Rattle.area.specs.Diagnostic.{Diag, count_limit}
 use Rattle.area.specs.Inside.Slot.{Child, Holds, type_at}
 use Rattle.nodes.proofs.Filling.{filled_none, filled-one, filled_join, filled_as}

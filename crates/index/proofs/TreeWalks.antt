@@ -11,7 +11,7 @@ use Rattle.index.proofs.Searches.{Seeking, seeking_start, seeking_node, seeking_
 use Rattle.index.specs.Inside.SearchKey.{tree_for, digits_for, key_matches}
 use Rattle.index.specs.Inside.SearchTree.{TreeMember, Tree}
 use Rattle.index.specs.Inside.Spot.{Open, SpotIs}
-use Rattle.index.specs.Inside.TreeWalk.{tree_start, tree_step, spot_of, spot_at, ends_at, stepped, search_from, search_of}
+use Rattle.index.specs.Inside.TreeWalk.{tree_start, tree_step, spot_of, spot_at, ends_at, tree_stepped, search_from, search_of}
 use Rattle.index.specs.declared.tree.Key.{Key}
 use Rattle.index.specs.declared.index.Place.{Place}
 use Rattle.std.specs.Prelude.{Result, Ok, None, Some}
@@ -33,7 +33,7 @@ module _ (t x : List ℕ) (k : Key) where
 
   search_on : (m : ℕ) (c : TreeCursor) (p : Place) → c.here ≡ Some p → key_here p ≡ false → search_from (suc m) t x k c ≡ search_from m t x k (tree_step t x k c p)
   unfolding search_from
-  search_on m c p z h = choose_no _ _ _ (ap (ends_at t k) z ∙ h) ∙ ap (λ (f : Found). search_from m t x k (stepped t x k c f)) z
+  search_on m c p z h = choose_no _ _ _ (ap (ends_at t k) z ∙ h) ∙ ap (λ (f : Found). search_from m t x k (tree_stepped t x k c f)) z
 
   -- ---- the cursor of the search
   abbrev SeekingAt : TreeCursor → Type 0

@@ -147,7 +147,8 @@ pub fn has_ids(t: &[u8], p: usize, kind: u8, one: u16, two: u16) -> bool
     requires { p ≤ 60000 }
     ensures { result ≡ has_ids t.now p kind one two }
 {
-    (byte_at(t, p) == kind) & ((id_at(t, p + 1) == one) & (has_one_id(kind) | (id_at(t, p + 3) == two)))
+    (byte_at(t, p) == kind)
+        & ((id_at(t, p + 1) == one) & (has_one_id(kind) | (id_at(t, p + 3) == two)))
 }
 
 // A number for the key of a record of kind 2 or more.

@@ -4,7 +4,7 @@ use lib.ListN.{length, set, length-set}
 use mathlib.Core.List.{List, [], ◌∷◌, ◌++◌}
 use mathlib.Core.Path.{◌≡◌, refl, sym, ap, ◌∙◌}
 use native.Mathlib.Omega.{arith}
-use Rattle.area.proofs.Held.{holds_here, holds_under}
+use Rattle.area.proofs.SlotsHeld.{holds_here, holds_under}
 use Rattle.area.specs.Inside.Slot.{Holds}
 use Rattle.nodes.specs.Inside.SlotsFilled.{SlotsFilled, store_all}
 use Rattle.ty.specs.Bytes.{Ty}

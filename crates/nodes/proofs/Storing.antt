@@ -11,7 +11,7 @@ use mathlib.Core.Logic.{◌⊎◌, inl, inr}
 use mathlib.Core.Option.{none, some}
 use mathlib.Core.Path.{◌≡◌, refl, sym, ap, ◌∙◌}
 use native.Mathlib.Omega.{arith}
-use Rattle.area.proofs.Held.{holds_here}
+use Rattle.area.proofs.SlotsHeld.{holds_here}
 use Rattle.area.specs.Inside.Slot.{type_at, Holds}
 use Rattle.nodes.proofs.Filling.{slots_long}
 use Rattle.typing.proofs.Spreading.{NumbersIn, NoNumber, NumbersDiffer}

@@ -6,7 +6,7 @@ use mathlib.Core.Bool.{Bool, true, not, ◌&&◌}
 use mathlib.Core.List.{List, [], ◌∷◌, ◌++◌}
 use mathlib.Core.Path.{◌≡◌, refl, sym, ap, ◌∙◌}
 use native.Mathlib.Omega.{arith}
-use Rattle.area.proofs.Held.{reads_both_children}
+use Rattle.area.proofs.SlotsHeld.{reads_both_children}
 use Rattle.area.proofs.Reporting.{reported_none as none_reported, reported_both, reported_more}
 use Rattle.area.specs.Diagnostic.{Diag}
 use Rattle.area.specs.DiagnosticKind.{diagnostic_number}

@@ -88,7 +88,8 @@ pub fn begin_method(
     reports: &mut Reports<'_>,
 ) -> Option<u16>
     requires { (node < slot_count) × (reports.old.count + 2 ≤ count_limit) }
-    ensures { Begun (method_owner (type_at slots.now (node + 1))) node (method_at table.now header id (type_at slots.now (node + 1))) reports.old reports.new result }
+    ensures { Begun (method_owner (type_at slots.now (node + 1))) node
+        (method_at table.now header id (type_at slots.now (node + 1))) reports.old reports.new result }
 {
     let owner = owner_of(slots, node + 1)?;
     begin_owned(table, header, owner, id, node, reports)

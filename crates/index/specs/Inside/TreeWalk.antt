@@ -41,14 +41,14 @@ ends_at t k None = true
 ends_at t k (Some p) = key_matches t k (front_record (drop p.at t))
 
 -- one record down, where one is here
-abbrev pub stepped : List ℕ → List ℕ → Key → TreeCursor → Found → TreeCursor
-stepped t x k c None = c
-stepped t x k c (Some p) = tree_step t x k c p
+abbrev pub tree_stepped : List ℕ → List ℕ → Key → TreeCursor → Found → TreeCursor
+tree_stepped t x k c None = c
+tree_stepped t x k c (Some p) = tree_step t x k c p
 
 -- where a search ends that goes on from a cursor, by n steps at most
 unfoldable pub search_from : ℕ → List ℕ → List ℕ → Key → TreeCursor → Result Place ℕ
 search_from zero t x k c = spot_at c
-search_from (suc n) t x k c = choose (ends_at t k c.here) (spot_at c) (search_from n t x k (stepped t x k c c.here))
+search_from (suc n) t x k c = choose (ends_at t k c.here) (spot_at c) (search_from n t x k (tree_stepped t x k c c.here))
 
 -- where the search for a key ends: a later record is behind each, so that there are fewer steps than bytes
 unfoldable pub search_of : List ℕ → List ℕ → Key → Result Place ℕ
