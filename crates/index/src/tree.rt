@@ -13,8 +13,8 @@ use crate::index::{
 };
 use ty::{byte_at, same_bytes};
 
-// What a search looks for: the name of the record at a place, or a kind from 2 on with its ids. The kind is a number, as it is compared with the table's byte at
-// each record of a search; a RecordKind would be made its number there.
+// What a search looks for: the name of the record at a place, or a kind from 2 on with its ids. The kind is a number, as it is compared with the table's byte
+// at each record of a search; a RecordKind would be made its number there.
 #[derive(Clone, Copy)]
 pub enum Key {
     Name(Place),
