@@ -120,7 +120,7 @@ module _ {t : List ℕ} (ok : CleanTable t) (H : Header) {q : List ℕ} {s : Sta
   pub row_asked : RowAsked q e b₂ 0 many
   row_asked = asked_row x before rs many st lg counted fits room (omega (arith, before_few))
 
-  pub row_falls : s.at + 4 ≤ p → p ≤ length q → 18 * (length q - e.at) + many + 1 < 18 * (length q - s.at)
+  pub row_falls : s.at + 4 ≤ p → p ≤ length q → 18 * (length q - e.at) + many + 2 < 18 * (length q - s.at)
   row_falls h k =
       let at : e.at ≡ p = ap (λ (z : State). z.at) before.result in
       omega arith
@@ -227,7 +227,7 @@ module _ {t : List ℕ} (ok : CleanTable t) (fit : CallsFit (symbols_of t)) (H :
         let lg : Legal x.names (call id rs) = rw e at x.legal in
         row_asked ok H x inside-call id c list rs many st lg.1 counted (room_of q s.at _ h).1 (omega arith) (omega (arith, x.room)) (omega (arith, x.within.few))
 
-    pub args_fall : 18 * (length q - s₁.at) + many + 1 < 18 * (length q - s.at)
+    pub args_fall : 18 * (length q - s₁.at) + many + 2 < 18 * (length q - s.at)
     unfolding size Legal
     args_fall =
         let (rs, e, counted, st) = is_call q s.at x.tree id many x.stands h in
@@ -343,7 +343,7 @@ module _ {t : List ℕ} (ok : CleanTable t) (fit : CallsFit (symbols_of t)) (H :
             let num = after_size c (suc s.node) in
             row_asked ok H x object_is.reached id f list rs many st lg.2 counted (room_of q s.at _ h).1 (omega arith) (omega (arith, x.room)) (omega (arith, x.within.few, object_is.few, some_size c))
 
-        pub method_fall : 18 * (length q - r₁.at) + many + 1 < 18 * (length q - s.at)
+        pub method_fall : 18 * (length q - r₁.at) + many + 2 < 18 * (length q - s.at)
         unfolding size Legal
         method_fall =
             let (c, rs, e, counted, sc, st) = is_method q s.at x.tree id many x.stands h in

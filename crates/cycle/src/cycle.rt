@@ -1,5 +1,5 @@
 // The node judge and the argument-row judge.
-ghost use Rattle.cycle.specs.Inside.Contract.{Space, NodeAsked, JudgesNode, RowAsked, JudgesRow};
+ghost use Rattle.cycle.specs.Inside.Contract.{Space, NodeAsked, JudgesNode, RowAsked, JudgesRow, CallFits, CallIs};
 
 use area::reports::Reports;
 use area::types::Slot;
@@ -54,8 +54,7 @@ pub fn judge_node(
             match begin_call(table, header, id, node, reports) {
                 None => unlisted(bytes, q, Kind::Error, count, node, s, slots),
                 Some(owner) => {
-                    let r = judge_row(table, q, header, s, count, slots, reports);
-                    finish_call(table, owner, id, node, &r, slots, reports)
+                    judge_call(table, q, header, owner, id, node, s, count, slots, reports)
                 }
             }
         }
@@ -64,12 +63,33 @@ pub fn judge_node(
             match begin_method(table, header, id, node, slots, reports) {
                 None => unlisted(bytes, q, Kind::Any, count, node, x, slots),
                 Some(owner) => {
-                    let r = judge_row(table, q, header, x, count, slots, reports);
-                    finish_call(table, owner, id, node, &r, slots, reports)
+                    judge_call(table, q, header, owner, id, node, x, count, slots, reports)
                 }
             }
         }
     }
+}
+
+// Judges n arguments, the first of which stands at s.at, and the call at a node of an owner's functions. Apart from `judge_node`, which would clear the room
+// of a row at each node.
+#[cycle(judge_node_judge_row)]
+fn judge_call(
+    table: &Table<'_>,
+    q: &[u8],
+    header: Header,
+    owner: u16,
+    id: u16,
+    node: usize,
+    s: State,
+    n: u8,
+    slots: &mut [Slot],
+    reports: &mut Reports<'_>,
+) -> State
+    requires { Space q.now slots.old × RowAsked q.now s reports.old 0 n × CallFits table.now q.now header owner id node s n slots.old reports.old }
+    ensures { CallIs table.now q.now header owner id node s n slots.old slots.new reports.old reports.new result }
+{
+    let row = judge_row(table, q, header, s, n, slots, reports);
+    finish_call(table, owner, id, node, &row, slots, reports)
 }
 
 // Judges n arguments, the first of which stands at s.at.

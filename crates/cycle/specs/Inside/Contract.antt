@@ -4,6 +4,7 @@ use Rattle.area.specs.Inside.Slot.{slot_count}
 use Rattle.area.specs.declared.reports.Reports.{Reports}
 use Rattle.overload.specs.Inside.Tally.{most_diagnostics}
 use Rattle.nodes.specs.Inside.SlotsFilled.{SlotsFilled}
+use Rattle.nodes.specs.Inside.Call.{CallAsked, FinishedCall, verdict_at}
 use Rattle.nodes.specs.Inside.Progress.{Reached}
 use Rattle.nodes.specs.Inside.Row.{handed_on}
 use Rattle.ty.specs.Bytes.{Ty}
@@ -102,3 +103,17 @@ JudgesNode table q H s ts ts' b b' r = (x : NodeAsked q s b) → NodeIs table H 
 -- What the argument-row judge leaves, whatever n trees stand at s.
 abbrev pub JudgesRow : Slice → Slice → Header → State → ℕ → List Ty → List Ty → Reports → Reports → RowJudged → Type 0
 JudgesRow table q H s n ts ts' b b' r = (x : RowAsked q s b 0 n) → RowIs table H s [] ts ts' b b' r x.trees
+
+-- Whatever the n trees at s give, there is room for what the call at `node` gives and reports.
+abbrev pub CallFits : Slice → Slice → Header → ℕ → ℕ → ℕ → State → ℕ → List Ty → Reports → Type 0
+CallFits table q H owner id node s n ts b =
+    (row : RowJudged) (ts' : List Ty) (b' : Reports) → Space q ts' → JudgesRow table q H s n ts ts' b b' row → CallAsked ts' node b' (verdict_at table ts' owner id node row)
+
+-- The n trees at s are judged, and then the call at `node`: in between the slots hold `held`, and the lent buffer is `told`.
+pub record CallIs (t q : List ℕ) (H : Header) (owner id node : ℕ) (s : State) (n : ℕ) (ts ts' : List Ty) (b b' : Reports) (r : State) : Type 0 where
+  pub row : RowJudged
+  pub held : List Ty
+  pub told : Reports
+  pub lent : Space q held
+  pub judged : JudgesRow t q H s n ts held b told row
+  pub finished : FinishedCall row.state node (verdict_at t held owner id node row) held ts' told b' r

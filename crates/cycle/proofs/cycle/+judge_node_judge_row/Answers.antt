@@ -106,22 +106,22 @@ judge_node-returns-in-None t c =
     let h = read_as _ _ c.in-Ok.ensures c.in-Call.is in
     λ x. ret_call_none (record { clean = c.bytes-bytes.ensures.clean }) (calls_fit _ (record { clean = c.bytes-bytes.ensures.clean })) c.args.header x _ _ h c.inside-s.ensures c.begin_call.ensures c.in-None.is c.unlisted.ensures
 
-pub judge_node-judge_row-r-requires : goal.judge_node-judge_row-r-requires
-judge_node-judge_row-r-requires t c =
+pub judge_node-judge_call-requires : goal.judge_node-judge_call-requires
+judge_node-judge_call-requires t c =
     let h = read_as _ _ c.in-Ok.ensures c.in-Call.is in (
       below c.decreases (args_fall (record { clean = c.bytes-bytes.ensures.clean }) (calls_fit _ (record { clean = c.bytes-bytes.ensures.clean })) c.args.header c.requires.1 _ _ h c.inside-s.ensures c.begin_call.ensures c.in-Some.is),
-      (c.requires.0, asked_args (record { clean = c.bytes-bytes.ensures.clean }) (calls_fit _ (record { clean = c.bytes-bytes.ensures.clean })) c.args.header c.requires.1 _ _ h c.inside-s.ensures c.begin_call.ensures c.in-Some.is),
+      (
+        c.requires.0,
+        asked_args (record { clean = c.bytes-bytes.ensures.clean }) (calls_fit _ (record { clean = c.bytes-bytes.ensures.clean })) c.args.header c.requires.1 _ _ h c.inside-s.ensures c.begin_call.ensures c.in-Some.is,
+        λ row ts' b' lent js. args_ready (record { clean = c.bytes-bytes.ensures.clean }) (calls_fit _ (record { clean = c.bytes-bytes.ensures.clean })) c.args.header c.requires.1 _ _ h c.inside-s.ensures c.begin_call.ensures c.in-Some.is lent js,
+      ),
     )
-
-pub judge_node-finish_call-requires : goal.judge_node-finish_call-requires
-judge_node-finish_call-requires t c =
-    let h = read_as _ _ c.in-Ok.ensures c.in-Call.is in
-    args_ready (record { clean = c.bytes-bytes.ensures.clean }) (calls_fit _ (record { clean = c.bytes-bytes.ensures.clean })) c.args.header c.requires.1 _ _ h c.inside-s.ensures c.begin_call.ensures c.in-Some.is (space_still c.judge_row-r.auto.slots c.requires.0) c.judge_row-r.ensures
 
 pub judge_node-returns-in-Some : goal.judge_node-returns-in-Some
 judge_node-returns-in-Some t c =
     let h = read_as _ _ c.in-Ok.ensures c.in-Call.is in
-    λ x. ret_call (record { clean = c.bytes-bytes.ensures.clean }) (calls_fit _ (record { clean = c.bytes-bytes.ensures.clean })) c.args.header x _ _ h c.inside-s.ensures c.begin_call.ensures c.in-Some.is (space_still c.judge_row-r.auto.slots c.requires.0) c.judge_row-r.ensures c.finish_call.ensures
+    let w = c.judge_call.ensures in
+    λ x. ret_call (record { clean = c.bytes-bytes.ensures.clean }) (calls_fit _ (record { clean = c.bytes-bytes.ensures.clean })) c.args.header x _ _ h c.inside-s.ensures c.begin_call.ensures c.in-Some.is w.lent w.judged w.finished
 
 pub judge_node-judge_node-x-requires-in-Method : goal.judge_node-judge_node-x-requires-in-Method
 judge_node-judge_node-x-requires-in-Method t c =
@@ -144,22 +144,22 @@ judge_node-returns-in-None-begin_method t c =
     let h = read_as _ _ c.in-Ok.ensures c.in-Method.is in
     λ x. ret_method_none (record { clean = c.bytes-bytes.ensures.clean }) (calls_fit _ (record { clean = c.bytes-bytes.ensures.clean })) c.args.header x _ _ h c.inside-in-Method.ensures c.judge_node-x-in-Method.ensures c.requires.0 c.begin_method.ensures c.in-None-begin_method.is c.unlisted-in-None-begin_method.ensures
 
-pub judge_node-judge_row-r-requires-in-Some-begin_method : goal.judge_node-judge_row-r-requires-in-Some-begin_method
-judge_node-judge_row-r-requires-in-Some-begin_method t c =
+pub judge_node-judge_call-requires-in-Some-begin_method : goal.judge_node-judge_call-requires-in-Some-begin_method
+judge_node-judge_call-requires-in-Some-begin_method t c =
     let h = read_as _ _ c.in-Ok.ensures c.in-Method.is in (
       below c.decreases (method_fall (record { clean = c.bytes-bytes.ensures.clean }) (calls_fit _ (record { clean = c.bytes-bytes.ensures.clean })) c.args.header c.requires.1 _ _ h c.inside-in-Method.ensures c.judge_node-x-in-Method.ensures c.requires.0 c.begin_method.ensures c.in-Some-begin_method.is),
-      (space_still c.judge_node-x-in-Method.auto.slots c.requires.0, asked_method (record { clean = c.bytes-bytes.ensures.clean }) (calls_fit _ (record { clean = c.bytes-bytes.ensures.clean })) c.args.header c.requires.1 _ _ h c.inside-in-Method.ensures c.judge_node-x-in-Method.ensures c.requires.0 c.begin_method.ensures c.in-Some-begin_method.is),
+      (
+        space_still c.judge_node-x-in-Method.auto.slots c.requires.0,
+        asked_method (record { clean = c.bytes-bytes.ensures.clean }) (calls_fit _ (record { clean = c.bytes-bytes.ensures.clean })) c.args.header c.requires.1 _ _ h c.inside-in-Method.ensures c.judge_node-x-in-Method.ensures c.requires.0 c.begin_method.ensures c.in-Some-begin_method.is,
+        λ row ts' b' lent js. method_ready (record { clean = c.bytes-bytes.ensures.clean }) (calls_fit _ (record { clean = c.bytes-bytes.ensures.clean })) c.args.header c.requires.1 _ _ h c.inside-in-Method.ensures c.judge_node-x-in-Method.ensures c.requires.0 c.begin_method.ensures c.in-Some-begin_method.is lent js,
+      ),
     )
-
-pub judge_node-finish_call-requires-in-Some-begin_method : goal.judge_node-finish_call-requires-in-Some-begin_method
-judge_node-finish_call-requires-in-Some-begin_method t c =
-    let h = read_as _ _ c.in-Ok.ensures c.in-Method.is in
-    method_ready (record { clean = c.bytes-bytes.ensures.clean }) (calls_fit _ (record { clean = c.bytes-bytes.ensures.clean })) c.args.header c.requires.1 _ _ h c.inside-in-Method.ensures c.judge_node-x-in-Method.ensures c.requires.0 c.begin_method.ensures c.in-Some-begin_method.is (space_still (c.judge_row-r-in-Some-begin_method.auto.slots ∙ c.judge_node-x-in-Method.auto.slots) c.requires.0) c.judge_row-r-in-Some-begin_method.ensures
 
 pub judge_node-returns-in-Some-begin_method : goal.judge_node-returns-in-Some-begin_method
 judge_node-returns-in-Some-begin_method t c =
     let h = read_as _ _ c.in-Ok.ensures c.in-Method.is in
-    λ x. ret_method (record { clean = c.bytes-bytes.ensures.clean }) (calls_fit _ (record { clean = c.bytes-bytes.ensures.clean })) c.args.header x _ _ h c.inside-in-Method.ensures c.judge_node-x-in-Method.ensures c.requires.0 c.begin_method.ensures c.in-Some-begin_method.is (space_still (c.judge_row-r-in-Some-begin_method.auto.slots ∙ c.judge_node-x-in-Method.auto.slots) c.requires.0) c.judge_row-r-in-Some-begin_method.ensures c.finish_call-in-Some-begin_method.ensures
+    let w = c.judge_call-in-Some-begin_method.ensures in
+    λ x. ret_method (record { clean = c.bytes-bytes.ensures.clean }) (calls_fit _ (record { clean = c.bytes-bytes.ensures.clean })) c.args.header x _ _ h c.inside-in-Method.ensures c.judge_node-x-in-Method.ensures c.requires.0 c.begin_method.ensures c.in-Some-begin_method.is w.lent w.judged w.finished
 
 pub judge_node-returns-in_default : goal.judge_node-returns-in_default
 judge_node-returns-in_default t c =
@@ -213,3 +213,19 @@ judge_row-loop-k-preserved t c = (
 pub judge_row-returns : goal.judge_row-returns
 judge_row-returns t c =
     λ x. rw c.new-args.ensures at (turn_last (c.loop-k.invariant.2 x) c.loop-k-test.false)
+
+pub judge_call-judge_row-row-requires : goal.judge_call-judge_row-row-requires
+judge_call-judge_row-row-requires t c = (below c.decreases (omega arith), (c.requires.0, c.requires.1))
+
+pub judge_call-finish_call-requires : goal.judge_call-finish_call-requires
+judge_call-finish_call-requires t c = c.requires.2 _ _ _ (space_still c.judge_row-row.auto.slots c.requires.0) c.judge_row-row.ensures
+
+pub judge_call-returns : goal.judge_call-returns
+judge_call-returns t c = record {
+  row = c.judge_row-row.result;
+  held = c.judge_row-row.new.slots;
+  told = c.judge_row-row.new.reports;
+  lent = space_still c.judge_row-row.auto.slots c.requires.0;
+  judged = c.judge_row-row.ensures;
+  finished = c.finish_call.ensures;
+}

@@ -7,6 +7,9 @@ use Rattle.cycle.proofs.cycle.+judge_node_judge_row.Given as goal
 abbrev pub decreases-judge_node : goal.decreases-judge_node
 decreases-judge_node l = 18 * (length l.q.now - l.s.at)
 
+abbrev pub decreases-judge_call : goal.decreases-judge_call
+decreases-judge_call l = 18 * (length l.q.now - l.s.at) + l.n + 2
+
 abbrev pub decreases-judge_row : goal.decreases-judge_row
 decreases-judge_row l = 18 * (length l.q.now - l.s.at) + l.n + 1
 
