@@ -2,16 +2,16 @@
 use Rattle.std.specs.Prelude.{ℕ, ◌+◌, ◌-◌, ◌*◌, min, ltb, Bool, ◌||◌, List, [], ◌∷◌, Option, Some, None}
 use Rattle.ty.specs.Choose.{choose}
 
--- 2^64 - 1, which every larger number counts as: it is no start number, and no node count of a question
-abbrev pub largest : ℕ
-largest = 18_446_744_073_709_551_615
+-- 2^32, which every larger number counts as: it is no start number, and no node count of a question
+abbrev pub too_large : ℕ
+too_large = 4_294_967_296
 
 abbrev pub no_digit : ℕ → Bool
 no_digit b = ltb b 48 || ltb 57 b
 
 -- the number of which n are the digits before b
 unfoldable pub more_digits : ℕ → ℕ → ℕ
-more_digits n b = min (10 * n + (b - 48)) largest
+more_digits n b = min (10 * n + (b - 48)) too_large
 
 -- n are the digits before a text; none where a byte is no digit
 unfoldable pub number_from : ℕ → List ℕ → Option ℕ

@@ -11,12 +11,17 @@ use load::write_load;
 use std::env::{Env, FillError};
 use std::io;
 
-// The number of which n are the digits before b, a digit; what is larger counts as the largest.
+// 2^32, which every larger number counts as: it is no start number, and no node count of a question.
+const TOO_LARGE: u64 = 4_294_967_296;
+
+// The number of which n are the digits before b, a digit.
 fn more(n: u64, b: u8) -> u64
     requires { 48 ≤ b }
     ensures { result ≡ more_digits n b }
 {
-    n.saturating_mul(10).saturating_add((b - b'0') as u64)
+    n.saturating_mul(10)
+        .saturating_add((b - b'0') as u64)
+        .min(TOO_LARGE)
 }
 
 // The number that a text is in decimal.
