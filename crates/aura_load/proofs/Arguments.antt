@@ -2,14 +2,15 @@
 use Prim.Native.Nat.{ℕ, suc, ◌+◌, ◌≤◌, ◌<◌}
 use lib.ListN.{length, get_or, drop, drop_of_length-le}
 use lib.Seq.{drop-cons}
-use mathlib.Core.Bool.{true, false}
+use mathlib.Core.Bool.{Bool, true, false}
 use mathlib.Core.List.{List, [], ◌∷◌}
 use mathlib.Core.Path.{◌≡◌, refl, sym, ap, ◌∙◌}
 use native.Mathlib.Numerals.{add-one}
 use native.Mathlib.Omega.{arith}
-use Rattle.aura_load.specs.Argument.{no_digit, more_digits, number_from, number_in}
+use Rattle.aura_load.specs.Argument.{no_digit, more_digits, number_from, number_in, too_large}
 use Rattle.ty.proofs.Choice.{choose_yes, choose_no}
-use Rattle.std.specs.Prelude.{Some, None}
+use Rattle.ty.specs.Choose.{choose}
+use Rattle.std.specs.Prelude.{Some, None, IfSome}
 
 -- `number_in`: no text, its start, a byte that is no digit, one that is, and the end
 pub number_none : (s : List ℕ) → length s ≡ 0 → None ≡ number_in s
@@ -36,3 +37,22 @@ module _ (s : List ℕ) (at n : ℕ) (so : number_from n (drop at s) ≡ number_
   pub number-done : length s ≤ at → Some n ≡ number_in s
   unfolding number_from
   number-done h = sym (ap (number_from n) (drop_of_length-le s h)) ∙ so
+
+more_most : (n b : ℕ) → more_digits n b ≤ too_large
+unfolding more_digits
+more_most n b = omega arith
+
+number_from_most : (n : ℕ) (s : List ℕ) → n ≤ too_large → IfSome (number_from n s) (λ m. m ≤ too_large)
+unfolding number_from choose
+number_from_most n [] h = h
+number_from_most n (b ∷ s) h = go (no_digit b) (λ m k. number_from_most m s k)
+  where
+    go : (t : Bool) → ((m : ℕ) → m ≤ too_large → IfSome (number_from m s) (λ m. m ≤ too_large)) → IfSome (choose t None (number_from (more_digits n b) s)) (λ m. m ≤ too_large)
+    go true f = tt
+    go false f = f (more_digits n b) (more_most n b)
+
+-- no number of a text is larger
+pub number_most : (s : List ℕ) → IfSome (number_in s) (λ m. m ≤ too_large)
+unfolding number_in
+number_most [] = tt
+number_most (b ∷ s) = number_from_most 0 (b ∷ s) (omega arith)

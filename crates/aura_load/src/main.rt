@@ -2,8 +2,8 @@
 // there is no question it writes nothing there, and one line on standard error.
 #![tactic(auto)]
 
-ghost use Rattle.std.specs.Prelude.{◌≤◌, length, ◌≡◌};
-ghost use Rattle.aura_load.specs.Argument.{more_digits, number_in};
+ghost use Rattle.std.specs.Prelude.{◌≤◌, length, ◌≡◌, IfSome};
+ghost use Rattle.aura_load.specs.Argument.{more_digits, number_in, too_large};
 ghost use Rattle.load.specs.Load.{load_of};
 ghost use Rattle.written.specs.Output.{lent_after};
 
@@ -42,7 +42,9 @@ fn number_in(text: &[u8]) -> Option<u64>
 }
 
 // Argument i as a number; one of more than 32 bytes is none.
-fn argument(rt: &impl Env, i: usize) -> Option<u64> {
+fn argument(rt: &impl Env, i: usize) -> Option<u64>
+    ensures { IfSome result (λ n. n ≤ too_large) }
+{
     let mut text = [0u8; 32];
     let len = rt.arg(i, &mut text).unwrap_or(0);
     number_in(&text[..len])
