@@ -81,15 +81,15 @@ fn the_header_declares_what_rattle_exports() {
 
 #[test]
 fn the_numbers_are_those_of_the_code_and_the_header() {
-    let (judge, load, written) = ("crates/aura_c", "crates/load", "crates/written");
+    let (judge, written) = ("crates/aura_c/src/lib.rt", "crates/written/specs/Output.antt");
     let header = read("include/aura_judge.h");
-    for (number, code, code_has, header_has) in [
-        (ANSWER_SIZE, judge, "const ANSWER_SIZE: usize = ", "AURA_JUDGE_ANSWER_SIZE "),
-        (TOO_SHORT.into(), judge, "const TOO_SHORT: u8 = ", "AURA_JUDGE_TOO_SHORT "),
-        (Refusal::NodeCount.number().into(), load, "const BAD_COUNT: u8 = ", "AURA_LOAD_NODE_COUNT "),
-        (Refusal::OutputBufferTooShort.number().into(), written, "const TOO_SHORT: u8 = ", "AURA_LOAD_TOO_SHORT "),
+    for (number, place, before, behind, header_has) in [
+        (ANSWER_SIZE, judge, "const ANSWER_SIZE: usize = ", ";", "AURA_JUDGE_ANSWER_SIZE "),
+        (TOO_SHORT.into(), judge, "const TOO_SHORT: u8 = ", ";", "AURA_JUDGE_TOO_SHORT "),
+        (Refusal::NodeCount.number().into(), written, " bad_count = ", " ", "AURA_LOAD_NODE_COUNT "),
+        (Refusal::OutputBufferTooShort.number().into(), written, " too_short = ", " ", "AURA_LOAD_TOO_SHORT "),
     ] {
-        assert!(read(&format!("{code}/src/lib.rt")).contains(&format!("{code_has}{number};")), "{code_has}{number};");
+        assert!(read(place).contains(&format!("{before}{number}{behind}")), "{before}{number}{behind}");
         assert!(header.contains(&format!("#define {header_has}{number} ")), "{header_has}{number}");
     }
     assert!(header.contains(&format!("#define AURA_LOAD_LONGEST {LOAD_LONGEST} ")));
