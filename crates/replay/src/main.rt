@@ -2,11 +2,11 @@
 // 2 bytes, low byte first. Prints how many cases agree; at the first that does not it stops and says which that is, counted from 0.
 #![tactic(auto)]
 
-ghost use Rattle.std.specs.Prelude.{length, ◌≡◌, IfSome};
+ghost use Rattle.std.specs.Prelude.{length, take, ◌≡◌, IfSome};
 ghost use Rattle.console.specs.Buffer.{holding};
 ghost use Rattle.judge_text.specs.ProgramText.{answer_text};
 ghost use Rattle.replay.specs.Agreement.{agreement, Agreement};
-ghost use Rattle.replay.specs.Inside.CaseRead.{ReadTo, CaseRead};
+ghost use Rattle.replay.specs.Inside.CaseRead.{LengthRead, PartFrom, ReadTo, CaseRead};
 ghost use Rattle.typing.specs.Answer.{buffer_of};
 
 use judge_text::answer_text;
@@ -44,7 +44,9 @@ fn agrees(
 }
 
 // Reads a length; none where the input ends or a read fails.
-fn read_length(input: &mut impl Read) -> Option<u16> {
+fn read_length<R: Read>(input: &mut R) -> Option<u16>
+    ensures { IfSome result (LengthRead (R.remaining input.old) (R.remaining input.new)) }
+{
     let mut head = [0u8; 2];
     input.read_exact(&mut head).ok()?;
     Some(id_at(&head, 0))
@@ -52,8 +54,9 @@ fn read_length(input: &mut impl Read) -> Option<u16> {
 
 // Reads a length and as many bytes to the front of `space`; none where they are not all there or
 // do not fit.
-fn read_part(input: &mut impl Read, space: &mut [u8]) -> Option<usize>
-    ensures { IfSome result (λ n. ReadTo space n) }
+fn read_part<R: Read>(input: &mut R, space: &mut [u8]) -> Option<usize>
+    ensures room { IfSome result (λ n. ReadTo space n) }
+    ensures bytes { IfSome result (λ n. PartFrom (R.remaining input.old) (R.remaining input.new) n (take n space.new)) }
 {
     let len = read_length(input)? as usize;
     if space.len() < len {

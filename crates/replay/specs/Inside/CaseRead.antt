@@ -1,5 +1,7 @@
 -- What reading a case leaves in the lent slices, and what is answered. What is read no contract can say: here it is whatever stands in the slices afterwards.
-use Rattle.std.specs.Prelude.{ℕ, ◌≤◌, length, take, drop, List, ◌⊎◌, ◌≡◌}
+use Rattle.std.specs.Prelude.{ℕ, Option, ◌≤◌, length, take, drop, List, ◌++◌, ◌⊎◌, ◌≡◌}
+use Rattle.std.specs.Io.KnownBytes.{Consumes}
+use Rattle.ty.specs.Bytes.{id_at}
 use Rattle.console.specs.Buffer.{Counts, holding}
 use Rattle.judge_text.specs.ProgramText.{answer_text}
 use Rattle.replay.specs.Agreement.{agreement}
@@ -8,6 +10,14 @@ use Rattle.replay.specs.declared.Case.TheVariants.{End, Agrees, Differs, Broken}
 use Rattle.ty.specs.Choose.{choose}
 use Rattle.ty.specs.Slice.{Borrowed}
 use Rattle.typing.specs.Answer.{buffer_of}
+
+-- a length n was read: where the input's bytes are known, it lost two, which make that number
+abbrev pub LengthRead : Option (List ℕ) → Option (List ℕ) → ℕ → Type 0
+LengthRead old new n = (bs : List ℕ) × Consumes old new bs × (length bs ≡ 2) × (id_at bs 0 ≡ n)
+
+-- a part of n bytes was read: where the input's bytes are known, it lost two, which make that number, and then the part's
+abbrev pub PartFrom : Option (List ℕ) → Option (List ℕ) → ℕ → List ℕ → Type 0
+PartFrom old new n part = (bs : List ℕ) × Consumes old new (bs ++ part) × (length bs ≡ 2) × (id_at bs 0 ≡ n)
 
 -- the first n bytes of s, of which it has so many, were read; behind them it is as it was: now it is s'
 pub record PartRead (s s' : List ℕ) (n : ℕ) : Type 0 where
