@@ -38,8 +38,12 @@ pub enum Kind {
     Error,
 }
 
-// Where a type lies in a table.
+// A number that stands for none of an enum's values.
 #[derive(Clone, Copy, PartialEq, Eq)]
+pub struct UnknownNumber(pub u8);
+
+// Where a type lies in a table.
+#[derive(Clone, Copy, PartialEq, Eq, Default)]
 pub struct Part {
     pub start: usize,
     pub len: usize,
@@ -75,7 +79,7 @@ pub fn id_at(s: &[u8], i: usize) -> u16
     u16::from_le_bytes([byte_at(s, i), byte_at(tail(s, 1), i)])
 }
 
-// The kind of a type, and 255 where there is no byte.
+// The kind of a type, and 255, which no type has, where there is no byte: each test of a kind is false there, and no test opens an Option.
 pub fn kind_of(s: &[u8]) -> u8
     ensures { result ≡ kind_of s.now }
 {
@@ -96,6 +100,7 @@ pub fn name_of(s: &[u8]) -> u16
     id_at(s, 1)
 }
 
+// These tests keep the names that they have in Rust, a line each.
 pub fn is_nullable(s: &[u8]) -> bool
     ensures { result ≡ is_nullable s.now }
 {

@@ -2,7 +2,8 @@
 ghost use Rattle.std.specs.Prelude.{◌≡◌};
 ghost use Rattle.ty.specs.Name.{id_defined, known_id, id_number};
 
-// The number of a name, with the numbers of the built-in names.
+// The number of a name, with the numbers of the built-in names. They are u16, since ids are compared with ids that are read from bytes; an enum would have no
+// value for a table's own names.
 #[derive(Clone, Copy)]
 pub struct NameId(pub u16);
 

@@ -4,7 +4,8 @@ ghost use Rattle.ty.specs.Read.{body_length, child_count, good_body, id_in, item
 
 use crate::{Kind, byte_at, id_at};
 
-// A type that ends before byte len. `top` is the highest id that was examined, 0 for none; `error` says whether Error was.
+// A type that ends before byte len. `top` is the highest id that was examined, and 0 where none was: each table defines the name 0, so that no id and the id 0
+// ask the same of a table. `error` says whether Error was examined.
 #[derive(Clone, Copy)]
 pub struct TypeRead {
     pub len: usize,
@@ -18,7 +19,7 @@ pub enum TypeFault {
     // The bytes end before the type does, and before the limit.
     Cut,
     Malformed,
-    // No end within the limit.
+    // No end within the limit; `top` and `error` as in a TypeRead.
     Endless { top: u16, error: bool },
 }
 
@@ -82,6 +83,7 @@ fn good_body(k: u8, c: u8, z: bool) -> bool
         & ((!(k == Kind::Function as u8)) | (c <= 16))
 }
 
+// The id in an item, and 0 where it has none: each table defines the name 0.
 #[tactic(auto, unfolding(crate::specs::Read::id_in, crate::specs::Choose::choose))]
 fn id_in(k: u8, i: u16) -> u16
     ensures { result ≡ id_in k i }
@@ -109,6 +111,7 @@ fn judged(k: u8, c: u8, z: bool, i: u16, next: usize) -> Result<Item, ItemFault>
     }
 }
 
+// Bytes past the end count as 0. A slice of these four is not there where the type ends before them.
 fn four_zeros(s: &[u8], at: usize) -> bool
     requires { at ≤ 65537 }
     ensures { result ≡ four_zeros s.now at }
