@@ -22,7 +22,7 @@ buffers = (refl, refl, refl, refl)
 
 -- a Pair, a Map's keys, what a Pointer to an Int holds, a Pointer to a Boolean, a part of a table, a Function that gives it
 pub sources : (type_from [] [] [] (Name 0) ≡ 17 ∷ 0 ∷ 0 ∷ []) × (type_from [] [] [] (ListOf Any) ≡ 15 ∷ 9 ∷ []) × (type_from [] (13 ∷ 0 ∷ []) [] Inner ≡ 0 ∷ [])
-    × (type_from [] (6 ∷ []) [] Pointer ≡ 13 ∷ 6 ∷ []) × (type_from (5 ∷ 12 ∷ 8 ∷ 5 ∷ []) [] [] (Part 1 2) ≡ 12 ∷ 8 ∷ [])
-    × (type_from (5 ∷ 12 ∷ 8 ∷ 5 ∷ []) [] [] (Function 1 2) ≡ 18 ∷ 0 ∷ 12 ∷ 8 ∷ [])
+    × (type_from [] (6 ∷ []) [] Pointer ≡ 13 ∷ 6 ∷ []) × (type_from (5 ∷ 12 ∷ 8 ∷ 5 ∷ []) [] [] (Part (record { start = 1; len = 2 })) ≡ 12 ∷ 8 ∷ [])
+    × (type_from (5 ∷ 12 ∷ 8 ∷ 5 ∷ []) [] [] (Function (record { start = 1; len = 2 })) ≡ 18 ∷ 0 ∷ 12 ∷ 8 ∷ [])
 unfolding type_from inner_of choose
 sources = (refl, refl, refl, refl, refl, refl)

@@ -1,17 +1,17 @@
 -- Laws of the slots as the list of the types that they hold.
 use Prim.Native.Nat.{ℕ, ◌+◌, ◌≤◌, ◌<◌}
-use lib.ListN.{length, get_or, take, drop, set, length-append, length-set}
+use lib.ListN.{length, take, drop, set, length-append, length-set}
 use lib.Seq.{sets, get_or-set_same, get_or-set_other, length-take-le}
 use mathlib.Core.List.{List, [], ◌∷◌, ◌++◌}
-use mathlib.Core.Path.{◌≡◌, refl, sym, ap, ◌∙◌}
+use mathlib.Core.Path.{◌≡◌, sym, ap, ◌∙◌}
 use native.Mathlib.Omega.{arith}
 use Rattle.std.proofs.lemmas.List.{set-append_left, take-append-drop}
-use Rattle.area.specs.Inside.Slot.{type_at, Child, Holds, AllHold}
-use Rattle.area.specs.Inside.Storable.{ReadsChildren, CanStore, typed_by}
-use Rattle.area.specs.Source.{type_from}
+use Rattle.area.specs.Inside.Slot.{Child, Holds, AllHold}
+use Rattle.area.specs.Inside.Storable.{ReadsChildren}
 use Rattle.area.specs.declared.Source.TheVariants.{Kind, ListOf, Name, First, Second, Inner, Pointer, Part, Function}
 use Rattle.area.specs.declared.Source.{Source}
 use Rattle.ty.specs.declared.Kind.{Kind as TypeKind}
+use Rattle.ty.specs.declared.Part.{Part as TypePart}
 use Rattle.ty.specs.Bytes.{Ty}
 use Rattle.written.proofs.ListFacts.{sets-append, sets_front}
 
@@ -62,13 +62,13 @@ reads_both_children slots node first second x y First = x
 reads_both_children slots node first second x y Second = y
 reads_both_children slots node first second x y Inner = x
 reads_both_children slots node first second x y Pointer = x
-reads_both_children slots node first second x y (Part start len) = tt
-reads_both_children slots node first second x y (Function start len) = tt
+reads_both_children slots node first second x y (Part p) = tt
+reads_both_children slots node first second x y (Function p) = tt
 
 pub reads_no_child : (slots : List Ty) (node first second : ℕ) (k : TypeKind) → ReadsChildren slots node first second (Kind k)
 unfolding ReadsChildren
 reads_no_child slots node first second k = tt
 
-pub reads_table_part : (slots : List Ty) (node first second start len : ℕ) → ReadsChildren slots node first second (Part start len)
+pub reads_table_part : (slots : List Ty) (node first second : ℕ) (p : TypePart) → ReadsChildren slots node first second (Part p)
 unfolding ReadsChildren
-reads_table_part slots node first second start len = tt
+reads_table_part slots node first second p = tt

@@ -23,5 +23,5 @@ type_from table x y First = x
 type_from table x y Second = y
 type_from table x y Inner = inner_of x
 type_from table x y Pointer = pointer_kind ∷ x
-type_from table x y (Part start len) = bytes_from table start len
-type_from table x y (Function start len) = function_kind ∷ 0 ∷ bytes_from table start len
+type_from table x y (Part p) = bytes_from table p.start p.len
+type_from table x y (Function p) = function_kind ∷ 0 ∷ bytes_from table p.start p.len

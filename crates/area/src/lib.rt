@@ -10,7 +10,7 @@ ghost use Rattle.area.specs.Source.{bytes_from};
 pub mod reports;
 pub mod types;
 
-use ty::Kind;
+use ty::{Kind, Part};
 
 // The kinds of diagnostics, in the order of their numbers.
 #[derive(Clone, Copy, PartialEq, Eq)]
@@ -60,16 +60,16 @@ pub enum Source {
     Second,
     Inner,
     Pointer,
-    Part { start: usize, len: usize },
-    Function { start: usize, len: usize },
+    Part(Part),
+    Function(Part),
 }
 
-// So many bytes from start on, or as many as there are.
-pub fn part(s: &[u8], start: usize, len: usize) -> &[u8]
-    ensures { result.now ≡ bytes_from s.now start len }
+// The bytes of a part, or as many of them as there are.
+pub fn part(s: &[u8], part: Part) -> &[u8]
+    ensures { result.now ≡ bytes_from s.now part.start part.len }
 {
-    let rest = ty::tail(s, start);
-    &rest[..len.min(rest.len())]
+    let rest = ty::tail(s, part.start);
+    &rest[..part.len.min(rest.len())]
 }
 
 // Whether a type is Error itself.

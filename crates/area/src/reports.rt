@@ -8,6 +8,9 @@ use crate::DiagnosticKind;
 use written::put_two;
 
 // A lent buffer, and how many diagnostics were reported: those that fit wholly stand in it, one behind another.
+//
+// It has no Model: that would hide which buffer is lent. So each function that reports asks `count < count_limit`: how many there can be goes by the number of
+// nodes, which Reports does not know.
 #[derive(Drop)]
 pub struct Reports<'a> {
     pub buf: &'a mut [u8],
@@ -15,8 +18,8 @@ pub struct Reports<'a> {
 }
 
 impl<'a> Reports<'a> {
-    // Reports one more diagnostic.
-    #[tactic(auto, unfolding(crate::specs::Reported::reported, crate::specs::Diagnostic::put_all, crate::specs::Diagnostic::put_one, crate::specs::Diagnostic::record_of, ty::specs::Choose::choose))]
+    // Reports one more diagnostic. The number 0 stands for none, as in the record (docs/FORMAT.md).
+    #[tactic(auto, using(crate::proofs::Reporting::reported_one), unfolding(ty::specs::Choose::choose))]
     pub fn report(&mut self, kind: DiagnosticKind, node: usize, number: usize)
         requires { self.old.count < count_limit }
         ensures { self.new ≡ reported self.old (record { kind = diagnostic_number kind; node = node; number = number } ∷ []) }

@@ -1,13 +1,16 @@
 // The types of a question's nodes, each in a slot of 256 bytes.
+//
+// `node < length slots`, `Child` and `.. ≤ slot_size` are asked: a node's number is of no slots by itself, bytes have no bound by themselves, and a type of
+// both would borrow them.
 ghost use Rattle.std.specs.Prelude.{◌≡◌, ◌++◌, ◌+◌, ◌≤◌, ◌<◌, [], length, set};
 ghost use Rattle.area.specs.Inside.Slot.{slot_size, type_at, Child};
 ghost use Rattle.area.specs.Inside.Storable.{CanStore, typed_by};
 ghost use Rattle.area.specs.Source.{bytes_from};
 ghost use Rattle.ty.specs.Bytes.{inner_of};
 
-use crate::{Source, part};
+use crate::Source;
 use std::marker::Model;
-use ty::Kind;
+use ty::{Kind, Part};
 use written::copy_in;
 
 // A node's type, of at most 256 bytes; no bytes at first.
@@ -76,7 +79,8 @@ fn store_bytes(slots: &mut [Slot], node: usize, front: &[u8], rest: &[u8])
     slots[node].put(front, rest);
 }
 
-// The bytes of `front`, and then the type of the child m, become the type of node.
+// The bytes of `front`, and then the type of the child m, become the type of node. Apart from store_inner: a closure from a type to its part would say less
+// plainly which part.
 #[tactic(auto, using(crate::proofs::SlotsHeld::set_before))]
 fn store_child(slots: &mut [Slot], node: usize, front: &[u8], m: usize)
     requires { Child slots.old node m × (length front.now + length (type_at slots.old m) ≤ slot_size) }
@@ -97,14 +101,15 @@ fn store_inner(slots: &mut [Slot], node: usize, m: usize)
 }
 
 // A part of some bytes, the table's or the question's, becomes the type of node.
-pub fn store_part(slots: &mut [Slot], source: &[u8], node: usize, start: usize, len: usize)
-    requires { (node < length slots.old) × (length (bytes_from source.now start len) ≤ slot_size) }
-    ensures { slots.new ≡ set slots.old node (bytes_from source.now start len) }
+pub fn store_part(slots: &mut [Slot], source: &[u8], node: usize, part: Part)
+    requires { (node < length slots.old) × (length (bytes_from source.now part.start part.len) ≤ slot_size) }
+    ensures { slots.new ≡ set slots.old node (bytes_from source.now part.start part.len) }
 {
-    store_bytes(slots, node, &[], part(source, start, len));
+    store_bytes(slots, node, &[], crate::part(source, part));
 }
 
-// The type that a source stands for becomes the type of node; first and second are its children.
+// The type that a source stands for becomes the type of node; first and second are its children, or the node itself where the source reads none: an Option
+// would have to be opened at each source that reads one. A struct of some of the six parameters would be made at each call and taken apart here.
 #[tactic(auto, unfolding(crate::specs::Source::type_from, crate::specs::Inside::Storable::ReadsChildren))]
 pub fn store(
     slots: &mut [Slot],
@@ -125,9 +130,9 @@ pub fn store(
         Source::Second => store_child(slots, node, &[], second),
         Source::Inner => store_inner(slots, node, first),
         Source::Pointer => store_child(slots, node, &[Kind::Pointer as u8], first),
-        Source::Part { start, len } => store_part(slots, table, node, start, len),
-        Source::Function { start, len } => {
-            let t = part(table, start, len);
+        Source::Part(part) => store_part(slots, table, node, part),
+        Source::Function(part) => {
+            let t = crate::part(table, part);
             store_bytes(slots, node, &[Kind::Function as u8, 0], t)
         }
     }

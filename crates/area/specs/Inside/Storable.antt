@@ -15,8 +15,8 @@ ReadsChildren slots node first second First = Child slots node first
 ReadsChildren slots node first second Second = Child slots node second
 ReadsChildren slots node first second Inner = Child slots node first
 ReadsChildren slots node first second Pointer = Child slots node first
-ReadsChildren slots node first second (Part start len) = Unit {0}
-ReadsChildren slots node first second (Function start len) = Unit {0}
+ReadsChildren slots node first second (Part p) = Unit {0}
+ReadsChildren slots node first second (Function p) = Unit {0}
 
 -- the type that a source stands for, its children being the nodes first and second
 abbrev pub typed_by : List ℕ → List Ty → ℕ → ℕ → Source → Ty
