@@ -11,7 +11,8 @@ use native.Mathlib.Numerals.{add-one}
 use native.Mathlib.Omega.{arith, not-le}
 use Rattle.index.proofs.Buckets.{list-below, list_kind_of}
 use Rattle.index.specs.Inside.Bucket.{key_bucket, bucket_of}
-use Rattle.index.specs.Inside.Found.{first_in, first_from, HereIs, FunctionAt, first_with, first_behind}
+use Rattle.index.proofs.Counted.{counted, counted_found}
+use Rattle.index.specs.Inside.Found.{Found, found_at, place_at, first_in, first_from, HereIs, FunctionAt, first_with, first_behind}
 use Rattle.index.specs.Inside.Index.{list_count, list_in, first_at, next_in, next_from, next_at}
 use Rattle.index.specs.Inside.IndexedTable.{IndexedTable}
 use Rattle.index.specs.Inside.Searched.{Searched}
@@ -35,6 +36,7 @@ use Rattle.record.specs.declared.walk.Cursor.{Cursor}
 use Rattle.ty.proofs.Choice.{and_left, and_right, choose_yes, choose_no}
 use Rattle.ty.specs.Bytes.{id_at}
 use Rattle.ty.specs.Choose.{choose}
+use Rattle.std.specs.Prelude.{None, Some}
 
 with_yes : (k a b : ℕ) (r : Record) (rs : List Record) → is_of k a b (front_of r) ≡ true → records_with k a b (r ∷ rs) ≡ r ∷ records_with k a b rs
 unfolding records_with choose
@@ -293,63 +295,76 @@ module _ (t : List ℕ) (p : ℕ) (w : Sits t p) (some : p < length t) (clean : 
         sits = w;
       }
 
-module _ (t x : List ℕ) (ok : IndexedTable t x) (a b v : ℕ) (s : Searched t v a b) where
+-- a place that was found, by the number of its entry
+found_next : (v : ℕ) (p : Place) → found_at v ≡ Some p → v ≡ suc p.at
+found_next v p e = sym (counted_found v) ∙ ap counted e
+
+module _ (t x : List ℕ) (ok : IndexedTable t x) (a b : ℕ) (f : Found) (s : Searched t f a b) where
   abbrev bucket : ℕ
   bucket = key_bucket 4 a b % list_count (length t)
 
-  module _ (p : ℕ) (e : v ≡ suc p) where
-    pub searched_at : Reached t bucket s.from p
-    searched_at = reach t bucket p (length t - s.from) s.from (omega arith) s.sits (sym s.is ∙ e)
+  module _ (p : Place) (e : f ≡ Some p) where
+    pub searched_at : Reached t bucket s.from p.at
+    searched_at = reach t bucket p.at (length t - s.from) s.from (omega arith) s.sits (found_next _ p (sym s.is ∙ e))
 
     abbrev test : Bool
-    test = eqb (get_or t p 0) 4 && (eqb (id_at t (p + 1)) a && eqb (id_at t (p + 3)) b)
+    test = eqb (get_or t p.at 0) 4 && (eqb (id_at t (p.at + 1)) a && eqb (id_at t (p.at + 3)) b)
 
-    tested : test ≡ is_of 4 a b (front_of (front_record (drop p t)))
-    tested = raw_test t p searched_at.sits searched_at.some (sits-whole t p searched_at.sits searched_at.some ok.clean) 4 a b (omega arith)
+    tested : test ≡ is_of 4 a b (front_of (front_record (drop p.at t)))
+    tested = raw_test t p.at searched_at.sits searched_at.some (sits-whole t p.at searched_at.sits searched_at.some ok.clean) 4 a b (omega arith)
 
-    cons : first_from t 4 a b v ≡ first_in 4 a b p (front_record (drop p t) ∷ records_of (drop (behind t p) t))
-    cons = ap (first_from t 4 a b) e ∙ ap (first_in 4 a b p) (sits_cons t p searched_at.sits searched_at.some)
-
-    pub searched_first : test ≡ true → first_from t 4 a b v ≡ v
-    searched_first h =
+    cons : first_from t 4 a b f ≡ found_at (first_in 4 a b p.at (front_record (drop p.at t) ∷ records_of (drop (behind t p.at) t)))
+    cons =
         ap (first_from t 4 a b) e
-        ∙ ap (first_in 4 a b p) (sits_cons t p searched_at.sits searched_at.some)
-        ∙ first_yes 4 a b p _ _ (sym tested ∙ h)
-        ∙ sym e
+        ∙ ap (λ (z : List Record). found_at (first_in 4 a b p.at z)) (sits_cons t p.at searched_at.sits searched_at.some)
 
-    pub searched_kind : (front_of (drop p t)).kind ≡ 4
-    searched_kind = list_kind_lem t p searched_at.sits searched_at.some bucket (list-below (key_bucket 4 a b) (length t)) searched_at.own
+    pub searched_first : test ≡ true → first_from t 4 a b f ≡ f
+    searched_first h = cons ∙ ap found_at (first_yes 4 a b p.at _ _ (sym tested ∙ h)) ∙ sym e
 
-    module _ (v' : ℕ) (next : v' ≡ get_or x (next_at (length t) p) 0) where
-      is_next : v' ≡ next_from t bucket (behind t p)
-      is_next = next ∙ ok.indexed.next p searched_at.sits searched_at.some searched_kind ∙ ap (λ (z : ℕ). next_from t z (behind t p)) searched_at.own
+    pub searched_kind : (front_of (drop p.at t)).kind ≡ 4
+    searched_kind = list_kind_lem t p.at searched_at.sits searched_at.some bucket (list-below (key_bucket 4 a b) (length t)) searched_at.own
 
-      pub searched_on : Searched t v' a b
-      searched_on = record { from = behind t p; sits = sits_next t p searched_at.sits searched_at.some; is = is_next }
+    module _ (f' : Found) (next : f' ≡ place_at x (next_at (length t) p.at)) where
+      is_next : f' ≡ found_at (next_from t bucket (behind t p.at))
+      is_next =
+          next
+          ∙ ap found_at
+          (ok.indexed.next p.at searched_at.sits searched_at.some searched_kind ∙ ap (λ (z : ℕ). next_from t z (behind t p.at)) searched_at.own)
 
-      pub searched_less : left_of (length t) v' < left_of (length t) v
-      searched_less = subst (λ (z : ℕ). left_of (length t) v' < left_of (length t) z) (sym e) (go v' is_next)
+      pub searched_on : Searched t f' a b
+      searched_on = record { from = behind t p.at; sits = sits_next t p.at searched_at.sits searched_at.some; is = is_next }
+
+      pub searched_less : left_of (length t) (counted f') < left_of (length t) (counted f)
+      searched_less =
+          subst (λ (z : Found). left_of (length t) (counted f') < left_of (length t) (counted z)) (sym e)
+          (subst (λ (z : ℕ). left_of (length t) z < suc (length t - p.at)) (sym (ap counted is_next ∙ counted_found _))
+          (go (next_from t bucket (behind t p.at)) refl))
         where
-          go : (z : ℕ) → z ≡ next_from t bucket (behind t p) → left_of (length t) z < left_of (length t) (suc p)
+          go : (z : ℕ) → z ≡ next_from t bucket (behind t p.at) → left_of (length t) z < suc (length t - p.at)
           go zero q = omega arith
           go (suc r) q =
-              let w = reach t bucket r (length t - behind t p) (behind t p) (omega arith) (sits_next t p searched_at.sits searched_at.some) (sym q) in
-              omega (arith, w.later, w.some, sits_later t p searched_at.sits searched_at.some)
+              let w = reach t bucket r (length t - behind t p.at) (behind t p.at) (omega arith) (sits_next t p.at searched_at.sits searched_at.some) (sym q) in
+              omega (arith, w.later, w.some, sits_later t p.at searched_at.sits searched_at.some)
 
 -- the first function of a search is the table's first from its byte on
-pub searched_from : (t : List ℕ) (a b v : ℕ) (s : Searched t v a b) → first_from t 4 a b v ≡ first_in 4 a b s.from (records_of (drop s.from t))
-searched_from t a b zero s = sym (none_first t (length t) _ a b refl s.from _ (sym s.is))
-searched_from t a b (suc p) s =
-    sym ((reach t (key_bucket 4 a b % list_count (length t)) p (length t - s.from) s.from (omega arith) s.sits (sym s.is)).first a b refl)
+pub searched_from : (t : List ℕ) (a b : ℕ) (f : Found) (s : Searched t f a b)
+    → first_from t 4 a b f ≡ found_at (first_in 4 a b s.from (records_of (drop s.from t)))
+searched_from t a b None s =
+    sym (ap found_at (none_first t (length t) _ a b refl s.from _ (sym (counted_found _) ∙ ap counted (sym s.is))))
+searched_from t a b (Some p) s =
+    sym (ap found_at
+    ((reach t (key_bucket 4 a b % list_count (length t)) p.at (length t - s.from) s.from (omega arith) s.sits (found_next _ p (sym s.is))).first a b refl))
 
-module _ (t x : List ℕ) (ok : IndexedTable t x) (a b v p v' : ℕ) (s : Searched t v a b) (e : v ≡ suc p) (next : v' ≡ get_or x (next_at (length t) p) 0) where
-  pub searched_same : (eqb (get_or t p 0) 4 && (eqb (id_at t (p + 1)) a && eqb (id_at t (p + 3)) b)) ≡ false → first_from t 4 a b v' ≡ first_from t 4 a b v
+module _ (t x : List ℕ) (ok : IndexedTable t x) (a b : ℕ) (f : Found) (s : Searched t f a b) (p : Place) (e : f ≡ Some p) (f' : Found)
+    (next : f' ≡ place_at x (next_at (length t) p.at)) where
+  pub searched_same : (eqb (get_or t p.at 0) 4 && (eqb (id_at t (p.at + 1)) a && eqb (id_at t (p.at + 3)) b)) ≡ false
+      → first_from t 4 a b f' ≡ first_from t 4 a b f
   unfolding searched_on
   searched_same h =
-      let at = searched_at t x ok a b v s p e in
-      searched_from t a b v' (searched_on t x ok a b v s p e v' next)
-      ∙ ap (λ (z : ℕ). first_in 4 a b z (records_of (drop (behind t p) t))) (sym (sits-length t p at.sits at.some))
-      ∙ sym (cons t x ok a b v s p e ∙ first_no 4 a b p (front_record (drop p t)) _ (sym (tested t x ok a b v s p e) ∙ h))
+      let at = searched_at t x ok a b f s p e in
+      searched_from t a b f' (searched_on t x ok a b f s p e f' next)
+      ∙ ap (λ (z : ℕ). found_at (first_in 4 a b z (records_of (drop (behind t p.at) t)))) (sym (sits-length t p.at at.sits at.some))
+      ∙ sym (cons t x ok a b f s p e ∙ ap found_at (first_no 4 a b p.at (front_record (drop p.at t)) _ (sym (tested t x ok a b f s p e) ∙ h)))
 
 -- ---- a function at a place: its head and its key
 module _ (t : List ℕ) (p : Place) (f : FunctionAt t p) where
@@ -379,18 +394,19 @@ module _ (t x : List ℕ) (ok : IndexedTable t x) where
   sits-start : Sits t 0
   sits-start = record { index = 0; at = at_start t }
 
-  pub list-first : (a b r : ℕ) → r ≡ key_bucket 4 a b % list_count (length t) → r < list_count (length t) → (v : ℕ) → v ≡ get_or x (first_at (length t) r) 0 → Searched t v a b
-  list-first a b r e h v q =
-      record { from = 0; sits = sits-start; is = q ∙ ok.indexed.first r h ∙ ap (λ (z : ℕ). next_from t z 0) e }
+  pub list-first : (a b r : ℕ) → r ≡ key_bucket 4 a b % list_count (length t) → r < list_count (length t)
+      → (g : Found) → g ≡ place_at x (first_at (length t) r) → Searched t g a b
+  list-first a b r e h g q =
+      record { from = 0; sits = sits-start; is = q ∙ ap found_at (ok.indexed.first r h ∙ ap (λ (z : ℕ). next_from t z 0) e) }
 
-  pub first_of_list : (a b r : ℕ) (e : r ≡ key_bucket 4 a b % list_count (length t)) (h : r < list_count (length t)) (v : ℕ)
-      (q : v ≡ get_or x (first_at (length t) r) 0)
-      → first_from t 4 a b v ≡ first_with t 4 a b
+  pub first_of_list : (a b r : ℕ) (e : r ≡ key_bucket 4 a b % list_count (length t)) (h : r < list_count (length t)) (g : Found)
+      (q : g ≡ place_at x (first_at (length t) r))
+      → first_from t 4 a b g ≡ found_at (first_with t 4 a b)
   unfolding list-first
-  first_of_list a b r e h v q = searched_from t a b v (list-first a b r e h v q)
+  first_of_list a b r e h g q = searched_from t a b g (list-first a b r e h g q)
 
-  module _ (p : Place) (f : FunctionAt t p) (a b : ℕ) (ea : a ≡ id_at t (p.at + 1)) (eb : b ≡ id_at t (p.at + 3)) (v : ℕ)
-      (q : v ≡ get_or x (next_at (length t) p.at) 0) where
+  module _ (p : Place) (f : FunctionAt t p) (a b : ℕ) (ea : a ≡ id_at t (p.at + 1)) (eb : b ≡ id_at t (p.at + 3)) (g : Found)
+      (q : g ≡ place_at x (next_at (length t) p.at)) where
     key : list_in (length t) (front_record (drop p.at t)) ≡ key_bucket 4 a b % list_count (length t)
     unfolding list_in bucket_of choose
     key =
@@ -401,17 +417,17 @@ module _ (t x : List ℕ) (ok : IndexedTable t x) where
         let two : (front_of (front_record (drop p.at t))).two ≡ b = i.1 ∙ sym eb in
         rw (k, one, two)
 
-    pub next_first : Searched t v a b
+    pub next_first : Searched t g a b
     next_first =
         record {
           from = behind t p.at;
           sits = sits_next t p.at f.sits f.some;
-          is = q ∙ ok.indexed.next p.at f.sits f.some (function_kind_lem t p f) ∙ ap (λ (z : ℕ). next_from t z (behind t p.at)) key;
+          is = q ∙ ap found_at (ok.indexed.next p.at f.sits f.some (function_kind_lem t p f) ∙ ap (λ (z : ℕ). next_from t z (behind t p.at)) key);
         }
 
-    pub next_of_list : first_from t 4 a b v ≡ first_behind t 4 a b p.at
+    pub next_of_list : first_from t 4 a b g ≡ found_at (first_behind t 4 a b p.at)
     unfolding next_first
-    next_of_list = searched_from t a b v next_first
+    next_of_list = searched_from t a b g next_first
 
 -- ---- what stands in a record that was found
 module _ (t : List ℕ) (all : List Record) (k a b : ℕ) (p : Place) (h : HereIs t all k a b p) where

@@ -1,64 +1,64 @@
 -- The cursor along the functions of a bucket, step by step.
-use Prim.Native.Nat.{ℕ, ◌-◌, ◌≤◌, ◌<◌}
+use Prim.Native.Nat.{ℕ, ◌+◌, ◌≤◌, ◌<◌}
 use lib.ListN.{length}
 use mathlib.Core.Bool.{true, false}
 use mathlib.Core.List.{List}
 use mathlib.Core.Path.{◌≡◌, refl, sym, ap, ◌∙◌, subst}
 use native.Mathlib.Omega.{arith}
 use Rattle.index.proofs.Buckets.{list-below}
-use Rattle.index.proofs.ListSearch.{left_of, positive, searched_at, searched_first, searched_on, searched_less, searched_same, list-first, first_of_list, next_first, next_of_list}
+use Rattle.index.proofs.Counted.{counted}
+use Rattle.index.proofs.ListSearch.{left_of, searched_at, searched_first, searched_on, searched_less, searched_same, list-first, first_of_list, next_first, next_of_list}
 use Rattle.index.specs.Inside.Bucket.{key_bucket}
-use Rattle.index.specs.Inside.Found.{first_from}
+use Rattle.index.specs.Inside.Found.{Found, FunctionAt, first_from}
 use Rattle.index.specs.Inside.IndexedTable.{IndexedTable}
-use Rattle.index.specs.Inside.ListWalk.{list_start, here_has_key, list_step, list_followed, list_first, list_next, place_listed, AtListed}
+use Rattle.index.specs.Inside.ListWalk.{list_start, here_has_key, list_at, list_step, list_followed, list_first, list_behind, list_next, AtListed}
 use Rattle.index.specs.Inside.Searched.{Searched}
+use Rattle.index.specs.declared.index.Place.{Place}
 use Rattle.index.specs.declared.list.ListCursor.{ListCursor}
+use Rattle.std.specs.Prelude.{None, Some}
+use Rattle.ty.specs.Bytes.{id_at}
 use Rattle.record.proofs.Accepts.{accepted_short}
 
 -- the cursor is at the first function of its bucket from some byte on
 abbrev pub ListAt : List ℕ → ListCursor → Type 0
 ListAt t c = Searched t c.here c.owner c.name
 
-abbrev moved : ListCursor → ℕ → ListCursor
-moved c v = record { owner = c.owner; name = c.name; here = v }
-
 -- at the list's end it stays
-pub stays_end : (t : List ℕ) (c : ListCursor) → c.here ≡ 0 → c ≡ list_followed t c
+pub stays_end : (t : List ℕ) (c : ListCursor) → c.here ≡ None → c ≡ list_followed t c
 unfolding list_followed
-stays_end t c z = ap (moved c) (z ∙ ap (first_from t 4 c.owner c.name) (sym z))
+stays_end t c z = ap (list_at c) (z ∙ ap (first_from t 4 c.owner c.name) (sym z))
 
-module _ (t x : List ℕ) (ok : IndexedTable t x) (c : ListCursor) (s : ListAt t c) where
-  module _ (z : c.here ≡ 0 → ⊥) where
-    pub list_low : c.here ≤ 60000
-    list_low = omega (arith, (searched_at t x ok c.owner c.name c.here s (c.here - 1) (positive c.here z)).some, accepted_short t ok.clean)
+module _ (t x : List ℕ) (ok : IndexedTable t x) (c : ListCursor) (s : ListAt t c) (p : Place) (z : c.here ≡ Some p) where
+  pub list_low : p.at ≤ 60000
+  list_low = omega (arith, (searched_at t x ok c.owner c.name c.here s p z).some, accepted_short t ok.clean)
 
-    -- at a function with the owner and the name it stays
-    pub stays_here : here_has_key t c ≡ true → c ≡ list_followed t c
-    unfolding list_followed here_has_key
-    stays_here h = ap (moved c) (sym (searched_first t x ok c.owner c.name c.here s (c.here - 1) (positive c.here z) h))
+  -- at a function with the owner and the name it stays
+  pub stays_here : here_has_key t c p ≡ true → c ≡ list_followed t c
+  unfolding list_followed here_has_key
+  stays_here h = ap (list_at c) (sym (searched_first t x ok c.owner c.name c.here s p z h))
 
-    -- a step goes on
-    pub step_at : ListAt t (list_step (length t) x c)
-    unfolding list_step
-    step_at = searched_on t x ok c.owner c.name c.here s (c.here - 1) (positive c.here z) _ refl
+  -- a step goes on
+  step_at : ListAt t (list_step (length t) x c p)
+  unfolding list_step
+  step_at = searched_on t x ok c.owner c.name c.here s p z _ refl
 
-    pub step_less : left_of (length t) (list_step (length t) x c).here < left_of (length t) c.here
-    unfolding list_step
-    step_less = searched_less t x ok c.owner c.name c.here s (c.here - 1) (positive c.here z) _ refl
+  pub step_less : left_of (length t) (counted (list_step (length t) x c p).here) < left_of (length t) (counted c.here)
+  unfolding list_step
+  step_less = searched_less t x ok c.owner c.name c.here s p z _ refl
 
-    pub step_same : here_has_key t c ≡ false → list_followed t (list_step (length t) x c) ≡ list_followed t c
-    unfolding list_followed here_has_key list_step
-    step_same h = ap (moved c) (searched_same t x ok c.owner c.name c.here (c.here - 1) _ s (positive c.here z) refl h)
+  step_same : here_has_key t c p ≡ false → list_followed t (list_step (length t) x c p) ≡ list_followed t c
+  unfolding list_followed here_has_key list_step
+  step_same h = ap (list_at c) (searched_same t x ok c.owner c.name c.here s p z _ refl h)
 
 -- ---- the loop: what is followed from here on is what was to be followed
 pub record Following (t : List ℕ) (c₀ c : ListCursor) : Type 0 where
   pub at : ListAt t c
   pub same : list_followed t c ≡ list_followed t c₀
 
-module _ (t x : List ℕ) (ok : IndexedTable t x) (c₀ c : ListCursor) (f : Following t c₀ c) (z : c.here ≡ 0 → ⊥) where
-  pub following_next : here_has_key t c ≡ false → (n : ListCursor) → n ≡ list_step (length t) x c → Following t c₀ n
+module _ (t x : List ℕ) (ok : IndexedTable t x) (c₀ c : ListCursor) (f : Following t c₀ c) (p : Place) (z : c.here ≡ Some p) where
+  pub following_next : here_has_key t c p ≡ false → (n : ListCursor) → n ≡ list_step (length t) x c p → Following t c₀ n
   following_next h n e =
-      subst (Following t c₀) (sym e) (record { at = step_at t x ok c f.at z; same = step_same t x ok c f.at z h ∙ f.same })
+      subst (Following t c₀) (sym e) (record { at = step_at t x ok c f.at p z; same = step_same t x ok c f.at p z h ∙ f.same })
 
 -- ---- the cursor at the first function of a bucket, and the functions from there on
 module _ (t x : List ℕ) (ok : IndexedTable t x) (a b : ℕ) where
@@ -70,17 +70,28 @@ module _ (t x : List ℕ) (ok : IndexedTable t x) (a b : ℕ) where
   pub start_first : list_followed t (list_start (length t) x a b) ≡ list_first t a b
   unfolding list_start list_followed list_first
   start_first =
-      ap (λ (n : ℕ). record { owner = a; name = b; here = n })
+      ap (λ (f : Found). record { owner = a; name = b; here = f })
       (first_of_list t x ok a b _ refl (list-below (key_bucket 4 a b) (length t)) _ refl)
 
 -- ---- the cursor behind a function with its owner and name
-module _ (t x : List ℕ) (ok : IndexedTable t x) (c : ListCursor) (h : AtListed t c) where
-  pub next_at : ListAt t (list_step (length t) x c)
-  unfolding list_step
-  next_at = next_first t x ok (place_listed c) h.function c.owner c.name h.owner h.name _ refl
+module _ (t x : List ℕ) (ok : IndexedTable t x) (c : ListCursor) (h : AtListed t c) (p : Place) (z : c.here ≡ Some p) where
+  same_place : h.place ≡ p
+  same_place = cc
 
-  pub next_list : list_followed t (list_step (length t) x c) ≡ list_next t c
+  function : FunctionAt t p
+  function = subst (FunctionAt t) same_place h.function
+
+  owner : c.owner ≡ id_at t (p.at + 1)
+  owner = rw (← same_place) h.owner
+
+  name : c.name ≡ id_at t (p.at + 3)
+  name = rw (← same_place) h.name
+
+  pub next_at : ListAt t (list_step (length t) x c p)
+  unfolding list_step
+  next_at = next_first t x ok p function c.owner c.name owner name _ refl
+
+  pub next_list : list_followed t (list_step (length t) x c p) ≡ list_next t c
   unfolding list_step list_followed list_next
   next_list =
-      ap (λ (n : ℕ). record { owner = c.owner; name = c.name; here = n })
-      (next_of_list t x ok (place_listed c) h.function c.owner c.name h.owner h.name _ refl)
+      ap (list_at c) (next_of_list t x ok p function c.owner c.name owner name _ refl) ∙ sym (ap (list_behind t c) z)

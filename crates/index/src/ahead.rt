@@ -4,14 +4,14 @@ ghost use Rattle.index.specs.Inside.Ahead.{marked, marked_from};
 ghost use Rattle.record.specs.Inside.Front.{front_at};
 ghost use Rattle.record.specs.Inside.Walk.{CursorAt};
 
-use crate::index::{entry_at, put};
+use crate::index::{Place, entry_at, put};
 use record::front::{Head, RecordKind};
 use record::walk::Cursor;
 
 // The record at p comes into the entries if it is a class whose id has one.
-fn mark(late: &mut [u16], head: Option<Head>, p: usize)
-    requires { p < 65535 }
-    ensures { (s : List ℕ) → late.new ≡ marked (front_at s head).kind (front_at s head).one p late.old }
+fn mark(late: &mut [u16], head: Option<Head>, p: Place)
+    requires { p.at < 65535 }
+    ensures { (s : List ℕ) → late.new ≡ marked (front_at s head).kind (front_at s head).one p.at late.old }
 {
     let Some(h) = head else {
         return;
@@ -23,10 +23,11 @@ fn mark(late: &mut [u16], head: Option<Head>, p: usize)
     if late.len() <= i {
         return;
     }
-    put(late, i, (p + 1) as u16);
+    put(late, i, p.entry());
 }
 
 // The records from me on come into the entries, so that each id has its last class record. The entries are those of the ids below their number.
+// What is asked of table and cursor goes by both: the check of a table looks ahead before there is a Table.
 pub fn look_ahead(t: &[u8], me: Cursor, late: &mut [u16])
     requires { CursorAt t.now me × (length t.now ≤ 60000) }
     ensures { late.new ≡ marked_from t.now me.at late.old }
@@ -35,7 +36,7 @@ pub fn look_ahead(t: &[u8], me: Cursor, late: &mut [u16])
     // A `while`: no bound to count to, a record says where the next begins.
     while c.at < t.len() {
         let s = c.step(t);
-        mark(late, s.head, c.at);
+        mark(late, s.head, Place { at: c.at });
         c = s.next;
     }
 }

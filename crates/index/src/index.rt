@@ -1,10 +1,11 @@
 // The index of a table: its entries.
-ghost use Rattle.std.specs.Prelude.{◌≡◌, ◌%◌, ◌≤◌, ◌<◌, ltb, length, get_or, set};
+ghost use Rattle.std.specs.Prelude.{◌≡◌, suc, ◌%◌, ◌≤◌, ◌<◌, ltb, length, get_or, set};
 ghost use Rattle.index.specs.Inside.Bucket.{key_bucket};
 ghost use Rattle.index.specs.Inside.Found.{place_at};
 ghost use Rattle.index.specs.Inside.Index.{size_of, sized, bucket_count, list_count, first_at, last_at, child_at};
 ghost use Rattle.index.specs.Inside.SearchKey.{has_ids};
 
+use record::front::RecordKind;
 use ty::{byte_at, id_at};
 
 // A table of at most so many bytes has a small index.
@@ -17,6 +18,16 @@ pub const MIDDLE_TABLE: usize = 16384;
 #[derive(Clone, Copy)]
 pub struct Place {
     pub at: usize,
+}
+
+impl Place {
+    // The entry that gives a place: its first byte, counted from 1.
+    pub fn entry(self) -> u16
+        requires { self.at < 65535 }
+        ensures { result ≡ suc self.at }
+    {
+        (self.at + 1) as u16
+    }
 }
 
 // How large the index of a table is.
@@ -42,7 +53,7 @@ impl TableSize {
         TableSize::Short
     }
 
-    // One of three numbers. They are all given, so that a division is by a constant.
+    // One of three numbers. They are all given, so that a division is by a constant: the counts and the reductions below share this, with numbers of their own.
     fn pick(self, short: usize, middle: usize, long: usize) -> usize
         ensures { result ≡ sized self short middle long }
     {
@@ -109,7 +120,7 @@ pub fn list_reduced(h: usize, n: usize) -> usize
     TableSize::of(n).pick(h % 64, h % 256, h % 1024)
 }
 
-// Where the entry of a list's first function stands.
+// Where the entry of a list's first function stands. The bucket's bound is asked: the check of a table calls this before there is a Table that could say it.
 #[tactic(auto, using(crate::proofs::Buckets::buckets))]
 pub fn first_at(n: usize, b: usize) -> usize
     requires { b < list_count n }
@@ -119,11 +130,12 @@ pub fn first_at(n: usize, b: usize) -> usize
 }
 
 // Where the entry of a list's last function stands.
+#[tactic(auto, using(crate::proofs::Buckets::buckets))]
 pub fn last_at(n: usize, b: usize) -> usize
     requires { b < list_count n }
     ensures { result ≡ last_at n b }
 {
-    1 + 2 * bucket_count(n) + list_count(n) + b
+    first_at(n, b) + list_count(n)
 }
 
 // Where the entry c of the record at p stands.
@@ -135,11 +147,11 @@ pub fn child_at(n: usize, p: usize, c: usize) -> usize
     TableSize::of(n).pick(641, 4609, 18433) + 2 * (p / 5) + c
 }
 
-// The key of a record of a kind, 2 or more, is the first id alone. A test of the byte: lookups make it at each record.
+// The key of a record of a kind, 2 or more, is the first id alone. The kind is a number, as lookups make this test of the table's byte at each record.
 pub(crate) fn has_one_id(kind: u8) -> bool
     ensures { result ≡ ltb kind 4 }
 {
-    kind < 4
+    kind < RecordKind::Function.number()
 }
 
 // The record at p is of a kind and has a key. The kind is a number, as it is compared with the table's byte; & and | test all parts without a branch.

@@ -1,7 +1,6 @@
 // The lists of functions in the index: one chain for each bucket, in table order.
 ghost use Rattle.std.specs.Prelude.{◌≡◌, ◌≤◌, ◌<◌, length};
 ghost use Rattle.index.specs.Inside.IndexedTable.{IndexedTable};
-ghost use Rattle.index.specs.Inside.Found.{found_at};
 ghost use Rattle.index.specs.Inside.Entered.{EntryAsked, link_at, entered};
 ghost use Rattle.index.specs.Inside.Index.{list_count};
 ghost use Rattle.index.specs.Inside.Searched.{Searched};
@@ -9,11 +8,12 @@ ghost use Rattle.record.specs.TableRefused.{table_fault};
 ghost use Rattle.index.specs.Inside.ListWalk.{list_start, here_has_key, list_step, list_followed, list_first, list_next, AtListed};
 
 use crate::index::{
-    Place, child_at, entry_at, first_at, has_ids, key_bucket, last_at, list_reduced, place_at, put,
+    Place, child_at, first_at, has_ids, key_bucket, last_at, list_reduced, place_at, put,
 };
 use crate::table::Table;
+use record::front::RecordKind;
 
-// Where the entry for a function stands that comes into bucket b behind its last function, or as its first.
+// Where the entry for a function stands that comes into bucket b behind its last function, or as its first. The bucket's bound is asked, as `first_at` asks it.
 fn link_at(n: usize, b: usize, last: Option<Place>) -> usize
     requires { b < list_count n }
     ensures { result ≡ link_at n b last }
@@ -26,26 +26,25 @@ fn link_at(n: usize, b: usize, last: Option<Place>) -> usize
 
 // A function at p, in bucket b of a table of n bytes, comes into the index.
 #[tactic(auto, using(crate::proofs::Chains::link_low), unfolding(crate::specs::Inside::Entered::entered))]
-pub fn enter(x: &mut [u16], n: usize, b: usize, p: usize)
-    requires { EntryAsked x.old n b p }
-    ensures { x.new ≡ entered n b p x.old }
+pub fn enter(x: &mut [u16], n: usize, b: usize, p: Place)
+    requires { EntryAsked x.old n b p.at }
+    ensures { x.new ≡ entered n b p.at x.old }
 {
     let at = last_at(n, b);
     let link = link_at(n, b, place_at(x, at));
-    let v = (p + 1) as u16;
-    put(x, link, v);
-    put(x, at, v);
+    put(x, link, p.entry());
+    put(x, at, p.entry());
 }
 
-// A place in the list of a bucket: the owner and the name that are looked for, and the function here by its first byte, counted from 1; 0 is the list's end.
-// That is a number, as `symbol`'s definitions of its own cursor take it.
+// A place in the list of a bucket: the owner and the name that are looked for, and the function here, none at the list's end.
 #[derive(Clone, Copy)]
 pub struct ListCursor {
     pub owner: u16,
     pub name: u16,
-    pub here: usize,
+    pub here: Option<Place>,
 }
 
+// The private steps take a table's bytes and its index: a Table's value is its bytes, and the steps' clauses name entries of the index.
 impl ListCursor {
     // At the first function of the bucket of an owner and a name.
     #[tactic(auto, unfolding(crate::specs::Inside::ListWalk::list_start))]
@@ -53,43 +52,44 @@ impl ListCursor {
         ensures { result ≡ list_start (length t.now) x.now owner name }
     {
         let n = t.len();
-        let b = list_reduced(key_bucket(4, owner, name), n);
+        let b = list_reduced(key_bucket(RecordKind::Function.number(), owner, name), n);
         ListCursor {
             owner,
             name,
-            here: entry_at(x, first_at(n, b)),
+            here: place_at(x, first_at(n, b)),
         }
     }
 
     // The function here.
     pub fn found(self) -> Option<Place>
-        ensures { result ≡ found_at self.here }
+        ensures { result ≡ self.here }
     {
-        if self.here == 0 {
-            return None;
-        }
-        Some(Place { at: self.here - 1 })
+        self.here
     }
 
-    // The function here has the owner and the name.
+    // The function p here has the owner and the name.
     #[tactic(auto, unfolding(crate::specs::Inside::ListWalk::here_has_key))]
-    fn has_key(self, t: &[u8]) -> bool
-        requires { (0 < self.here) × (self.here ≤ 60000) }
-        ensures { result ≡ here_has_key t.now self }
+    fn has_key(self, t: &[u8], p: Place) -> bool
+        requires { p.at ≤ 60000 }
+        ensures { result ≡ here_has_key t.now self p }
     {
-        has_ids(t, self.here - 1, 4, self.owner, self.name)
+        has_ids(
+            t,
+            p.at,
+            RecordKind::Function.number(),
+            self.owner,
+            self.name,
+        )
     }
 
-    // At the next function of the bucket.
+    // At the next function of the bucket, behind the function p here.
     #[tactic(auto, unfolding(crate::specs::Inside::ListWalk::list_step))]
-    fn step(self, t: &[u8], x: &[u16]) -> ListCursor
-        requires { 0 < self.here }
-        ensures { result ≡ list_step (length t.now) x.now self }
+    fn step(self, t: &[u8], x: &[u16], p: Place) -> ListCursor
+        ensures { result ≡ list_step (length t.now) x.now self p }
     {
         ListCursor {
-            owner: self.owner,
-            name: self.name,
-            here: entry_at(x, child_at(t.len(), self.here - 1, 0)),
+            here: place_at(x, child_at(t.len(), p.at, 0)),
+            ..self
         }
     }
 
@@ -100,11 +100,11 @@ impl ListCursor {
     {
         let mut c = self;
         // A `while`: no bound to count to, the next entry stands in the function here.
-        while c.here != 0 {
-            if c.has_key(t) {
+        while let Some(p) = c.here {
+            if c.has_key(t, p) {
                 return c;
             }
-            c = c.step(t, x);
+            c = c.step(t, x, p);
         }
         c
     }
@@ -125,6 +125,9 @@ impl ListCursor {
         ensures accepted { table_fault table.now ≡ 0 }
     {
         let (t, x) = (table.bytes(), table.index());
-        self.step(t, x).follow(t, x)
+        match self.here {
+            Some(p) => self.step(t, x, p).follow(t, x),
+            None => self,
+        }
     }
 }

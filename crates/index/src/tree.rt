@@ -11,10 +11,12 @@ ghost use Rattle.index.specs.Inside.TreeWalk.{tree_start, spot_at, TreeStepAsked
 use crate::index::{
     Place, bucket_count, child_at, has_ids, has_one_id, key_bucket, place_at, reduced,
 };
+use record::front::RecordKind;
 use ty::{byte_at, same_bytes};
 
-// What a search looks for: the name of the record at a place, or a kind from 2 on with its ids. The kind is a number, as it is compared with the table's byte
-// at each record of a search; a RecordKind would be made its number there.
+// What a search looks for: the name of the record at a place, or a kind from 2 on with its ids, `two` being 0 where the kind has one id: no search looks at it.
+// The kind is a number, as it is compared with the table's byte at each record of a search; a RecordKind would be made its number there.
+// A key goes with its table: where it is a name's place, that must lie in the table (KeyIn).
 #[derive(Clone, Copy)]
 pub enum Key {
     Name(Place),
@@ -34,12 +36,13 @@ pub fn name_at(t: &[u8], p: usize) -> &[u8]
 // A number for 24 bytes of a name: the bytes times weights that depend on the place alone, so that no product waits for another.
 #[tactic(auto, unfolding(crate::specs::Inside::Bucket::weight_of, crate::specs::Inside::Bucket::weighed_of, crate::specs::Inside::Bucket::hash_of))]
 fn hash(name: &[u8]) -> usize
+    requires { length name.now ≡ 24 }
     ensures { (result ≡ hash_of 24 name.now) × (result < 65536) }
 {
     let mut sum: usize = 0;
     let mut weight: usize = 173;
-    for i in 0..24usize {
-        sum += byte_at(name, i) as usize * weight;
+    for &b in name {
+        sum += b as usize * weight;
         weight = (weight * 463 + 7) % 32749;
     }
     sum % 65536
@@ -63,9 +66,12 @@ fn word_at(name: &[u8], i: usize) -> usize
     requires { i < 4294967296 }
     ensures { (result ≡ word_at name.now i) × (result < 4294967296) }
 {
-    let low = byte_at(name, i) as usize + 256 * (byte_at(name, i + 1) as usize);
-    let high = byte_at(name, i + 2) as usize + 256 * (byte_at(name, i + 3) as usize);
-    low + 65536 * high
+    u32::from_le_bytes([
+        byte_at(name, i),
+        byte_at(name, i + 1),
+        byte_at(name, i + 2),
+        byte_at(name, i + 3),
+    ]) as usize
 }
 
 // A round of the digest.
@@ -144,7 +150,7 @@ fn digit(t: &[u8], key: Key, h: usize, d: usize) -> usize
     }
 }
 
-// The record at p has a key.
+// The record at p has a key. What is asked of table and record goes by both: a search is made before there is a Table, too.
 #[tactic(auto, using(crate::proofs::Earlier::has_other, crate::proofs::Earlier::has_name, crate::proofs::Earlier::has_ids, crate::proofs::Earlier::has_room))]
 fn has(t: &[u8], p: usize, key: Key) -> bool
     requires { WholeRecordAt t.now p × KeyIn t.now key × (length t.now ≤ 60000) }
@@ -153,7 +159,7 @@ fn has(t: &[u8], p: usize, key: Key) -> bool
     match key {
         Key::Name(at) => {
             // A test of the byte, as has_ids makes it.
-            if byte_at(t, p) != 1 {
+            if byte_at(t, p) != RecordKind::Name.number() {
                 return false;
             }
             same_bytes(name_at(t, p), name_at(t, at.at))
@@ -212,7 +218,8 @@ impl TreeCursor {
     }
 }
 
-// Searches for a key in its tree b: a record with the key, or the empty entry where such a record would stand.
+// Searches for a key in its tree b: a record with the key, or the empty entry where such a record would stand. It takes a table's bytes and its index, as the
+// check of a table searches while it makes the index (Open).
 pub fn search(t: &[u8], x: &[u16], key: Key, b: usize) -> Result<Place, usize>
     requires { Open t.now x.now × KeyIn t.now key × (b ≡ tree_for t.now key) }
     ensures { result ≡ search_of t.now x.now key }

@@ -14,13 +14,9 @@ unfoldable pub first_in : ℕ → ℕ → ℕ → ℕ → List Record → ℕ
 first_in k a b p [] = 0
 first_in k a b p (r ∷ rs) = choose (is_of k a b (front_of r)) (suc p) (first_in k a b (p + length r) rs)
 
--- the first in the table, and from the record v on
+-- the first in the table
 abbrev pub first_with : List ℕ → ℕ → ℕ → ℕ → ℕ
 first_with t k a b = first_in k a b 0 (records_of t)
-
-abbrev pub first_from : List ℕ → ℕ → ℕ → ℕ → ℕ → ℕ
-first_from t k a b zero = 0
-first_from t k a b (suc p) = first_in k a b p (records_of (drop p t))
 
 -- the first behind the record at byte p
 abbrev pub first_behind : List ℕ → ℕ → ℕ → ℕ → ℕ → ℕ
@@ -38,6 +34,11 @@ found_at (suc p) = Some (record { at = p })
 -- the record that entry i of an index gives
 abbrev pub place_at : List ℕ → ℕ → Found
 place_at x i = found_at (get_or x i 0)
+
+-- the first of kind k with the key a, b from a record on
+abbrev pub first_from : List ℕ → ℕ → ℕ → ℕ → Found → Found
+first_from t k a b None = None
+first_from t k a b (Some p) = found_at (first_in k a b p.at (records_of (drop p.at t)))
 
 -- one that stands at a place, and the others behind it
 pub record HereIs (t : List ℕ) (all : List Record) (k a b : ℕ) (p : Place) : Type 0 where

@@ -3,5 +3,5 @@ use mathlib.Core.Path.{◌≡◌}
 use Rattle.index.specs.Inside.Bucket.{weight_of, weighed_of}
 use Rattle.index.proofs.tree.hash.Given as goal
 
-abbrev pub invariant-loop-i : goal.invariant-loop-i
-invariant-loop-i l = (l.sum ≡ weighed_of l.i l.name) × (l.weight ≡ weight_of l.i) × (l.weight < 32749) × (l.sum ≤ l.i * 8350740)
+abbrev pub invariant-loop-b : goal.invariant-loop-b
+invariant-loop-b l = (l.sum ≡ weighed_of l.b-index l.name) × (l.weight ≡ weight_of l.b-index) × (l.weight < 32749) × (l.sum ≤ l.b-index * 8350740)
