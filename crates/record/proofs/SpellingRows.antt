@@ -1,22 +1,20 @@
 -- A search among the built-in spellings.
 use Prim.Native.Nat.{ℕ}
-use lib.Dec.{eqb}
-use lib.Pointwise.{pointwise}
 use mathlib.Core.Bool.{Bool, true, false, not, ◌&&◌, ◌||◌, false≢true}
 use mathlib.Core.List.{List, [], ◌∷◌}
 use mathlib.Core.Path.{◌≡◌, refl, ◌∙◌}
 use Rattle.std.specs.List.{list_any}
 use Rattle.ty.proofs.Choice.{and_left, and_right, or_cases}
-use Rattle.ty.proofs.Same.{same_eq, pointwise_same}
+use Rattle.ty.proofs.Same.{same_eq}
 use Rattle.ty.specs.Bytes.{same_bytes}
 use Rattle.record.specs.Inside.Sieve.{mix_of, bit_of, may_be_builtin}
 use Rattle.record.specs.Spelling.{builtin_names, spelled}
 
 -- to be among some is to be one of them
-pub spelled_any : (name : List ℕ) (xs : List (List ℕ)) → list_any (λ x. pointwise eqb name x) xs ≡ spelled name xs
+pub spelled_any : (name : List ℕ) (xs : List (List ℕ)) → list_any (λ x. same_bytes name x) xs ≡ spelled name xs
 unfolding spelled
 spelled_any name [] = refl
-spelled_any name (x ∷ xs) = λ i. pointwise_same name x i || spelled_any name xs i
+spelled_any name (x ∷ xs) = λ i. same_bytes name x || spelled_any name xs i
 
 -- ---- the test before the search
 
@@ -42,9 +40,9 @@ module _ (name : List ℕ) where
       (λ s. spelled_may xs (and_right (may_be_builtin x) (all_may xs) p) s)
 
   -- what does not pass is none of the built-in spellings
-  pub not-spelled : (r : Bool) → r ≡ may_be_builtin name → not r ≡ true → false ≡ spelled name builtin_names
-  not-spelled true e h = absurd (false≢true h)
-  not-spelled false e h = go (spelled name builtin_names) refl
+  pub not_spelled : (r : Bool) → r ≡ may_be_builtin name → not r ≡ true → false ≡ spelled name builtin_names
+  not_spelled true e h = absurd (false≢true h)
+  not_spelled false e h = go (spelled name builtin_names) refl
     where
       go : (v : Bool) → spelled name builtin_names ≡ v → false ≡ v
       go true s = absurd (false≢true (e ∙ spelled_may builtin_names builtins_may s))

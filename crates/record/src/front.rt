@@ -5,7 +5,7 @@ ghost use Rattle.record.specs.Inside.Front.{front_at, plain_head, or_none, good_
 ghost use Rattle.record.specs.Inside.Walk.{HeadIs};
 
 use crate::params::{Reading, read_function_head, typed_record};
-use ty::{NameId, byte_at, id_at};
+use ty::{UnknownNumber, byte_at, id_at, known_id};
 
 // The longest type in a table.
 pub const LONGEST: u16 = 192;
@@ -13,7 +13,7 @@ pub const LONGEST: u16 = 192;
 // The kinds of a record.
 #[derive(Clone, Copy, PartialEq, Eq)]
 pub enum RecordKind {
-    Name,
+    Name = 1,
     Class,
     Operators,
     Function,
@@ -28,25 +28,16 @@ impl RecordKind {
     pub fn number(self) -> u8
         ensures { result ≡ record_kind_number self }
     {
-        match self {
-            RecordKind::Name => 1,
-            RecordKind::Class => 2,
-            RecordKind::Operators => 3,
-            RecordKind::Function => 4,
-            RecordKind::Field => 5,
-            RecordKind::Visibility => 6,
-            RecordKind::Suspend => 7,
-            RecordKind::Variant => 8,
-        }
+        self as u8
     }
 }
 
 impl TryFrom<u8> for RecordKind {
-    type Error = ();
+    type Error = UnknownNumber;
 
     ghost try_from_gives = { RecordKindIs };
 
-    fn try_from(byte: u8) -> Result<Self, ()> {
+    fn try_from(byte: u8) -> Result<Self, UnknownNumber> {
         match byte {
             1 => Ok(RecordKind::Name),
             2 => Ok(RecordKind::Class),
@@ -56,7 +47,7 @@ impl TryFrom<u8> for RecordKind {
             6 => Ok(RecordKind::Visibility),
             7 => Ok(RecordKind::Suspend),
             8 => Ok(RecordKind::Variant),
-            _ => Err(()),
+            _ => Err(UnknownNumber(byte)),
         }
     }
 }
@@ -64,6 +55,8 @@ impl TryFrom<u8> for RecordKind {
 // What a record that is not malformed says at its front: its kind, its first two numbers (of a class its name and superclass, of an operator set class and
 // mask, of the later kinds owner and name; a name has none), its length, the highest id that it uses and that must be defined, and whether it repeats a
 // parameter's name, or has Error in a type or a type without end. Where a type has no end, the record's length is that of all that is left.
+// `one` and `two` stand in the record's bytes alike for all kinds, and the index compares both alike for all kinds; a name, which has neither, has 0 in both.
+// `top` is 0 where no id is used: each table defines the name 0.
 #[derive(Clone, Copy)]
 pub struct Head {
     pub kind: RecordKind,
@@ -75,14 +68,12 @@ pub struct Head {
     pub error: bool,
 }
 
-#[tactic(auto, unfolding(crate::specs::Inside::Front::or_none, ty::specs::Choose::choose))]
+// What an id that may be none counts for the highest id: 0 for none, since each table defines the name 0.
+#[tactic(auto, unfolding(crate::specs::Inside::Front::or_none, ty::specs::Name::known_id, ty::specs::Choose::choose))]
 pub fn or_none(id: u16) -> u16
     ensures { result ≡ or_none id }
 {
-    if id == NameId::NONE {
-        return 0;
-    }
-    id
+    known_id(id).unwrap_or(0)
 }
 
 // A record of n bytes with no type in it.
@@ -122,6 +113,7 @@ fn good_byte(n: usize, i: usize, b: u8) -> bool
     ((i < n) ^ (b == 0)) & ((b == 0) | ((33 <= b) & ((b <= 126) & (!(b == 46)))))
 }
 
+#[tactic(auto, unfolding(crate::specs::Inside::Front::good_bytes))]
 fn good_bytes(s: &[u8], n: usize) -> bool
     ensures { result ≡ good_bytes 24 s.now n }
 {
@@ -164,7 +156,7 @@ pub fn read_record(s: &[u8]) -> Option<Head>
     }
 }
 
-#[tactic(auto, unfolding(crate::specs::Inside::Front::head_by, ty::specs::Choose::choose))]
+#[tactic(auto, using(crate::proofs::Bounds::short_head), unfolding(crate::specs::Inside::Front::head_by, ty::specs::Choose::choose))]
 fn read_kind(s: &[u8], kind: RecordKind) -> Option<Head>
     ensures { front_at s.now result ≡ head_by (record_kind_number kind) s.now }
 {

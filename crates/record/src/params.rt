@@ -9,8 +9,8 @@ use crate::front::{Head, LONGEST, RecordKind, or_none};
 use ty::read::read_type;
 use ty::{TypeFault, byte_at, id_at};
 
-// The result and the parameters read so far: the bytes passed, the highest id, whether a name was repeated, whether Error was met, how many parameters there
-// are, and their names: an array with its count, since there is no heap.
+// The result and the parameters read so far: the bytes passed, the highest id (0 for none, as in a Head), whether a name was repeated, whether Error was met,
+// how many parameters there are, and their names: an array with its count, since there is no heap.
 #[derive(Clone, Copy)]
 pub struct Reading {
     pub len: usize,
@@ -34,12 +34,12 @@ pub enum ReadFault {
 impl Reading {
     // Before a type, in a record whose owner and name have the highest id.
     #[inline(always)]
-    pub fn new(top: u16) -> Reading
-        ensures { run_of result ≡ unread top }
+    pub fn new(high: u16) -> Reading
+        ensures { run_of result ≡ unread high }
     {
         Reading {
             len: 0,
-            top,
+            top: high,
             repeated: false,
             error: false,
             count: 0,
@@ -122,20 +122,27 @@ fn read_params(s: &[u8], count: usize) -> Result<Reading, ReadFault>
 pub fn typed_record(s: &[u8], kind: RecordKind, read: Result<Reading, ReadFault>) -> Option<Head>
     ensures { front_at s.now result ≡ typed_answer s.now (record_kind_number kind) read }
 {
-    let (len, top, repeated, error) = match read {
-        Ok(c) => (c.len, c.top, c.repeated, c.error),
-        Err(ReadFault::Endless { top, repeated }) => (s.len(), top, repeated, true),
-        Err(ReadFault::Broken) => return None,
-    };
-    Some(Head {
-        kind,
-        one: id_at(s, 1),
-        two: id_at(s, 3),
-        len,
-        top,
-        repeated,
-        error,
-    })
+    match read {
+        Ok(c) => Some(Head {
+            kind,
+            one: id_at(s, 1),
+            two: id_at(s, 3),
+            len: c.len,
+            top: c.top,
+            repeated: c.repeated,
+            error: c.error,
+        }),
+        Err(ReadFault::Endless { top, repeated }) => Some(Head {
+            kind,
+            one: id_at(s, 1),
+            two: id_at(s, 3),
+            len: s.len(),
+            top,
+            repeated,
+            error: true,
+        }),
+        Err(ReadFault::Broken) => None,
+    }
 }
 
 #[tactic(auto, using(crate::proofs::ParamSteps::answer_read), unfolding(crate::specs::Inside::Front::function_head, ty::specs::Choose::choose))]

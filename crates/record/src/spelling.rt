@@ -3,7 +3,7 @@ ghost use Rattle.std.specs.Prelude.{◌≡◌, ◌<◌};
 ghost use Rattle.record.specs.Inside.Sieve.{mix_of, bit_of, may_be_builtin};
 ghost use Rattle.record.specs.Spelling.{builtin_names, spelled};
 
-use ty::byte_at;
+use ty::{byte_at, same_bytes};
 
 // The built-in spellings, Pair to keys in the order of their ids: 24 bytes each, zero-padded.
 static BUILTINS: [[u8; 24]; 40] = [
@@ -53,12 +53,7 @@ static BUILTINS: [[u8; 24]; 40] = [
 fn in_rows(name: &[u8], rows: &[[u8; 24]]) -> bool
     ensures { result ≡ spelled name.now rows.now }
 {
-    for row in rows {
-        if name == row.as_slice() {
-            return true;
-        }
-    }
-    false
+    rows.iter().any(|row| same_bytes(name, row))
 }
 
 // A number for six of a name's bytes.
@@ -93,6 +88,7 @@ fn may_be_builtin(name: &[u8]) -> bool
 }
 
 // A name's 24 bytes are a built-in spelling. Few names need the rows.
+#[tactic(auto, using(crate::proofs::SpellingRows::not_spelled), unfolding(crate::specs::Spelling::builtin_names))]
 pub fn is_builtin(name: &[u8]) -> bool
     ensures { result ≡ spelled name.now builtin_names }
 {

@@ -1,12 +1,8 @@
-use mathlib.Core.Path.{sym, ◌∙◌}
-use Rattle.record.proofs.Bounds.{short_head}
+use mathlib.Core.Path.{◌∙◌}
 use Rattle.record.proofs.ParamSteps.{answer_field}
 use Rattle.record.specs.Inside.Front.{class_head, operators_head, visibility_head, suspend_head, variant_head, head_by}
 use Rattle.ty.specs.Choose.{choose}
 use Rattle.record.proofs.front.read_kind.Goals as goal
-
-pub returns-then-s-lt5 : goal.returns-then-s-lt5
-returns-then-s-lt5 c = sym (short_head _ c.args.s.now c.if-s-lt5.true)
 
 pub returns-in-Field : goal.returns-in-Field
 unfolding head_by choose
