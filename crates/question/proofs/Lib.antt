@@ -1,5 +1,6 @@
 pub mod QuestionFaults
 pub mod Operators
+pub mod NodeKinds
 pub mod Walking
 pub mod Trees
 pub mod Standing

@@ -1,6 +1,6 @@
--- An operator's number is one of those that there are, and a byte past them stands for none.
-use Prim.Native.Nat.{ℕ, ◌≤◌, ◌<◌}
-use borrow.Author.Tests.{le-leb, lt-leb}
+-- An operator's number is one of those that there are.
+use Prim.Native.Nat.{ℕ, ◌≤◌}
+use borrow.Author.Tests.{le-leb}
 use lib.Dec.{leb}
 use mathlib.Core.Bool.{Bool, true, false, ◌&&◌}
 use mathlib.Core.Path.{◌≡◌, refl}
@@ -56,20 +56,12 @@ unfolding choose
 kept true u x e = rw e
 kept false u x e = refl
 
-dropped : (t u : Bool) (x : NodeRead) → u ≡ false → Bad ≡ choose (t && u) x Bad
-unfolding choose
-dropped true u x e = rw e
-dropped false u x e = refl
-
 module _ (t : Bool) (n : ℕ) where
   pub known_binary : (op : BinOp) → binary_number op ≡ n → choose t (Binary (binary_number op)) Bad ≡ choose (t && leb n last_binary) (Binary n) Bad
   known_binary op e = rw e (kept t (leb n last_binary) (Binary n) (le-leb n last_binary (rw e at (few_binary op))))
 
-  pub unknown_binary : last_binary < n → Bad ≡ choose (t && leb n last_binary) (Binary n) Bad
-  unknown_binary h = dropped t (leb n last_binary) (Binary n) (lt-leb n last_binary h)
-
   pub known_unary : (op : UnOp) → unary_number op ≡ n → choose t (Unary (unary_number op)) Bad ≡ choose (t && leb n last_unary) (Unary n) Bad
   known_unary op e = rw e (kept t (leb n last_unary) (Unary n) (le-leb n last_unary (rw e at (few_unary op))))
 
-  pub unknown_unary : last_unary < n → Bad ≡ choose (t && leb n last_unary) (Unary n) Bad
-  unknown_unary h = dropped t (leb n last_unary) (Unary n) (lt-leb n last_unary h)
+-- both
+pub ruleset known_operators = (known_binary, known_unary)

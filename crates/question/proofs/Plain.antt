@@ -60,3 +60,6 @@ plain-leaf (b ∷ bs) h = rw (go (min (suc (length bs)) longest_type) (omega ari
     go : (n : ℕ) → 0 < n → read_from (suc n) (b ∷ bs) longest_type 0 1 0 false ≡ whole_read 1 0 false
     go zero p = absurd (omega arith)
     go (suc f) p = plain-read (b ∷ bs) f (omega arith) h
+
+-- the name that `leaf` cites
+pub ruleset plain_leaf = (plain-leaf)

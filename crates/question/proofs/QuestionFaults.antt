@@ -22,6 +22,9 @@ some_number ManyNodes h = omega arith
 some_number UndefinedId h = omega arith
 some_number EndlessType h = omega arith
 
+-- both
+pub ruleset faults = (failed, some_number)
+
 -- what is not read has no bytes of its own and no children
 pub unread_bytes : (fault : NodeFault) → own_bytes (fault_read fault) ≡ 0
 unfolding own_bytes

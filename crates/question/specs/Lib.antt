@@ -2,6 +2,7 @@ pub mod Tree
 pub mod Header
 pub mod Parse
 pub mod Inside
+pub mod NodeKind
 pub mod NodeRead
 pub mod OperatorNumber
 pub mod Node

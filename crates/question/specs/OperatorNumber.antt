@@ -6,7 +6,7 @@ use Rattle.question.specs.declared.operator.BinOp.TheVariants.{UShr, Assign, To,
 use Rattle.question.specs.declared.operator.BinOp.{BinOp}
 use Rattle.question.specs.declared.operator.UnOp.TheVariants.{Minus, Not, Increment, Decrement, AddrOf, Dereference, NotNull}
 use Rattle.question.specs.declared.operator.UnOp.{UnOp}
-use Rattle.question.specs.declared.operator.UnknownOperator.{UnknownOperator}
+use Rattle.ty.specs.declared.UnknownNumber.{UnknownNumber}
 
 unfoldable pub binary_number : BinOp → ℕ
 binary_number Add = 0
@@ -43,10 +43,10 @@ unary_number Dereference = 5
 unary_number NotNull = 6
 
 -- reading a number gives the operator that has it, or an error past the last
-abbrev pub ReadsBinary : ℕ → Result BinOp UnknownOperator → Type 0
+abbrev pub ReadsBinary : ℕ → Result BinOp UnknownNumber → Type 0
 ReadsBinary n (Ok op) = binary_number op ≡ n
 ReadsBinary n (Err e) = last_binary < n
 
-abbrev pub ReadsUnary : ℕ → Result UnOp UnknownOperator → Type 0
+abbrev pub ReadsUnary : ℕ → Result UnOp UnknownNumber → Type 0
 ReadsUnary n (Ok op) = unary_number op ≡ n
 ReadsUnary n (Err e) = last_unary < n

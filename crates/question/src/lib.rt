@@ -11,12 +11,13 @@ ghost use Rattle.question.specs.Inside.Top.{id_fault, read_fault};
 ghost use Rattle.question.specs.FaultNumber.{question_fault_number, number_of};
 ghost use Rattle.question.specs.Node.{node_read, fault_read, read_of};
 
-use node::{MOST_NODES, children, node_at, own_bytes};
-pub use node::{Node, NodeFault, Skipped};
+use node::{MOST_NODES, Walk};
+pub use node::{Node, NodeFault, NodeKind, Skipped};
 use ty::name::id_defined;
-use ty::{NameId, byte_at, id_at};
+use ty::{byte_at, id_at, known_id};
 
 // Where the script stands: the current type and package, NameId::NONE for none, and whether in a suspend function.
+// No Option: the theorem that a written question reads back holds of each header.
 #[derive(Clone, Copy)]
 pub struct Header {
     pub current: u16,
@@ -34,7 +35,7 @@ pub struct Names {
 #[derive(Clone, Copy, PartialEq, Eq)]
 pub enum QuestionFault {
     // Over 16,384 bytes, malformed, cut, or with bytes behind the tree.
-    Malformed,
+    Malformed = 8,
     // A 65th node.
     ManyNodes,
     UndefinedId,
@@ -46,12 +47,7 @@ impl QuestionFault {
     pub fn number(self) -> u8
         ensures { result ≡ question_fault_number self }
     {
-        match self {
-            QuestionFault::Malformed => 8,
-            QuestionFault::ManyNodes => 9,
-            QuestionFault::UndefinedId => 10,
-            QuestionFault::EndlessType => 11,
-        }
+        self as u8
     }
 }
 
@@ -71,10 +67,14 @@ pub fn read_header(question: &[u8]) -> Header
     }
 }
 
+#[tactic(auto, using(ty::proofs::Known::none_known, ty::proofs::Known::some_known))]
 fn none_or_defined(id: u16, names: Names) -> bool
     ensures { result ≡ none_or_defined names id }
 {
-    (id == NameId::NONE) | id_defined(id, names.count)
+    match known_id(id) {
+        None => true,
+        Some(id) => id_defined(id, names.count),
+    }
 }
 
 // The header is there, and its ids are none or defined.
@@ -166,27 +166,28 @@ fn check_end(question: &[u8], at: usize) -> Result<(), QuestionFault>
 }
 
 // The nodes in byte order, and what stands behind them.
+#[tactic(auto, using(crate::proofs::Walking::check_steps), unfolding(crate::specs::QuestionRefused::tree_fault))]
 fn check_tree(question: &[u8], names: Names) -> Result<(), QuestionFault>
     ensures { number_of result ≡ tree_fault names question.now }
 {
-    let mut at: usize = HEADER_BYTES;
-    let mut pending: usize = 1;
+    let mut walk = Walk {
+        at: HEADER_BYTES,
+        pending: 1,
+    };
     for _passed in 0..MOST_NODES {
-        if pending == 0 {
-            return check_end(question, at);
-        }
-        let node = checked(node_at(question, at), names)?;
-        at += own_bytes(node);
-        pending = pending - 1 + children(node);
+        let Some(read) = walk.step(question) else {
+            return check_end(question, walk.at);
+        };
+        checked(read, names)?;
     }
-    if pending == 0 {
-        return check_end(question, at);
+    match walk.step(question) {
+        None => check_end(question, walk.at),
+        Some(read) => Err(more(read)),
     }
-    Err(more(node_at(question, at)))
 }
 
 // Whether a question is accepted, or why it is refused.
-#[tactic(auto, using(crate::proofs::QuestionFaults::failed, crate::proofs::QuestionFaults::some_number), unfolding(crate::specs::QuestionRefused::question_fault, ty::specs::Choose::choose))]
+#[tactic(auto, using(crate::proofs::QuestionFaults::faults), unfolding(crate::specs::QuestionRefused::question_fault, ty::specs::Choose::choose))]
 pub fn check_question(question: &[u8], names: Names) -> Result<(), QuestionFault>
     ensures { number_of result ≡ question_fault names question.now }
 {

@@ -1,19 +1,63 @@
 // The nodes of a question's tree.
-ghost use Rattle.std.specs.Prelude.{◌≡◌, ◌&&◌, leb};
+ghost use Rattle.std.specs.Prelude.{◌≡◌, ◌<◌, ◌^◌};
 ghost use Rattle.ty.specs.Read.{read_type, longest_type};
 ghost use Rattle.ty.specs.Choose.{choose};
-ghost use Rattle.question.specs.NodeRead.{Bad, Binary, Unary, last_binary, last_unary, leaf_of, node_of, node_in, node_at, own_bytes, children as children_of};
+ghost use Rattle.question.specs.NodeKind.{node_kind_number, NodeKindIs};
+ghost use Rattle.question.specs.NodeRead.{Bad, leaf_of, node_of, node_in, node_at, own_bytes, children as children_of};
 ghost use Rattle.question.specs.Node.{node_read, read_of};
 ghost use Rattle.question.specs.Inside.Skip.{skip_at};
+ghost use Rattle.question.specs.Inside.Walk.{WalkStep};
+ghost use Rattle.question.specs.declared.node.NodeFault.TheVariants.{Bad as BadNode};
 
 use crate::operator::{BinOp, UnOp};
 use ty::read::{TypeFault, read_type};
-use ty::{Kind, byte_at, id_at, kind_of, tail};
+use ty::{Kind, UnknownNumber, byte_at, id_at, kind_of, tail};
+
+// The kinds of a node, in the order of their numbers.
+#[derive(Clone, Copy, PartialEq, Eq)]
+pub enum NodeKind {
+    Leaf,
+    Binary,
+    Unary,
+    Named,
+    Member,
+    Call,
+    Method,
+}
+
+impl NodeKind {
+    // The byte that stands for a kind.
+    pub fn number(self) -> u8
+        ensures { result ≡ node_kind_number self }
+    {
+        self as u8
+    }
+}
+
+impl TryFrom<u8> for NodeKind {
+    type Error = UnknownNumber;
+
+    ghost try_from_gives = { NodeKindIs };
+
+    fn try_from(byte: u8) -> Result<Self, UnknownNumber> {
+        match byte {
+            0 => Ok(NodeKind::Leaf),
+            1 => Ok(NodeKind::Binary),
+            2 => Ok(NodeKind::Unary),
+            3 => Ok(NodeKind::Named),
+            4 => Ok(NodeKind::Member),
+            5 => Ok(NodeKind::Call),
+            6 => Ok(NodeKind::Method),
+            _ => Err(UnknownNumber(byte)),
+        }
+    }
+}
 
 // What stands at a position of the question: a node's own bytes, without its children.
 #[derive(Clone, Copy)]
 pub enum Node {
-    // A type of len bytes stands behind the kind; top is the highest id in it, 0 for none.
+    // A type of len bytes stands behind the kind; top is the highest id in it, 0 for none: an
+    // Option is no plainer, as 0 is the id of a name that each table defines.
     Leaf { len: u16, top: u16 },
     Binary { op: BinOp },
     Unary { op: UnOp },
@@ -29,8 +73,17 @@ pub enum Node {
 pub enum NodeFault {
     // No node: malformed, or cut.
     Bad,
-    // A leaf's type without end; top is the highest id that was examined.
+    // A leaf's type without end; top is the highest id that was examined, 0 for none as in a leaf.
     Endless { top: u16 },
+}
+
+// No node has a kind or an operator that is unknown.
+impl From<UnknownNumber> for NodeFault {
+    ghost from_gives = { λ _ fault. fault ≡ BadNode };
+
+    fn from(_: UnknownNumber) -> NodeFault {
+        NodeFault::Bad
+    }
 }
 
 // Where nodes end: the next position, and how many nodes were passed.
@@ -47,7 +100,7 @@ const LONGEST_TYPE: u16 = 192;
 pub const MOST_NODES: usize = 64;
 
 // A leaf, whose type stands at the front of some bytes.
-#[tactic(auto, unfolding(crate::specs::NodeRead::leaf_of))]
+#[tactic(auto, using(crate::proofs::Plain::plain_leaf), unfolding(crate::specs::NodeRead::leaf_of))]
 fn leaf(s: &[u8]) -> Result<Node, NodeFault>
     ensures { read_of result ≡ leaf_of (read_type s.now longest_type) }
 {
@@ -74,56 +127,39 @@ fn if_there(there: bool, node: Node) -> Result<Node, NodeFault>
     if there { Ok(node) } else { Err(NodeFault::Bad) }
 }
 
-// A binary node of which so many bytes are there.
-#[tactic(auto, using(crate::proofs::Operators::known_binary, crate::proofs::Operators::unknown_binary))]
-fn binary(there: usize, op: u8) -> Result<Node, NodeFault>
-    ensures { read_of result ≡ choose (leb 2 there && leb op last_binary) (Binary op) Bad }
-{
-    match BinOp::try_from(op) {
-        Ok(op) => if_there(2 <= there, Node::Binary { op }),
-        Err(_) => Err(NodeFault::Bad),
-    }
-}
-
-// A unary one.
-#[tactic(auto, using(crate::proofs::Operators::known_unary, crate::proofs::Operators::unknown_unary))]
-fn unary(there: usize, op: u8) -> Result<Node, NodeFault>
-    ensures { read_of result ≡ choose (leb 2 there && leb op last_unary) (Unary op) Bad }
-{
-    match UnOp::try_from(op) {
-        Ok(op) => if_there(2 <= there, Node::Unary { op }),
-        Err(_) => Err(NodeFault::Bad),
-    }
-}
-
-// A node of kind k, not a leaf, of which so many bytes are there.
-#[tactic(auto, unfolding(crate::specs::NodeRead::node_of, ty::specs::Choose::choose))]
-fn node_of(k: u8, there: usize, op: u8, id: u16, count: u8) -> Result<Node, NodeFault>
-    ensures { read_of result ≡ node_of k there op id count }
+// A node that is not a leaf, of which so many bytes are there.
+#[tactic(auto, using(crate::proofs::Operators::known_operators), unfolding(crate::specs::NodeRead::node_of, ty::specs::Choose::choose))]
+fn node_of(kind: NodeKind, there: usize, op: u8, id: u16, count: u8) -> Result<Node, NodeFault>
+    ensures { read_of result ≡ node_of (node_kind_number kind) there op id count }
 {
     let called = (4 <= there) & (count <= MOST_ARGUMENTS);
-    match k {
-        1 => binary(there, op),
-        2 => unary(there, op),
-        3 => if_there(3 <= there, Node::Named { id }),
-        4 => if_there(3 <= there, Node::Member { id }),
-        5 => if_there(called, Node::Call { id, count }),
-        6 => if_there(called, Node::Method { id, count }),
-        _ => Err(NodeFault::Bad),
+    match kind {
+        NodeKind::Leaf => Err(NodeFault::Bad),
+        NodeKind::Binary => {
+            let op = BinOp::try_from(op)?;
+            if_there(2 <= there, Node::Binary { op })
+        }
+        NodeKind::Unary => {
+            let op = UnOp::try_from(op)?;
+            if_there(2 <= there, Node::Unary { op })
+        }
+        NodeKind::Named => if_there(3 <= there, Node::Named { id }),
+        NodeKind::Member => if_there(3 <= there, Node::Member { id }),
+        NodeKind::Call => if_there(called, Node::Call { id, count }),
+        NodeKind::Method => if_there(called, Node::Method { id, count }),
     }
 }
 
 // The node at the front of some bytes. Its kind is the first byte, as a type's is.
-#[tactic(auto, unfolding(crate::specs::NodeRead::node_in, ty::specs::Choose::choose))]
+#[tactic(auto, using(crate::proofs::NodeKinds::unknown_kind), unfolding(crate::specs::NodeRead::node_in, ty::specs::Choose::choose))]
 fn node_in(s: &[u8]) -> Result<Node, NodeFault>
     ensures { read_of result ≡ node_in s.now }
 {
-    // a leaf apart: its type is read before the bytes that other kinds have are looked at
-    let k = kind_of(s);
-    if k == 0 {
-        return leaf(tail(s, 1));
+    match NodeKind::try_from(kind_of(s))? {
+        // apart: its type is read before the bytes that other kinds have are looked at
+        NodeKind::Leaf => leaf(tail(s, 1)),
+        kind => node_of(kind, s.len(), byte_at(s, 1), id_at(s, 1), byte_at(s, 3)),
     }
-    node_of(k, s.len(), byte_at(s, 1), id_at(s, 1), byte_at(s, 3))
 }
 
 // The node at a position.
@@ -161,24 +197,49 @@ pub fn children(node: Node) -> usize
     }
 }
 
+// A walk over the nodes of some trees, in byte order: where the next one stands, and how many trees are still to come.
+#[derive(Drop)]
+pub struct Walk {
+    pub at: usize,
+    pub pending: usize,
+}
+
+impl Walk {
+    // Reads the next node and goes past its own bytes; none where no tree is to come.
+    #[tactic(auto, using(crate::proofs::Walking::step_bounds))]
+    pub fn step(&mut self, q: &[u8]) -> Option<Result<Node, NodeFault>>
+        requires { self.old.pending < 2 ^ 32 }
+        ensures { WalkStep q.now self.old self.new result }
+    {
+        if self.pending == 0 {
+            return None;
+        }
+        let read = node_at(q, self.at);
+        self.pending -= 1;
+        if let Ok(node) = read {
+            self.at += own_bytes(node);
+            self.pending += children(node);
+        }
+        Some(read)
+    }
+}
+
 // Past the nodes of so many trees, none of them judged, and past at most 64 nodes.
+#[tactic(auto, using(crate::proofs::Walking::skip_steps), unfolding(crate::specs::Inside::Skip::skip_at))]
 pub fn skip(q: &[u8], start: usize, trees: u8) -> Skipped
     ensures { result ≡ skip_at q.now start trees }
 {
-    let mut at = start;
-    let mut pending: usize = trees as usize;
+    let mut walk = Walk {
+        at: start,
+        pending: trees as usize,
+    };
     for nodes in 0..MOST_NODES {
-        if pending == 0 {
-            return Skipped { at, nodes };
-        }
-        pending -= 1;
-        if let Ok(node) = node_at(q, at) {
-            at += own_bytes(node);
-            pending += children(node);
+        if walk.step(q).is_none() {
+            return Skipped { at: walk.at, nodes };
         }
     }
     Skipped {
-        at,
+        at: walk.at,
         nodes: MOST_NODES,
     }
 }

@@ -1,6 +1,8 @@
 // The operators of binary and of unary nodes, by the numbers that stand for them.
 ghost use Rattle.question.specs.OperatorNumber.{ReadsBinary, ReadsUnary};
 
+use ty::UnknownNumber;
+
 #[derive(Clone, Copy, PartialEq, Eq)]
 pub enum BinOp {
     Add,
@@ -39,17 +41,13 @@ pub enum UnOp {
     NotNull,
 }
 
-// A number that stands for no operator.
-#[derive(Clone, Copy, PartialEq, Eq)]
-pub struct UnknownOperator(pub u8);
-
 impl TryFrom<u8> for BinOp {
-    type Error = UnknownOperator;
+    type Error = UnknownNumber;
 
     ghost try_from_gives = { ReadsBinary };
 
     #[tactic(auto, unfolding(crate::specs::OperatorNumber::binary_number))]
-    fn try_from(number: u8) -> Result<BinOp, UnknownOperator> {
+    fn try_from(number: u8) -> Result<BinOp, UnknownNumber> {
         match number {
             0 => Ok(BinOp::Add),
             1 => Ok(BinOp::Sub),
@@ -74,18 +72,18 @@ impl TryFrom<u8> for BinOp {
             20 => Ok(BinOp::To),
             21 => Ok(BinOp::Is),
             22 => Ok(BinOp::As),
-            _ => Err(UnknownOperator(number)),
+            _ => Err(UnknownNumber(number)),
         }
     }
 }
 
 impl TryFrom<u8> for UnOp {
-    type Error = UnknownOperator;
+    type Error = UnknownNumber;
 
     ghost try_from_gives = { ReadsUnary };
 
     #[tactic(auto, unfolding(crate::specs::OperatorNumber::unary_number))]
-    fn try_from(number: u8) -> Result<UnOp, UnknownOperator> {
+    fn try_from(number: u8) -> Result<UnOp, UnknownNumber> {
         match number {
             0 => Ok(UnOp::Minus),
             1 => Ok(UnOp::Not),
@@ -94,7 +92,7 @@ impl TryFrom<u8> for UnOp {
             4 => Ok(UnOp::AddrOf),
             5 => Ok(UnOp::Dereference),
             6 => Ok(UnOp::NotNull),
-            _ => Err(UnknownOperator(number)),
+            _ => Err(UnknownNumber(number)),
         }
     }
 }

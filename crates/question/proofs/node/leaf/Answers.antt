@@ -1,13 +1,8 @@
 use mathlib.Core.Path.{sym, ◌∙◌}
 use native.Mathlib.Omega.{arith}
-use Rattle.question.proofs.Plain.{plain-leaf}
 use Rattle.question.specs.NodeRead.{leaf_of}
 use Rattle.ty.proofs.TypeSizes.{whole}
 use Rattle.question.proofs.node.leaf.Goals as goal
-
-pub returns-then-kind_of : goal.returns-then-kind_of
-unfolding leaf_of
-returns-then-kind_of c = sym (plain-leaf c.args.s.now (rw (← c.kind_of.ensures) c.if-kind_of.true))
 
 pub overflow_cast-result : goal.overflow_cast-result
 unfolding leaf_of
