@@ -1,5 +1,5 @@
--- A test that each built-in spelling passes and few other names do: nothing but the speed of the search for a spelling depends on it. Law `not-spelled` (proofs
--- Rows) ties it to `builtin_names`.
+-- A test that each built-in spelling passes and few other names do: nothing but the speed of the search for a spelling depends on it. Law `not_spelled` (proofs
+-- SpellingRows) ties it to `builtin_names`.
 use Rattle.std.specs.Prelude.{ℕ, ◌+◌, ◌*◌, ◌/◌, ◌%◌, ◌^◌, Bool, List, get_or, eqb}
 
 -- a number for six of a name's bytes
