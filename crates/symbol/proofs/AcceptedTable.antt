@@ -156,7 +156,7 @@ not_bad s n bad kind one two top =
     by_choice (NotBad bad) (ltb (length s) n) (λ _. record { is = λ l. absurd (omega arith) }) λ _.
     by_choice (NotBad bad) bad (λ _. record { is = λ l. absurd (omega arith) }) (λ b. record { is = λ _. b })
 
-level_small : (s : List ℕ) → (front_of s).kind ≡ 6 → get_or s 5 0 ≤ 3
+pub level_small : (s : List ℕ) → (front_of s).kind ≡ 6 → get_or s 5 0 ≤ 3
 unfolding head_by visibility_head choose
 level_small s k =
     let e : front_of s ≡ visibility_head s = head_by_lem s 6 (omega arith) k in

@@ -23,3 +23,4 @@ pub mod AcceptedTable
 pub mod SearchMeetsKey
 pub mod IndexMakes
 pub mod LookedUp
+pub mod VisibilityBytes

@@ -1,4 +1,5 @@
 pub mod Symbols
+pub mod Visibility
 pub mod TableFault
 pub mod Lookup
 pub mod Subclass

@@ -209,7 +209,7 @@ fn join(x: &mut [u16], n: usize, p: usize, entry: Option<Entry>)
     match entry {
         None => {}
         Some(Entry::Tree(at)) => put(x, at, (p + 1) as u16),
-        Some(Entry::List(b)) => enter(x, n, b, p),
+        Some(Entry::List(b)) => enter(x, n, b, Place { at: p }),
     }
 }
 

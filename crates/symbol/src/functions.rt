@@ -1,6 +1,5 @@
 // Reading one function of an accepted table.
-ghost use Rattle.std.specs.Prelude.{◌≡◌, [], ◌∷◌, ◌++◌, ◌≤◌, ◌<◌, length};
-ghost use Rattle.std.specs.List.{slice_get};
+ghost use Rattle.std.specs.Prelude.{◌≡◌, ◌≤◌, ◌<◌, length};
 ghost use Rattle.symbol.specs.Inside.LookupAnswer.{overload_at};
 ghost use Rattle.symbol.specs.Inside.FunctionFields.{params_laid, function_at};
 ghost use Rattle.index.specs.Inside.Found.{FunctionAt};
@@ -8,14 +7,15 @@ ghost use Rattle.record.specs.Inside.Keyed.{whole_length, type_length};
 ghost use Rattle.symbol.specs.Inside.ParamsRow.{part, ParamsAt};
 ghost use Rattle.record.specs.Inside.Walk.{behind};
 
+use crate::visibility::Visibility;
+use arrayvec::ArrayVec;
 use index::index::Place;
 use record::front::{LONGEST, read_record};
-use std::marker::Model;
 use ty::read::{TypeFault, read_type};
 use ty::{Part, TypeRead, byte_at, id_at};
 
 // A parameter of a function: its name, whether it has a default and is vararg, and where its type lies in the table.
-#[derive(Clone, Copy)]
+#[derive(Clone, Copy, Default)]
 pub struct Param {
     pub name: u16,
     pub default: bool,
@@ -24,84 +24,18 @@ pub struct Param {
 }
 
 // At most 16 of them, in an array of a fixed length since the judge has no heap.
-#[derive(Drop)]
-pub struct Params {
-    items: [Param; 16],
-    count: usize,
-}
+pub type Params = ArrayVec<Param, 16>;
 
-// A function; its result type lies in the table, from start on.
+// A function; its result type lies in the table.
 #[derive(Drop)]
 pub struct Function {
     pub builtin: bool,
-    pub visibility: u8,
-    pub start: usize,
-    pub len: usize,
+    pub visibility: Visibility,
+    pub result: Part,
     pub params: Params,
 }
 
-impl Model for Params {
-    ghost use Rattle.std.specs.Prelude.{List, take, ◌≤◌};
-    ghost use Rattle.symbol.specs.declared.functions.Param.{Param};
-
-    ghost Value = { List Param };
-
-    ghost view = { λ s. take s.count s.items };
-
-    ghost invariant = { λ s. s.count ≤ 16 };
-}
-
-impl Params {
-    // No parameters.
-    fn new() -> Params
-        ensures { result ≡ [] }
-    {
-        let none = Param {
-            name: 0,
-            default: false,
-            vararg: false,
-            part: Part { start: 0, len: 0 },
-        };
-        Params {
-            items: [none; 16],
-            count: 0,
-        }
-    }
-
-    // The parameters, one behind another.
-    pub fn items(&self) -> &[Param]
-        ensures is { result.now ≡ self.now }
-        ensures few { length self.now ≤ 16 }
-    {
-        &self.items[..self.count]
-    }
-
-    // How many there are.
-    pub fn len(&self) -> usize
-        ensures is { result ≡ length self.now }
-        ensures few { length self.now ≤ 16 }
-    {
-        self.items().len()
-    }
-
-    // The parameter at place j.
-    pub fn get(&self, j: usize) -> Option<Param>
-        ensures { result ≡ slice_get self.now j }
-    {
-        self.items().get(j).copied()
-    }
-
-    // One parameter more.
-    fn push(&mut self, p: Param)
-        requires { length self.old < 16 }
-        ensures { self.new ≡ self.old ++ p ∷ [] }
-    {
-        self.items[self.count] = p;
-        self.count += 1;
-    }
-}
-
-// How long a type is that was read so.
+// How long a type is that was read so. A total reader, which has to answer for each byte: an accepted table has whole types.
 fn whole_length(read: Result<TypeRead, TypeFault>) -> usize
     ensures { result ≡ whole_length read }
 {
@@ -123,8 +57,9 @@ fn type_length(t: &[u8], from: usize, end: usize) -> usize
 // The parameters that begin at from, in the bytes before end.
 fn read_params(t: &[u8], from: usize, end: usize, count: usize) -> Params
     requires { (from ≤ end) × (end ≤ length t.now) × (count ≤ 16) × ParamsAt count (part t.now from end) }
-    ensures { result ≡ params_laid t.now end count from }
+    ensures { result.items ≡ params_laid t.now end count from }
 {
+    // No range to go over: where the next one begins is known once this one is read.
     let mut at = from;
     let mut p = Params::new();
     for _n in 0..count {
@@ -142,7 +77,8 @@ fn read_params(t: &[u8], from: usize, end: usize, count: usize) -> Params
     p
 }
 
-// The function at a place, whose record ends before `end`.
+// The function at a place, whose record ends before `end`. That a function stands there is asked here and below, and is in no type: a place by itself is of no
+// table, and a type for both would borrow the table wherever a place is kept.
 fn read_whole(t: &[u8], p: Place, end: usize) -> Function
     requires { FunctionAt t.now p × (end ≡ behind t.now p.at) }
     ensures { result ≡ function_at t.now p }
@@ -153,9 +89,8 @@ fn read_whole(t: &[u8], p: Place, end: usize) -> Function
     let params = read_params(t, start + len, end, byte_at(t, at + 7) as usize);
     Function {
         builtin: byte_at(t, at + 6) == 1,
-        visibility: byte_at(t, at + 5),
-        start,
-        len,
+        visibility: Visibility::of_byte(byte_at(t, at + 5)),
+        result: Part { start, len },
         params,
     }
 }

@@ -5,3 +5,4 @@ pub mod checks;
 pub mod functions;
 pub mod lookups;
 pub mod subclass;
+pub mod visibility;

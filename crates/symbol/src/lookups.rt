@@ -1,18 +1,19 @@
 // Lookups in an accepted table.
 ghost use Rattle.std.specs.Prelude.{◌≡◌};
 ghost use Rattle.record.specs.TableRefused.{table_fault};
-ghost use Rattle.symbol.specs.Inside.LookupAnswer.{optional};
+ghost use Rattle.symbol.specs.Inside.LookupAnswer.{optional, optional_level};
 ghost use Rattle.symbol.specs.Inside.Places.{first_place, function_places, field_part};
 ghost use Rattle.symbol.specs.Inside.FunctionCursor.{functions_first, found_here, functions_next, AtFunction};
 ghost use Rattle.symbol.specs.Lookup.{symbols_of};
-ghost use Rattle.ty.specs.Name.{known_id};
+ghost use Rattle.ty.specs.Name.{known_id, id_number};
 
 use crate::functions::end_of;
+use crate::visibility::Visibility;
 use index::index::Place;
 use index::list::ListCursor;
 use index::table::Table;
 use record::front::RecordKind;
-use ty::{NameId, Part, byte_at, id_at, known_id};
+use ty::{NameId, Part, byte_at, id_at, id_number, known_id};
 
 // The superclass of a class, if it has one.
 pub fn superclass_of(table: &Table<'_>, class: u16) -> Option<u16>
@@ -20,6 +21,7 @@ pub fn superclass_of(table: &Table<'_>, class: u16) -> Option<u16>
     ensures accepted { table_fault table.now ≡ 0 }
 {
     let t = table.bytes();
+    // 0, here and below: the key is the class alone, and the second number is not looked at.
     let p = table.seek(RecordKind::Class, class, 0)?;
     known_id(id_at(t, p.at + 3))
 }
@@ -36,10 +38,9 @@ pub fn package_of(table: &Table<'_>, class: u16) -> Option<u16>
 pub fn in_types(table: &Table<'_>, class: u16) -> bool
     ensures { result ≡ (symbols_of table.now).in_types class }
 {
-    match table.seek(RecordKind::Class, class, 0) {
-        Some(p) => byte_at(table.bytes(), p.at + 7) == 1,
-        None => false,
-    }
+    let t = table.bytes();
+    let p = table.seek(RecordKind::Class, class, 0);
+    p.is_some_and(|p| byte_at(t, p.at + 7) == 1)
 }
 
 // The mask of a class's operator set.
@@ -62,19 +63,21 @@ pub fn field_of(table: &Table<'_>, owner: u16, name: u16) -> Option<Part>
 }
 
 // A member's visibility.
-pub fn visibility_of(table: &Table<'_>, owner: u16, name: u16) -> Option<u8>
-    ensures { optional result ≡ (symbols_of table.now).visibility_of owner name }
+pub fn visibility_of(table: &Table<'_>, owner: u16, name: u16) -> Option<Visibility>
+    ensures { optional_level result ≡ (symbols_of table.now).visibility_of owner name }
 {
     let p = table.seek(RecordKind::Visibility, owner, name)?;
-    Some(byte_at(table.bytes(), p.at + 5))
+    Some(Visibility::of_byte(byte_at(table.bytes(), p.at + 5)))
 }
 
-// Whether there is such a suspend function; its owner may be NameId::NONE.
+// Whether there is such a suspend function.
 #[tactic(auto, using(crate::proofs::LaidLookups::suspend_told, crate::proofs::PlacesFound::found_some))]
-pub fn is_suspend(table: &Table<'_>, owner: u16, name: u16) -> bool
-    ensures { result ≡ (symbols_of table.now).is_suspend owner name }
+pub fn is_suspend(table: &Table<'_>, owner: Option<u16>, name: u16) -> bool
+    ensures { result ≡ (symbols_of table.now).is_suspend (id_number owner) name }
 {
-    table.seek(RecordKind::Suspend, owner, name).is_some()
+    table
+        .seek(RecordKind::Suspend, id_number(owner), name)
+        .is_some()
 }
 
 // Whether there is such an enum variant.
@@ -85,7 +88,8 @@ pub fn is_variant(table: &Table<'_>, owner: u16, name: u16) -> bool
     table.seek(RecordKind::Variant, owner, name).is_some()
 }
 
-// A place in the list of functions of an owner, which may be NameId::NONE, and a name: at one of them, or at the list's end.
+// A place in the list of functions of an owner and a name: at one of them, or at the list's end. A cursor of its own over the index's: that one speaks of the
+// records with a key, this one of the functions that the definitions list.
 #[derive(Clone, Copy)]
 pub struct Functions {
     pub list: ListCursor,
@@ -94,16 +98,16 @@ pub struct Functions {
 impl Functions {
     // At the first of them.
     #[tactic(auto, using(crate::proofs::FunctionCursors::first_is))]
-    pub fn first(table: &Table<'_>, owner: u16, name: u16) -> Functions
-        ensures { result ≡ functions_first table.now owner name }
+    pub fn first(table: &Table<'_>, owner: Option<u16>, name: u16) -> Functions
+        ensures { result ≡ functions_first table.now (id_number owner) name }
     {
         Functions {
-            list: ListCursor::first(table, owner, name),
+            list: ListCursor::first(table, id_number(owner), name),
         }
     }
 
     // At the next of them.
-    #[tactic(auto, using(crate::proofs::FunctionCursors::next_asked, crate::proofs::FunctionCursors::next_is))]
+    #[tactic(auto, using(crate::proofs::FunctionCursors::next_is))]
     pub fn next(self, table: &Table<'_>) -> Functions
         requires { AtFunction table.now self }
         ensures { result ≡ functions_next table.now self }
@@ -122,10 +126,10 @@ impl Functions {
     }
 }
 
-// The first function of an owner, which may be NameId::NONE, and a name.
+// The first function of an owner and a name.
 #[tactic(auto, using(crate::proofs::FunctionCursors::first_here))]
-pub fn first_function(table: &Table<'_>, owner: u16, name: u16) -> Option<Place>
-    ensures { result ≡ first_place (function_places table.now owner name) }
+pub fn first_function(table: &Table<'_>, owner: Option<u16>, name: u16) -> Option<Place>
+    ensures { result ≡ first_place (function_places table.now (id_number owner) name) }
 {
     Functions::first(table, owner, name).found()
 }
@@ -142,6 +146,5 @@ pub fn is_capital(table: &Table<'_>, id: u16) -> bool
     if table.name_count() <= i {
         return false;
     }
-    let letter = byte_at(t, 26 * i + 2);
-    (byte_at(t, 26 * i + 1) == 1) & ((65 <= letter) & (letter <= 90))
+    (byte_at(t, 26 * i + 1) == 1) & byte_at(t, 26 * i + 2).is_ascii_uppercase()
 }

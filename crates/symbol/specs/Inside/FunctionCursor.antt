@@ -1,20 +1,14 @@
 -- The cursor along the functions of an owner and a name.
-use Rattle.std.specs.Prelude.{None, Some, ℕ, suc, ◌+◌, ◌-◌, ◌<◌, List, ◌≡◌}
-use Rattle.index.specs.Inside.Found.{FunctionAt, found_at}
+use Rattle.std.specs.Prelude.{None, Some, ℕ, List, ◌≡◌}
 use Rattle.index.specs.Inside.Found.{Found}
+use Rattle.index.specs.Inside.ListWalk.{AtListed}
 use Rattle.index.specs.declared.index.Place.{Place}
 use Rattle.symbol.specs.Inside.Places.{first_place, function_places, places_behind}
 use Rattle.symbol.specs.declared.lookups.Functions.{Functions}
-use Rattle.ty.specs.Bytes.{id_at}
-
--- a place that was found, by its first byte counted from 1; 0 is none
-abbrev pub here_of : Found → ℕ
-here_of None = 0
-here_of (Some p) = suc p.at
 
 -- the cursor of an owner and a name at a place that was found
 abbrev pub cursor_at : ℕ → ℕ → Found → Functions
-cursor_at owner name f = record { list = record { owner = owner; name = name; here = here_of f } }
+cursor_at owner name f = record { list = record { owner = owner; name = name; here = f } }
 
 -- at the first function of an owner and a name
 unfoldable pub functions_first : List ℕ → ℕ → ℕ → Functions
@@ -22,22 +16,21 @@ functions_first t owner name = cursor_at owner name (first_place (function_place
 
 -- what stands at the cursor
 unfoldable pub found_here : Functions → Found
-found_here c = found_at c.list.here
+found_here c = c.list.here
 
-abbrev pub place_here : Functions → Place
-place_here c = record { at = c.list.here - 1 }
+-- at the function behind one; at the end it stays
+abbrev pub cursor_behind : List ℕ → Functions → Found → Functions
+cursor_behind t c None = c
+cursor_behind t c (Some p) = cursor_at c.list.owner c.list.name (first_place (places_behind t p))
 
 -- at the next function
 unfoldable pub functions_next : List ℕ → Functions → Functions
-functions_next t c = cursor_at c.list.owner c.list.name (first_place (places_behind t (place_here c)))
+functions_next t c = cursor_behind t c c.list.here
 
 -- the cursor stands at a function with its owner and name
-pub record AtFunction (t : List ℕ) (c : Functions) : Type 0 where
-  pub some : 0 < c.list.here
-  pub function : FunctionAt t (place_here c)
-  pub owner : c.list.owner ≡ id_at t ((place_here c).at + 1)
-  pub name : c.list.name ≡ id_at t ((place_here c).at + 3)
+abbrev pub AtFunction : List ℕ → Functions → Type 0
+AtFunction t c = AtListed t c.list
 
 -- it does, or is at the list's end
 pub record Along (t : List ℕ) (c : Functions) : Type 0 where
-  pub stands : 0 < c.list.here → AtFunction t c
+  pub stands : (p : Place) → c.list.here ≡ Some p → AtFunction t c

@@ -9,6 +9,8 @@ use Rattle.index.specs.Inside.Found.{Found}
 use Rattle.symbol.specs.declared.functions.Param.{Param as Read}
 use Rattle.symbol.specs.declared.functions.Function.{Function}
 use Rattle.symbol.specs.Symbols.{Param, Overload}
+use Rattle.symbol.specs.Visibility.{visibility_number}
+use Rattle.symbol.specs.declared.visibility.Visibility.{Visibility}
 use Rattle.record.specs.Layout.{record_size}
 use Rattle.symbol.specs.Lookup.{overload_of}
 use Rattle.record.specs.Table.{first_record, records_of, key_of, keyed}
@@ -18,6 +20,11 @@ use Rattle.index.specs.Inside.Found.{FunctionAt}
 abbrev pub optional : {A : Type 0} → Option A → maybe.Option A
 optional None = maybe.none
 optional (Some x) = maybe.some x
+
+-- a visibility by its number
+abbrev pub optional_level : Option Visibility → maybe.Option ℕ
+optional_level None = maybe.none
+optional_level (Some v) = maybe.some (visibility_number v)
 
 abbrev pub part_of : List ℕ → Option Part → maybe.Option Ty
 part_of t None = maybe.none
@@ -61,9 +68,9 @@ abbrev pub overload_in : List ℕ → Function → Overload
 overload_in t f =
     record {
       builtin = f.builtin;
-      visibility = f.visibility;
-      params = params_in t f.params;
-      result = take f.len (drop f.start t);
+      visibility = visibility_number f.visibility;
+      params = params_in t f.params.items;
+      result = take f.result.len (drop f.result.start t);
     }
 
 -- a parameter's type lies in the table
@@ -73,6 +80,6 @@ InTable t p = p.part.start + p.part.len ≤ length t
 -- a function that was read: it is that overload, and its types lie in the table
 pub record FunctionRead (t : List ℕ) (o : Overload) (f : Function) : Type 0 where
   pub same : overload_in t f ≡ o
-  pub result : f.start + f.len ≤ length t
-  pub count : length f.params ≤ 16
-  pub types : All (InTable t) f.params
+  pub result : f.result.start + f.result.len ≤ length t
+  pub count : length f.params.items ≤ 16
+  pub types : All (InTable t) f.params.items

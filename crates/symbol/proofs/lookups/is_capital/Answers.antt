@@ -28,4 +28,4 @@ returns c = let ok = accepted_clean c.args.table.now c.bytes-t.ensures.clean in
     let n : c.args.id - 40 < count_below 2 (records_of c.args.table.now) = omega arith in
     let x = name_at_lem (c.args.id - 40) c.args.table.now [] ok n 1 (omega arith) in
     let y = name_at_lem (c.args.id - 40) c.args.table.now [] ok n 2 (omega arith) in
-    passed _ _ _ _ (le-ltb _ _ c.if-id-lt-FIRST_OF_TABLE.false) (rw (x, y, c.byte_at-letter.ensures, c.byte_at.ensures, c.bytes-t.ensures.bytes))
+    passed _ _ _ _ (le-ltb _ _ c.if-id-lt-FIRST_OF_TABLE.false) (rw (x, y, c.is_ascii_uppercase.ensures.value, c.byte_at-2.ensures, c.byte_at.ensures, c.bytes-t.ensures.bytes))
