@@ -14,6 +14,7 @@ pub mod Passes
 pub mod Ranks
 pub mod Subclasses
 pub mod RecordCases
+pub mod CheckRules
 pub mod FunctionsRead
 pub mod TableCases
 pub mod FunctionLists

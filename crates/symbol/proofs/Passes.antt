@@ -18,12 +18,13 @@ use Rattle.symbol.proofs.Joins.{Joining, joining}
 use Rattle.symbol.proofs.IndexMakes.{placed-joined}
 use Rattle.symbol.proofs.LateMakes.{look_after, look_seen}
 use Rattle.symbol.proofs.NamesFit.{id_low, super_defined}
+use Rattle.symbol.proofs.SuperLate.{missing_is}
 use Rattle.record.proofs.Records.{here_cons, at_next, before_next, records-end, at_new}
 use Rattle.index.proofs.SearchTrees.{tree_same, tree_start_lem}
 use Rattle.record.specs.Inside.Walk.{start, CursorAt, StepIs, Stands, record_at, before, behind}
 use Rattle.index.specs.Inside.IndexedTable.{IndexRoom, IndexedTable}
 use Rattle.index.specs.Inside.Ahead.{late_size, LateRoom, Looked}
-use Rattle.symbol.specs.Inside.Asked.{Asked, Prepared}
+use Rattle.symbol.specs.Inside.Asked.{kind_before, super_missing_at, Asked, Prepared}
 use Rattle.record.specs.Inside.HeadFault.{super_missing, own_fault, key_fault, has_key, last_kind, head_fault, found_from}
 use Rattle.index.specs.Inside.Entered.{Entered}
 use Rattle.record.specs.Inside.Front.{front_of, front_of_head, front_at}
@@ -39,6 +40,7 @@ use Rattle.symbol.specs.declared.checks.Entry.{Entry}
 use Rattle.record.specs.Inside.Front.{Front}
 use Rattle.record.specs.RecordKind.{record_kind_number}
 use Rattle.record.specs.declared.front.Head.{Head}
+use Rattle.record.specs.declared.front.RecordKind.{RecordKind}
 use Rattle.std.specs.Prelude.{Option, Some, None}
 use Rattle.record.specs.declared.walk.Cursor.{Cursor}
 use Rattle.record.specs.declared.walk.Step.{Step}
@@ -132,8 +134,8 @@ module _ (t x late : List ℕ) (c : Cursor) (k n : ℕ) (looked : Bool) (g : Goi
       own-front = ap (front_at (drop c.at t)) (sym read) ∙ st.own
 
       -- what the check of a record by itself is told
-      pub going_asked : Asked t c h k n
-      going_asked = record { stands = stands; kind = g.kind; names = g.names }
+      pub going_asked : (o : Option RecordKind) → kind_before o ≡ k → Asked t c h o n
+      going_asked o e = record { stands = stands; kind = e ∙ g.kind; names = g.names }
 
     -- a number
     module _ (f : ℕ) (fault : f ≡ head_fault (before c.index (records_of t)) (record_at t c) (records_of (drop c.at t))) where
@@ -180,14 +182,15 @@ module _ (t x late : List ℕ) (c : Cursor) (k n : ℕ) (looked : Bool) (g : Goi
           seen : missing ≡ true → looked' ≡ true
           seen = look_seen t c.at late (record { index = c.index; at = g.at }) missing looked g.ahead late' looked' turned made
 
-          pub going_key : KeyAsked t late' c h e missing
-          going_key =
+          pub going_key : (m : Option ℕ) → m ≡ super_missing_at t c → KeyAsked t late' c h e m
+          going_key m told =
               record {
                 stands = stands h read;
                 key = entry.key;
-                is = is;
-                ahead = λ z. subst (λ (b : Bool). Looked t late' c.at b) (seen z) look;
-                low = λ z. low z;
+                is = told;
+                ahead = λ id z. subst (λ (b : Bool). Looked t late' c.at b) (seen (is ∙ (missing_is t c m told id z).0)) look;
+                low = λ id z. subst (λ (i : ℕ). i < length late') (ap (λ (y : Front). y.two) own-head ∙ (missing_is t c m told id z).1)
+                    (low (is ∙ (missing_is t c m told id z).0));
               }
             where
               low : missing ≡ true → h.two < length late'

@@ -25,7 +25,9 @@ use Rattle.index.specs.Inside.Index.{list_count, list_in}
 use Rattle.index.specs.Inside.Bucket.{key_bucket}
 use Rattle.index.specs.Inside.SearchKey.{key_matches, KeyIn, key_at}
 use Rattle.index.specs.Inside.Spot.{Open, TakenIs, FreeIs, SpotIs}
-use Rattle.std.specs.Prelude.{Result, Ok, Err, is_ok}
+use Rattle.index.proofs.Counted.{counted, counted_found}
+use Rattle.index.specs.Inside.Found.{Found, found_at}
+use Rattle.std.specs.Prelude.{Result, Ok, Err, is_ok, Some, None, is_some}
 use Rattle.index.specs.Inside.SearchTree.{TreeMember}
 use Rattle.record.specs.Inside.Walk.{CursorAt, Sits, record_at, before}
 use Rattle.record.specs.Inside.Front.{Front}
@@ -33,6 +35,14 @@ use Rattle.index.specs.declared.index.Place.{Place}
 use Rattle.index.specs.declared.tree.Key.{Key}
 use Rattle.index.specs.declared.tree.Key.TheVariants.{Ids}
 use Rattle.record.specs.declared.walk.Cursor.{Cursor}
+
+-- an empty entry gives no place
+pub none_found : (n : ℕ) (f : Found) → f ≡ found_at n → is_some f ≡ false → n ≡ 0
+none_found n f e h = sym (counted_found n) ∙ ap counted (sym e) ∙ go f h
+  where
+    go : (g : Found) → is_some g ≡ false → counted g ≡ 0
+    go None q = refl
+    go (Some p) q = cc
 
 module _ (t x : List ℕ) (c : Cursor) (a : CursorAt t c) (g : Planted t x c.at) where
   abbrev sits : Sits t c.at

@@ -16,19 +16,19 @@ ghost use Rattle.index.specs.Inside.IndexedTable.{IndexRoom, IndexedTable};
 ghost use Rattle.record.specs.Inside.Walk.{CursorAt, Stands, record_at, before};
 
 use index::ahead::{class_ahead, look_ahead};
-use index::index::{Place, SHORT_TABLE, entry_at, key_bucket, list_reduced, put};
+use index::index::{Place, SHORT_TABLE, key_bucket, list_reduced, place_at, put};
 use index::list::enter;
 use index::tree::{Key, name_at, search, tree_of};
 use record::front::{Head, RecordKind};
 use record::spelling::is_builtin;
 use record::walk::Cursor;
-use ty::NameId;
+use ty::known_id;
 use ty::name::id_defined;
 
 // Why a table is refused.
 #[derive(Clone, Copy, PartialEq, Eq)]
 pub enum TableFault {
-    TooLong,
+    TooLong = 1,
     // Or cut.
     Malformed,
     // A record has a lower kind than the one before it.
@@ -47,15 +47,7 @@ impl TableFault {
     pub fn number(self) -> u8
         ensures { result ≡ table_fault_number self }
     {
-        match self {
-            TableFault::TooLong => 1,
-            TableFault::Malformed => 2,
-            TableFault::KindFalls => 3,
-            TableFault::UndefinedId => 4,
-            TableFault::KeyRepeated => 5,
-            TableFault::SuperclassLate => 6,
-            TableFault::HasError => 7,
-        }
+        self as u8
     }
 }
 
@@ -66,8 +58,11 @@ pub enum Entry {
     List(usize),
 }
 
+// The functions below take a table's bytes with the index that is made, and a cursor with the record read there: no Table is accepted yet. What they ask
+// (Stands, Planted, Prepared, Asked, IndexRoom) says how walk, table and index go together; that a table is not too long is asked, as check_table has tested it.
+
 // The record h at me is a name with a built-in spelling.
-#[tactic(auto, using(record::proofs::RecordSizes::stands_own, record::proofs::RecordSizes::name_room, record::proofs::RecordSizes::name_bytes_lem, index::proofs::KindTests::kinds_differ, index::proofs::KindTests::kinds_agree))]
+#[tactic(auto, using(crate::proofs::CheckRules::name_rules))]
 fn builtin_name(t: &[u8], me: Cursor, h: Head) -> bool
     requires { Stands t.now me h }
     ensures { result ≡ is_builtin_name (record_at t.now me) }
@@ -84,29 +79,27 @@ fn class_before(t: &[u8], x: &[u16], me: Cursor, id: u16) -> bool
     ensures { result ≡ has_class id (before me.index (records_of t.now)) }
 {
     let key = Key::Ids {
-        kind: 2,
+        kind: RecordKind::Class.number(),
         one: id,
         two: 0,
     };
     search(t, x, key, tree_of(t, key)).is_ok()
 }
 
-// The record h at me is a class whose superclass has no earlier record.
-#[tactic(auto, using(record::proofs::RecordSizes::stands_own, index::proofs::KindTests::kinds_differ, index::proofs::KindTests::kinds_agree), unfolding(record::specs::Inside::HeadFault::super_missing))]
-fn super_missing(t: &[u8], x: &[u16], me: Cursor, h: Head) -> bool
+// The superclass of the record h at me that has no earlier record; none where there is no such superclass.
+fn super_missing(t: &[u8], x: &[u16], me: Cursor, h: Head) -> Option<u16>
     requires { Prepared t.now x.now me h }
     ensures { result ≡ super_missing_at t.now me }
 {
     if h.kind != RecordKind::Class {
-        return false;
+        return None;
     }
-    if h.two == NameId::NONE {
-        return false;
-    }
-    !class_before(t, x, me, h.two)
+    let id = known_id(h.two)?;
+    (!class_before(t, x, me, id)).then_some(id)
 }
 
 // Looks ahead for the classes, once, where a superclass has no earlier record; answers whether that was done.
+// `looked` is a flag beside the lent entries: they are made once, and stay as they are from then on.
 #[tactic(auto, using(crate::proofs::LateMakes::look_before, crate::proofs::LateMakes::look_none, crate::proofs::LateMakes::look_made))]
 fn look(t: &[u8], me: Cursor, late: &mut [u16], missing: bool, looked: bool) -> bool
     requires { CursorAt t.now me × (length t.now ≤ 60000) }
@@ -122,13 +115,19 @@ fn look(t: &[u8], me: Cursor, late: &mut [u16], missing: bool, looked: bool) -> 
     true
 }
 
-// The record h at me by itself; `kind` is the kind before it, `names` how many names are before it.
+// The record h at me by itself; `before` is the kind before it, none where it is the first, and `names` how many names are before it.
 #[tactic(auto, using(record::proofs::RecordSizes::stands_own), unfolding(record::specs::Inside::HeadFault::own_fault, ty::specs::Choose::choose))]
-fn check_own(t: &[u8], me: Cursor, h: Head, kind: u8, names: u16) -> Result<(), TableFault>
-    requires { Asked t.now me h kind names }
+fn check_own(
+    t: &[u8],
+    me: Cursor,
+    h: Head,
+    before: Option<RecordKind>,
+    names: u16,
+) -> Result<(), TableFault>
+    requires { Asked t.now me h before names }
     ensures { checked_number result ≡ own_fault_at t.now me }
 {
-    if h.kind.number() < kind {
+    if before.is_some_and(|kind| h.kind.number() < kind.number()) {
         return Err(TableFault::KindFalls);
     }
     if !id_defined(h.top, names) {
@@ -143,7 +142,8 @@ fn check_own(t: &[u8], me: Cursor, h: Head, kind: u8, names: u16) -> Result<(), 
     Ok(())
 }
 
-#[tactic(auto, using(index::proofs::KindTests::kinds_same, index::proofs::KindTests::kinds_apart), unfolding(index::specs::Inside::SearchKey::key_at, ty::specs::Choose::choose))]
+// The key of the record h at me.
+#[tactic(auto, using(crate::proofs::CheckRules::kind_rules), unfolding(index::specs::Inside::SearchKey::key_at, ty::specs::Choose::choose))]
 fn key_of(me: Cursor, h: Head) -> Key
     ensures { result ≡ key_at me (front_of_head h) }
 {
@@ -163,11 +163,13 @@ fn entry_for(t: &[u8], x: &[u16], me: Cursor, h: Head) -> Option<Entry>
     ensures { EntryIs t.now x.now me result }
 {
     if h.kind == RecordKind::Function {
-        return Some(Entry::List(list_reduced(key_bucket(4, h.one, h.two), t.len())));
+        let b = key_bucket(RecordKind::Function.number(), h.one, h.two);
+        return Some(Entry::List(list_reduced(b, t.len())));
     }
     let key = key_of(me, h);
     let b = tree_of(t, key);
-    if entry_at(x, 1 + b) == 0 {
+    // An empty root, told before any search is called, as that was measured to be faster.
+    if place_at(x, 1 + b).is_none() {
         return Some(Entry::Tree(1 + b));
     }
     match search(t, x, key, b) {
@@ -176,15 +178,15 @@ fn entry_for(t: &[u8], x: &[u16], me: Cursor, h: Head) -> Option<Entry>
     }
 }
 
-// The record h at me beside the others. Its superclass, if `missing`, has no earlier record.
-#[tactic(auto, using(record::proofs::RecordSizes::stands_own, crate::proofs::Joins::none_taken, crate::proofs::SuperLate::late_is), unfolding(record::specs::Inside::HeadFault::key_fault, ty::specs::Choose::choose))]
+// The record h at me beside the others; `missing` is its superclass if that has no earlier record.
+#[tactic(auto, using(record::proofs::RecordSizes::stands_own), unfolding(record::specs::Inside::HeadFault::key_fault, ty::specs::Choose::choose))]
 fn check_key(
     t: &[u8],
     late: &[u16],
     me: Cursor,
     h: Head,
     entry: Option<Entry>,
-    missing: bool,
+    missing: Option<u16>,
 ) -> Result<(), TableFault>
     requires { KeyAsked t.now late.now me h entry missing }
     ensures { checked_number result ≡ key_fault_at t.now me }
@@ -192,7 +194,7 @@ fn check_key(
     if entry.is_none() {
         return Err(TableFault::KeyRepeated);
     }
-    if missing & class_ahead(late, me.at, h.two) {
+    if missing.is_some_and(|id| class_ahead(late, me.at, id)) {
         return Err(TableFault::SuperclassLate);
     }
     if h.error {
@@ -202,14 +204,14 @@ fn check_key(
 }
 
 // The record at p comes into the index of a table of n bytes.
-fn join(x: &mut [u16], n: usize, p: usize, entry: Option<Entry>)
-    requires { JoinAsked x.old n p entry }
-    ensures { x.new ≡ index_joined n p entry x.old }
+fn join(x: &mut [u16], n: usize, p: Place, entry: Option<Entry>)
+    requires { JoinAsked x.old n p.at entry }
+    ensures { x.new ≡ index_joined n p.at entry x.old }
 {
     match entry {
         None => {}
-        Some(Entry::Tree(at)) => put(x, at, (p + 1) as u16),
-        Some(Entry::List(b)) => enter(x, n, b, Place { at: p }),
+        Some(Entry::Tree(at)) => put(x, at, p.entry()),
+        Some(Entry::List(b)) => enter(x, n, b, p),
     }
 }
 
@@ -223,7 +225,7 @@ fn check_records(t: &[u8], x: &mut [u16], late: &mut [u16]) -> Result<u16, Table
     ensures late_after { late.new ≡ late_made t.now late.old }
 {
     let mut c = Cursor::new();
-    let mut kind: u8 = 0;
+    let mut kind = None;
     let mut names: u16 = 0;
     let mut looked = false;
     // no range to go over: where the next record begins is known once this one is read
@@ -235,11 +237,11 @@ fn check_records(t: &[u8], x: &mut [u16], late: &mut [u16]) -> Result<u16, Table
         check_own(t, c, h, kind, names)?;
         let entry = entry_for(t, x, c, h);
         let missing = super_missing(t, x, c, h);
-        looked = look(t, c, late, missing, looked);
+        looked = look(t, c, late, missing.is_some(), looked);
         check_key(t, late, c, h, entry, missing)?;
-        join(x, t.len(), c.at, entry);
-        names += (h.kind == RecordKind::Name) as u16;
-        kind = h.kind.number();
+        join(x, t.len(), Place { at: c.at }, entry);
+        names += u16::from(h.kind == RecordKind::Name);
+        kind = Some(h.kind);
         c = s.next;
     }
     put(x, 0, names);

@@ -2,7 +2,7 @@
 use Rattle.std.specs.Prelude.{Option, Some, None, ℕ, suc, ◌<◌, Bool, true, false, ◌≡◌, List, length, set, drop}
 use Rattle.index.specs.Inside.Entered.{EntryAsked, entered}
 use Rattle.record.specs.Inside.Front.{front_of}
-use Rattle.record.specs.Inside.HeadFault.{has_key, super_missing}
+use Rattle.record.specs.Inside.HeadFault.{has_key}
 use Rattle.record.specs.Table.{records_of}
 use Rattle.index.specs.Inside.Index.{list_count, list_in}
 use Rattle.index.specs.Inside.SearchKey.{key_at}
@@ -10,6 +10,7 @@ use Rattle.index.specs.Inside.Spot.{FreeIs}
 use Rattle.record.specs.Inside.Walk.{Stands, record_at, before}
 use Rattle.index.specs.Inside.Ahead.{AheadOf}
 use Rattle.record.specs.declared.front.Head.{Head}
+use Rattle.symbol.specs.Inside.Asked.{super_missing_at}
 use Rattle.symbol.specs.declared.checks.Entry.{Entry}
 use Rattle.symbol.specs.declared.checks.Entry.TheVariants as entry
 use Rattle.record.specs.declared.walk.Cursor.{Cursor}
@@ -39,13 +40,13 @@ pub record EntryIs (t x : List ℕ) (c : Cursor) (e : Option Entry) : Type 0 whe
   pub key : taken_of e ≡ has_key (record_at t c) (before c.index (records_of t))
   pub place : PlaceIs t x c e
 
--- what its number beside the others asks: whether it is a class whose superclass has no earlier record, and then the classes ahead
-pub record KeyAsked (t late : List ℕ) (c : Cursor) (h : Head) (e : Option Entry) (missing : Bool) : Type 0 where
+-- what its number beside the others asks: its superclass where that has no earlier record, and then the classes ahead
+pub record KeyAsked (t late : List ℕ) (c : Cursor) (h : Head) (e : Option Entry) (missing : Option ℕ) : Type 0 where
   pub stands : Stands t c h
   pub key : taken_of e ≡ has_key (record_at t c) (before c.index (records_of t))
-  pub is : missing ≡ super_missing (before c.index (records_of t)) (record_at t c)
-  pub ahead : missing ≡ true → AheadOf t late c.at
-  pub low : missing ≡ true → h.two < length late
+  pub is : missing ≡ super_missing_at t c
+  pub ahead : (id : ℕ) → missing ≡ Some id → AheadOf t late c.at
+  pub low : (id : ℕ) → missing ≡ Some id → id < length late
 
 -- what comes of the index: the record at byte p stands in the empty entry, or behind the last function of its bucket
 abbrev pub index_joined : ℕ → ℕ → Option Entry → List ℕ → List ℕ

@@ -1,8 +1,10 @@
 use Prim.Native.Nat.{ℕ, ◌+◌, ◌%◌}
 use lib.ListN.{length}
-use mathlib.Core.Path.{sym, ap, ◌∙◌, subst}
+use mathlib.Core.Bool.{not}
+use mathlib.Core.Path.{refl, sym, ap, ◌∙◌, subst}
 use Rattle.index.proofs.Searches.{root_free}
 use Rattle.index.proofs.TreeWalks.{search_spot}
+use Rattle.index.specs.Inside.Bucket.{key_bucket}
 use Rattle.index.specs.Inside.Index.{list_count}
 use Rattle.index.specs.Inside.SearchKey.{tree_for, KeyIn, key_at}
 use Rattle.index.specs.Inside.Spot.{SpotIs, FreeIs}
@@ -11,7 +13,7 @@ use Rattle.index.specs.declared.tree.Key.{Key}
 use Rattle.index.specs.declared.index.Place.{Place}
 use Rattle.std.specs.Prelude.{Result}
 use Rattle.record.specs.Inside.Front.{Front}
-use Rattle.symbol.proofs.SearchMeetsKey.{own_in, own_open, list_fresh, list-bucket, key_taken, key_free}
+use Rattle.symbol.proofs.SearchMeetsKey.{none_found, own_in, own_open, list_fresh, list-bucket, key_taken, key_free}
 use Rattle.record.specs.declared.front.RecordKind.TheVariants.{Function}
 use Rattle.index.proofs.KindTests.{kinds_same, kinds_apart}
 use Rattle.record.specs.Inside.Front.{front_of_head}
@@ -24,7 +26,7 @@ returns-then-eq c = let k = (kinds_same c.args.h.kind Function c.eq.result c.eq.
       place =
           record {
             function = ap (λ (z : Front). z.kind) (sym c.requires.stands.head) ∙ k;
-            bucket = c.list_reduced.ensures.0 ∙ ap (λ (z : ℕ). z % list_count (length c.args.t.now)) c.key_bucket.ensures.0
+            bucket = c.list_reduced.ensures.0 ∙ ap (λ (z : ℕ). z % list_count (length c.args.t.now)) (c.key_bucket-b.ensures.0 ∙ ap (λ (k : ℕ). key_bucket k c.args.h.one c.args.h.two) c.number.ensures)
                 ∙ list-bucket c.args.t.now c.args.x.now c.args.me c.args.h c.requires k;
             low = c.list_reduced.ensures.1;
           };
@@ -34,9 +36,10 @@ pub tree_of-b-requires : goal.tree_of-b-requires
 tree_of-b-requires c = subst (λ (z : Key). KeyIn c.args.t.now z) (sym c.key_of-key.ensures)
     (own_in c.args.t.now c.args.x.now c.args.me c.args.h c.requires)
 
-pub returns-then-entry_at-eq0 : goal.returns-then-entry_at-eq0
-returns-then-entry_at-eq0 c = let f = root_free c.args.t.now c.args.x.now (key_at c.args.me (front_of_head c.args.h)) c.tree_of-b.result c.entry_at.result
-    (c.tree_of-b.ensures.0 ∙ ap (tree_for c.args.t.now) c.key_of-key.ensures) c.entry_at.ensures c.if-entry_at-eq0.true in
+pub returns-then-is_none : goal.returns-then-is_none
+returns-then-is_none c = let f = root_free c.args.t.now c.args.x.now (key_at c.args.me (front_of_head c.args.h)) c.tree_of-b.result _
+    (c.tree_of-b.ensures.0 ∙ ap (tree_for c.args.t.now) c.key_of-key.ensures) refl
+    (none_found _ _ c.place_at.ensures (c.is_none.ensures ∙ ap not c.if-is_none.true)) in
     record {
       key = key_free c.args.t.now c.args.x.now c.args.me c.args.h c.requires (kinds_apart c.args.h.kind Function c.eq.result c.eq.ensures c.if-eq.false) (1 + c.tree_of-b.result) f;
       place =
