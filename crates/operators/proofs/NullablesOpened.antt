@@ -1,9 +1,10 @@
 -- Nullables opened together. What a type assigns to, and what assigns to it, does not change where a Nullable on the side that is opened goes.
 use Prim.Native.Nat.{ℕ, zero, suc, ◌+◌, ◌<◌}
-use borrow.Author.Tests.{eqb-true, ne_eqb}
+use borrow.Author.Tests.{eqb-true}
+use Rattle.std.specs.List.{prefix_len}
 use lib.Dec.{leb, eqb}
-use lib.ListN.{length, get_or, drop, length-drop}
-use mathlib.Core.Bool.{Bool, true, false, false≢true, ◌||◌}
+use lib.ListN.{length, take, drop, length-drop}
+use mathlib.Core.Bool.{Bool, true, false, false≢true, cond, ◌||◌}
 use mathlib.Core.List.{[], ◌∷◌}
 use mathlib.Core.Path.{◌≡◌, refl, sym, ap, ◌∙◌}
 use native.Mathlib.Nat.{not-suc-le-zero}
@@ -23,37 +24,27 @@ use Rattle.ty.specs.Choose.{choose}
 use Rattle.ty.specs.Kind.{double_kind, nullable_kind, any_kind, error_kind, list_kind, array_kind, named_kind}
 use Rattle.ty.specs.Name.{list_id, array_list_id}
 
--- ---- how many there are, by a loop
-one-behind : (t : Ty) (i : ℕ) → get_or t i 0 ≡ nullable_kind → nullables (drop i t) ≡ suc (nullables (drop (suc i) t))
-unfolding nullables choose
-one-behind [] i e = absurd (omega arith)
-one-behind (k ∷ t) zero e = rw e
-one-behind (k ∷ t) (suc i) e = one-behind t i e
-
-pub one_more : (t : Ty) (i : ℕ) → get_or t i 0 ≡ nullable_kind → nullables (drop i t) ≡ suc (nullables (drop (i + 1) t))
-one_more t i e = let s : i + 1 ≡ suc i = omega arith in rw s (one-behind t i e)
-
-pub no_more : (t : Ty) (i : ℕ) → (get_or t i 0 ≡ nullable_kind → ⊥) → nullables (drop i t) ≡ 0
-unfolding nullables choose
-no_more [] zero n = refl
-no_more [] (suc i) n = refl
-no_more (k ∷ t) zero n = rw (ne_eqb k nullable_kind n)
-no_more (k ∷ t) (suc i) n = no_more t i n
-
-none_left : (t : Ty) → nullables (drop (length t) t) ≡ 0
+-- ---- how many there are, one by one
+nullables_none : nullables [] ≡ 0
 unfolding nullables
-none_left [] = refl
-none_left (k ∷ t) = none_left t
+nullables_none = refl
 
--- all of them are, where the last is behind
-pub all_nullable : (t : Ty) (i : ℕ) → i ≡ length t → nullables t ≡ i + nullables (drop i t) → length t ≡ nullables t
-all_nullable t i e h = let z : nullables (drop i t) ≡ 0 = rw e (none_left t) in omega arith
+pub nullables_first : (k : ℕ) (t : Ty) → nullables (k ∷ t) ≡ choose (eqb k nullable_kind) (suc (nullables t)) 0
+unfolding nullables choose
+nullables_first k t = go (eqb k nullable_kind)
+  where
+    more : ℕ
+    more = prefix_len (λ j. eqb j nullable_kind) t
+
+    go : (q : Bool) → length (take (cond q (1 + more) 0) (k ∷ t)) ≡ choose q (suc (length (take more t))) 0
+    go true = let s : 1 + more ≡ suc more = omega arith in rw s
+    go false = refl
 
 -- behind them a Nullable is shorter
 pub opened_shorter : (t : Ty) → is_kind nullable_kind t ≡ true → length (drop (nullables t) t) < length t
-unfolding nullables choose
+unfolding choose
 opened_shorter [] e = absurd (false≢true e)
-opened_shorter (k ∷ t) e = rw e (simp length-drop (omega arith))
+opened_shorter (k ∷ t) e = rw (nullables_first k t, e) (simp length-drop (omega arith))
 
 -- what stands under all Nullables
 abbrev inside : Ty → Ty
@@ -61,14 +52,14 @@ inside t = drop (nullables t) t
 
 -- it stands under the first one too
 inside-first : (t : Ty) → is_kind nullable_kind t ≡ true → inside t ≡ inside (inner_of t)
-unfolding nullables choose inner_of
+unfolding choose inner_of
 inside-first [] e = absurd (false≢true e)
-inside-first (k ∷ t) e = rw (eqb-true k nullable_kind e)
+inside-first (k ∷ t) e = rw (nullables_first k t, eqb-true k nullable_kind e)
 
 inside_none : (t : Ty) → is_kind nullable_kind t ≡ false → inside t ≡ t
-unfolding nullables choose
-inside_none [] e = refl
-inside_none (k ∷ t) e = rw e
+unfolding choose
+inside_none [] e = rw nullables_none
+inside_none (k ∷ t) e = rw (nullables_first k t, e)
 
 or_first : (s t : Bool) → s ≡ true → s || t ≡ true
 or_first s t e = rw e
@@ -181,9 +172,9 @@ module _ (below : ℕ → ℕ → Bool) where
   inner_first k t e = rw (eqb-true k nullable_kind e)
 
   pub opened_right : (a b : Ty) → can_assign below a b ≡ can_assign below a (drop (nullables b) b)
-  unfolding nullables choose
-  opened_right a [] = refl
-  opened_right a (k ∷ b) = go (eqb k nullable_kind) refl (opened_right a b)
+  unfolding choose
+  opened_right a [] = rw nullables_none
+  opened_right a (k ∷ b) = rw (nullables_first k b) (go (eqb k nullable_kind) refl (opened_right a b))
     where
       go : (q : Bool) → eqb k nullable_kind ≡ q → can_assign below a b ≡ can_assign below a (inside b)
           → can_assign below a (k ∷ b) ≡ can_assign below a (drop (choose q (suc (nullables b)) 0) (k ∷ b))
@@ -191,9 +182,9 @@ module _ (below : ℕ → ℕ → Bool) where
       go false e ih = refl
 
   pub opened_left : (a b : Ty) → is_kind nullable_kind b ≡ false → can_assign below a b ≡ can_assign below (drop (nullables a) a) b
-  unfolding nullables choose
-  opened_left [] b n = refl
-  opened_left (k ∷ a) b n = go (eqb k nullable_kind) refl (opened_left a b n)
+  unfolding choose
+  opened_left [] b n = rw nullables_none
+  opened_left (k ∷ a) b n = rw (nullables_first k a) (go (eqb k nullable_kind) refl (opened_left a b n))
     where
       go : (q : Bool) → eqb k nullable_kind ≡ q → can_assign below a b ≡ can_assign below (inside a) b
           → can_assign below (k ∷ a) b ≡ can_assign below (drop (choose q (suc (nullables a)) 0) (k ∷ a)) b
@@ -215,8 +206,5 @@ module _ (a b : Ty) where
   right_falls e = opened_shorter b (reason_by a b Right e)
 
 -- ---- for the code
--- the loop that counts them
-pub ruleset counting = (one_more, no_more, all_nullable)
-
 -- each step of `can_assign_to`
 pub ruleset assign_steps = (yes_is, no_is, both_is, climb_is, both_shorter, opened_right, left_opened, left_falls, right_falls)

@@ -10,7 +10,7 @@ use index::table::Table;
 use ty::{Kind, NameId, is_kind};
 
 // What one look at two types says: yes, no, or it goes by the type inside the left one, inside the right one, or inside both, or by the classes of two
-// Named types.
+// Named types. Six answers, which no Option holds: `can_assign_to` goes on with each of them in one match.
 #[derive(Clone, Copy)]
 pub enum Next {
     Yes,
@@ -59,7 +59,7 @@ fn assigns_at_once(a: &[u8], b: &[u8]) -> bool
     ty::same_bytes(a, b)
 }
 
-// One look at two types: the checks in their order, by kinds that are read once too.
+// One look at two types: the checks in their order, by kinds that are read once too. A match on both kinds would leave the names' tests between its arms.
 #[tactic(auto, using(ty::proofs::Choice::chain), unfolding(crate::specs::Assign::assign_step))]
 fn step(a: &[u8], b: &[u8]) -> Next
     ensures { result ≡ assign_step a.now b.now }
@@ -101,16 +101,11 @@ fn step(a: &[u8], b: &[u8]) -> Next
 }
 
 // How many Nullables a type begins with.
-#[tactic(auto, using(crate::proofs::NullablesOpened::counting))]
+#[tactic(auto, unfolding(crate::specs::Inside::Nullables::nullables))]
 fn nullables(t: &[u8]) -> usize
     ensures { result ≡ nullables_of t.now }
 {
-    for n in 0..t.len() {
-        if t[n] != Kind::Nullable.number() {
-            return n;
-        }
-    }
-    t.len()
+    t.iter().take_while(|k| **k == Kind::Nullable as u8).count()
 }
 
 // Whether the type a assigns to the type b. Nullables are opened together, so that a type of 192 bytes takes no 192 calls.

@@ -24,16 +24,9 @@ fn has_operator(mask: u16, op: u8) -> bool
 fn first_result(table: &Table<'_>, class: u16, name: u16) -> Source
     ensures { result ≡ first_result_place table.now class name }
 {
-    let t = table.bytes();
-    match first_function(table, class, name) {
+    match first_function(table, Some(class), name) {
         None => Source::Kind(Kind::Any),
-        Some(place) => {
-            let f = read_function(t, place);
-            Source::Part {
-                start: f.start,
-                len: f.len,
-            }
-        }
+        Some(place) => Source::Part(read_function(table.bytes(), place).result),
     }
 }
 
@@ -67,6 +60,7 @@ fn operator_number(op: BinOp) -> u8
 pub fn operator_overload_return(table: &Table<'_>, op: BinOp, lt: &[u8]) -> Option<Source>
     ensures { result ≡ operator_place table.now (binary_number op) lt.now }
 {
+    // An `if`, no `then` or `and_then`: with the climb in a closure it is no plainer.
     let number = operator_number(op);
     if (number <= operator_number(BinOp::Ge)) & is_kind(lt, Kind::Named) {
         return climb(table, number, ty::name_of(lt));

@@ -1,4 +1,5 @@
-// Tests on operands' types.
+// Tests on operands' types. Each is the definition of its name, in a line: one for several, by a parameter, would leave the rules without these names.
+// Two operands are lt and rt here and in the rules, as in checker.rs: a struct of both would be made at each call and taken apart in each test.
 ghost use Rattle.std.specs.Prelude.{◌≡◌};
 ghost use Rattle.ty.specs.KindNumber.{kind_number};
 ghost use Rattle.operators.specs.Operand.{is_number, is_logical, numbers as numbers_of, either as either_of, char_string};

@@ -5,14 +5,15 @@ ghost use Rattle.operators.specs.Inside.RuledParts.{report_unless, clean_one, pl
 use area::{DiagnosticKind, Source};
 use ty::Kind;
 
-// A diagnostic at the node itself: its kind and its number.
+// A diagnostic at the node itself: its kind and its number, 0 for none as in a record (docs/FORMAT.md).
 #[derive(Clone, Copy)]
 pub struct Diagnostic {
     pub kind: DiagnosticKind,
     pub number: u8,
 }
 
-// Where the node's type comes from, and what is reported, in order.
+// Where the node's type comes from, and what is reported, in order: two at most, as And and Or report on each operand and no rule on more. A list would
+// have its length tested where two Options say which there are.
 #[derive(Clone, Copy)]
 pub struct Ruled {
     pub source: Source,
@@ -55,28 +56,22 @@ pub fn fails(kind: DiagnosticKind) -> OneReport
 }
 
 // A type, and a report unless a test holds.
-#[tactic(auto, using(ty::proofs::Choice::chain), unfolding(crate::specs::Inside::RuledParts::checked_one))]
+#[tactic(auto, unfolding(crate::specs::Inside::RuledParts::checked_one, crate::specs::Inside::RuledParts::clean_one, ty::specs::Choose::choose))]
 pub fn checked(ok: bool, source: Source, kind: DiagnosticKind) -> OneReport
     ensures { result ≡ checked_one ok source kind }
 {
-    if ok {
-        return clean(source);
-    }
     OneReport {
         source,
-        kind: Some(kind),
+        kind: (!ok).then_some(kind),
     }
 }
 
 // A report unless a test holds.
-#[tactic(auto, using(ty::proofs::Choice::chain), unfolding(crate::specs::Inside::RuledParts::report_unless))]
+#[tactic(auto, unfolding(crate::specs::Inside::RuledParts::report_unless, ty::specs::Choose::choose))]
 pub fn unless(ok: bool, kind: DiagnosticKind, number: u8) -> Option<Diagnostic>
     ensures { result ≡ report_unless ok kind number }
 {
-    if ok {
-        return None; // nothing is reported
-    }
-    Some(Diagnostic { kind, number })
+    (!ok).then_some(Diagnostic { kind, number })
 }
 
 // An answer with a diagnostic that comes before its own, if there is one.

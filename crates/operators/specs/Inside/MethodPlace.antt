@@ -21,7 +21,7 @@ module _ (t : List ℕ) where
   -- the result type of a function that was looked for, and Any where there is none
   abbrev pub result_place : Found → Source
   result_place None = Kind Any
-  result_place (Some p) = Part (function_at t p).start (function_at t p).len
+  result_place (Some p) = Part (function_at t p).result
 
   -- of the first function of a class and a name
   unfoldable pub first_result_place : ℕ → ℕ → Source
