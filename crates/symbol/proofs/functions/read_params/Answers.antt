@@ -1,9 +1,6 @@
 use native.Mathlib.Omega.{arith}
-use Rattle.symbol.proofs.ParamsLaid.{reading_starts, reading_done, reading_room, reading_next}
+use Rattle.symbol.proofs.ParamsLaid.{reading_done, reading_room, reading_next}
 use Rattle.symbol.proofs.functions.read_params.Goals as goal
-
-pub loop-n-init : goal.loop-n-init
-loop-n-init c = reading_starts _ _ _ _ c.requires.1 _ c.new-p.ensures c.requires.0 c.requires.3
 
 pub type_length-len-requires : goal.type_length-len-requires
 type_length-len-requires c = (

@@ -1,17 +1,12 @@
 use Prim.Native.Nat.{ℕ}
-use lib.ListN.{length}
 use mathlib.Core.List.{List}
 use mathlib.Core.Path.{ap, ◌∙◌}
-use native.Mathlib.Omega.{arith}
 use Rattle.record.specs.Inside.Walk.{behind}
 use Rattle.symbol.proofs.LookedUp.{no_field, field_here, field_behind, field_length}
 use Rattle.symbol.proofs.lookups.field_of.Goals as goal
 
 pub returns-in_err-p : goal.returns-in_err-p
 returns-in_err-p c = cc (c.from_residual.ensures, no_field c.args.table.now c.args.owner c.args.name c.bytes-t.ensures.clean c.in_err-p.ensures.records)
-
-pub overflow_add-start : goal.overflow_add-start
-overflow_add-start c = let h = c.in_ok-p.ensures.records in omega (arith, h.some, ap length c.bytes-t.ensures.bytes)
 
 pub overflow_sub-len : goal.overflow_sub-len
 overflow_sub-len c = rw (c.end_of.ensures, c.bytes-t.ensures.bytes) (field_behind c.args.table.now c.args.owner c.args.name c.in_ok-p.p c.in_ok-p.ensures.records)
