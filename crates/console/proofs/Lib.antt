@@ -4,3 +4,4 @@ pub mod TextSamples
 pub mod TextSizes
 pub mod InputParts
 pub mod ReadFronts
+pub mod RecordLines

@@ -9,7 +9,7 @@ use mathlib.Core.List.{List, [], ◌∷◌, ◌++◌, append_assoc, append-nil}
 use mathlib.Core.Path.{◌≡◌, refl, sym, ap, ◌∙◌}
 use native.Mathlib.Numerals.{add-one}
 use native.Mathlib.Omega.{arith}
-use Rattle.console.specs.AnswerText.{line_at, lines_of, records_in}
+use Rattle.console.specs.AnswerText.{line_at, lines_of}
 use Rattle.console.specs.Buffer.{holding}
 use Rattle.console.specs.Text.{digits, decimal, hex_byte, hex_bytes}
 use Rattle.ty.specs.Choose.{choose}
@@ -93,12 +93,3 @@ hex_next s i h =
 pub lines_next : (d : List ℕ) (n : ℕ) → lines_of d n ++ line_at d (5 * n) ≡ lines_of d (n + 1)
 unfolding lines_of
 lines_next d n = rw add-one
-
--- ---- how many records a buffer has
-pub records_all : (size count : ℕ) → count < size / 5 → count ≡ records_in size count
-unfolding records_in
-records_all size count h = omega arith
-
-pub records_some : (size count : ℕ) → size / 5 ≤ count → size / 5 ≡ records_in size count
-unfolding records_in
-records_some size count h = omega arith

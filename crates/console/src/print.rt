@@ -11,7 +11,8 @@ const BLANK: u8 = b' ';
 
 const LINE_BREAK: u8 = b'\n';
 
-// Where the text goes: each `put_` method writes what fits from `at` on, and leaves `at` behind it.
+// Where the text goes: each `put_` method writes what fits from `at` on, and leaves `at` behind it. A buffer with a place, since there is no heap and text that
+// does not fit is cut.
 #[derive(Drop)]
 struct Writer<'a> {
     out: &'a mut [u8],
@@ -29,6 +30,7 @@ impl Writer<'_> {
         }
     }
 
+    // By hand: text that does not fit is cut, where `write!` would fail, and there is no heap for a String.
     fn put_decimal(&mut self, n: usize)
         ensures writes { Wrote self.old.out.now self.new.out.now self.old.at self.new.at (decimal n) }
         ensures same { self.new.out.ghost_name ≡ self.old.out.ghost_name }
@@ -82,25 +84,24 @@ impl Writer<'_> {
         self.put_field(count, LINE_BREAK);
     }
 
-    // The line of the diagnostic whose record is at `p`.
-    fn put_line(&mut self, diagnostics: &[u8], p: usize)
-        requires { p + 5 ≤ length diagnostics.now }
-        ensures writes { Wrote self.old.out.now self.new.out.now self.old.at self.new.at (line_at diagnostics.now p) }
+    // The line of a diagnostic's record.
+    fn put_line(&mut self, diagnostic: &[u8])
+        ensures writes { Wrote self.old.out.now self.new.out.now self.old.at self.new.at (line_at diagnostic.now 0) }
         ensures same { self.new.out.ghost_name ≡ self.old.out.ghost_name }
     {
-        self.put_field(byte_at(diagnostics, p) as usize, BLANK);
-        self.put_field(id_at(diagnostics, p + 1) as usize, BLANK);
-        self.put_field(id_at(diagnostics, p + 3) as usize, LINE_BREAK);
+        self.put_field(byte_at(diagnostic, 0) as usize, BLANK);
+        self.put_field(id_at(diagnostic, 1) as usize, BLANK);
+        self.put_field(id_at(diagnostic, 3) as usize, LINE_BREAK);
     }
 
-    // The lines of the first n diagnostics.
-    fn put_lines(&mut self, diagnostics: &[u8], n: usize)
-        requires { 5 * n ≤ length diagnostics.now }
-        ensures writes { Wrote self.old.out.now self.new.out.now self.old.at self.new.at (lines_of diagnostics.now n) }
+    // The lines of the first `count` records, or of those that are whole.
+    fn put_lines(&mut self, diagnostics: &[u8], count: usize)
+        ensures writes { Wrote self.old.out.now self.new.out.now self.old.at self.new.at
+            (lines_of diagnostics.now (records_in (length diagnostics.now) count)) }
         ensures same { self.new.out.ghost_name ≡ self.old.out.ghost_name }
     {
-        for i in 0..n {
-            self.put_line(diagnostics, 5 * i);
+        for diagnostic in diagnostics.chunks_exact(5).take(count) {
+            self.put_line(diagnostic);
         }
     }
 }
@@ -114,16 +115,8 @@ fn hex_digit(d: u8) -> u8
     if d < 10 { b'0' + d } else { b'a' + (d - 10) }
 }
 
-// How many of `count` records a buffer of `size` bytes has whole.
-#[tactic(auto, unfolding(crate::specs::AnswerText::records_in))]
-fn records_in(size: usize, count: usize) -> usize
-    ensures { (result ≡ records_in size count) × (5 * result ≤ size) }
-{
-    count.min(size / 5)
-}
-
 // Puts what is printed for an answer at the front of `out`, as much of it as fits, and zeros
-// behind it; answers how many bytes of `out` it takes.
+// behind it; answers how many bytes of `out` it takes. The answer's fields are those of docs/FORMAT.md.
 pub fn print_answer(
     number: u8,
     pass: u8,
@@ -137,6 +130,6 @@ pub fn print_answer(
     out.fill(0);
     let mut text = Writer { out, at: 0 };
     text.put_first_line(number, pass, ty, count);
-    text.put_lines(diagnostics, records_in(diagnostics.len(), count));
+    text.put_lines(diagnostics, count);
     text.at
 }

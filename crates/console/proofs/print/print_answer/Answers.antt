@@ -1,9 +1,8 @@
 use borrow.Author.Rules.{rules}
-use Rattle.console.proofs.Writing.{wrote_all, lines_done, filled_as}
+use Rattle.console.proofs.Writing.{wrote_all, filled_as}
 use Rattle.console.specs.AnswerText.{printed}
 use Rattle.console.proofs.print.print_answer.Goals as goal
 
 pub returns : goal.returns
 unfolding printed
-returns c = filled_as (wrote_all (c.fill.ensures.after (λ y e. e)) c.put_first_line.ensures.writes
-    (lines_done c.args.diagnostics.now _ _ c.records_in.ensures.0 c.put_lines.ensures.writes)) (search rules)
+returns c = filled_as (wrote_all (c.fill.ensures.after (λ y e. e)) c.put_first_line.ensures.writes c.put_lines.ensures.writes) (search rules)
