@@ -59,7 +59,7 @@ fn read_params(t: &[u8], from: usize, end: usize, count: usize) -> Params
     requires { (from ≤ end) × (end ≤ length t.now) × (count ≤ 16) × ParamsAt count (part t.now from end) }
     ensures { result.items ≡ params_laid t.now end count from }
 {
-    // No range to go over: where the next one begins is known once this one is read.
+    // at goes on by hand: where the next one begins is known once this one is read.
     let mut at = from;
     let mut p = Params::new();
     for _n in 0..count {
