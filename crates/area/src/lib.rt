@@ -50,7 +50,7 @@ impl DiagnosticKind {
 }
 
 // Where a node's type comes from: a kind without body, a List of one, a name, a child's type, what the first child's type holds, a Pointer to it, a
-// part of the table, or a Function without parameters whose result is such a part.
+// part of the table, or a Function without parameters whose result is such a part. Nine ways, which no Option holds.
 #[derive(Clone, Copy)]
 pub enum Source {
     Kind(Kind),

@@ -1,4 +1,4 @@
-// Binary nodes.
+// Binary nodes. The operands' types are two parameters, lt and rt, as in `operand`.
 ghost use Rattle.std.specs.Prelude.{◌≡◌};
 ghost use Rattle.symbol.specs.Lookup.{symbols_of};
 ghost use Rattle.operators.specs.Binary.{fractional as fractional_of, takes_nullable};
