@@ -1,5 +1,6 @@
 -- Digits read from the left.
 use Prim.Native.Nat.{ℕ, suc, ◌+◌, ◌≤◌, ◌<◌}
+use borrow.Author.Tests.{leb-true, leb-false, le-ltb, lt-ltb}
 use lib.ListN.{length, get_or, drop, drop_of_length-le}
 use lib.Seq.{drop-cons}
 use mathlib.Core.Bool.{Bool, true, false}
@@ -10,7 +11,8 @@ use native.Mathlib.Omega.{arith}
 use Rattle.aura_load.specs.Argument.{no_digit, more_digits, number_from, number_in, too_large}
 use Rattle.ty.proofs.Choice.{choose_yes, choose_no}
 use Rattle.ty.specs.Choose.{choose}
-use Rattle.std.specs.Prelude.{Some, None, IfSome}
+use Rattle.std.specs.Char.{is_ascii_digit}
+use Rattle.std.specs.Prelude.{Some, None, IfSome, not, nat_le, ltb, ◌&&◌, ◌||◌}
 
 -- `number_in`: no text, its start, a byte that is no digit, one that is, and the end
 pub number_none : (s : List ℕ) → length s ≡ 0 → None ≡ number_in s
@@ -23,16 +25,28 @@ unfolding number_in
 number-start [] h = absurd (h refl)
 number-start (b ∷ s) h = refl
 
-module _ (s : List ℕ) (at n : ℕ) (so : number_from n (drop at s) ≡ number_in s) where
-  pub number_bad : at < length s → no_digit (get_or s at 0) ≡ true → None ≡ number_in s
-  unfolding number_from
-  number_bad h t = sym (ap (number_from n) (drop-cons s at 0 h) ∙ choose_yes _ _ _ t) ∙ so
+-- the library's digits are ours
+no_digit_is : (b : ℕ) → no_digit b ≡ not (is_ascii_digit b)
+no_digit_is b = go (nat_le 48 b) (nat_le b 57) refl refl
+  where
+    below : {t : Bool} → ltb b 48 ≡ t → no_digit b ≡ t || ltb 57 b
+    below e = ap (λ (x : Bool). x || ltb 57 b) e
 
-  pub number_more : (m : ℕ) → at < length s → no_digit (get_or s at 0) ≡ false → m ≡ more_digits n (get_or s at 0) → number_from m (drop (at + 1) s) ≡ number_in s
+    go : (t u : Bool) → nat_le 48 b ≡ t → nat_le b 57 ≡ u → no_digit b ≡ not (t && u)
+    go true true e f = below (le-ltb b 48 (leb-true 48 b e)) ∙ le-ltb 57 b (leb-true b 57 f)
+    go true false e f = below (le-ltb b 48 (leb-true 48 b e)) ∙ lt-ltb 57 b (leb-false b 57 f)
+    go false u e f = below (lt-ltb b 48 (leb-false 48 b e))
+
+module _ (s : List ℕ) (at n : ℕ) (so : number_from n (drop at s) ≡ number_in s) where
+  pub number_bad : at < length s → false ≡ is_ascii_digit (get_or s at 0) → None ≡ number_in s
+  unfolding number_from
+  number_bad h t = sym (ap (number_from n) (drop-cons s at 0 h) ∙ choose_yes _ _ _ (no_digit_is (get_or s at 0) ∙ ap not (sym t))) ∙ so
+
+  pub number_more : (m : ℕ) → at < length s → true ≡ is_ascii_digit (get_or s at 0) → m ≡ more_digits n (get_or s at 0) → number_from m (drop (at + 1) s) ≡ number_in s
   unfolding number_from
   number_more m h t e =
       ap (λ (k : ℕ). number_from m (drop k s)) (add-one at) ∙ ap (λ (k : ℕ). number_from k (drop (suc at) s)) e
-      ∙ sym (ap (number_from n) (drop-cons s at 0 h) ∙ choose_no _ _ _ t) ∙ so
+      ∙ sym (ap (number_from n) (drop-cons s at 0 h) ∙ choose_no _ _ _ (no_digit_is (get_or s at 0) ∙ ap not (sym t))) ∙ so
 
   pub number-done : length s ≤ at → Some n ≡ number_in s
   unfolding number_from

@@ -33,7 +33,7 @@ fn number_in(text: &[u8]) -> Option<u64>
     }
     let mut n: u64 = 0;
     for &b in text {
-        if (b < b'0') | (b'9' < b) {
+        if !b.is_ascii_digit() {
             return None;
         }
         n = more(n, b);
@@ -46,7 +46,7 @@ fn argument(rt: &impl Env, i: usize) -> Option<u64>
     ensures { IfSome result (λ n. n ≤ too_large) }
 {
     let mut text = [0u8; 32];
-    let len = rt.arg(i, &mut text).unwrap_or(0);
+    let len = rt.arg(i, &mut text).ok()?;
     number_in(&text[..len])
 }
 
@@ -67,10 +67,10 @@ fn respond(rt: &(impl Print + Eprint), start: u32, nodes: usize, out: &mut [u8])
 fn main(rt: HostRuntime) -> io::Result<()> {
     let mut third = [0u8; 32];
     let two = matches!(rt.arg(3, &mut third), Err(FillError::NotPresent));
-    match (argument(&rt, 1), argument(&rt, 2)) {
-        (Some(start), Some(nodes)) if two && start <= u32::MAX as u64 => {
+    match (argument(&rt, 1).map(u32::try_from), argument(&rt, 2)) {
+        (Some(Ok(start)), Some(nodes)) if two => {
             let mut out = [0u8; 133];
-            respond(&rt, start as u32, nodes as usize, &mut out)
+            respond(&rt, start, nodes as usize, &mut out)
         }
         _ => eprintln!(rt;
             "usage: aura_load START NODES (two numbers in decimal, START at most 4294967295)"

@@ -8,8 +8,10 @@ ghost use Rattle.load.specs.Load.{load_of};
 ghost use Rattle.load.specs.Order1.{LoadFine};
 ghost use Rattle.load.specs.Inside.Shape.{shape_of, ShapeIs};
 ghost use Rattle.load.specs.Inside.WritesTree.{WritesTree};
+ghost use Rattle.question.specs.NodeKind.{node_kind_number};
 ghost use Rattle.written.specs.Output.{Writes};
 
+use question::NodeKind;
 use written::{WriteFault, copy_in, refuse};
 
 const MOST_NODES: usize = 64;
@@ -46,11 +48,11 @@ impl Draws {
 }
 
 // The two bytes of one node: its kind, and its operator or type.
-fn put_node(kind: u8, what: u32, at: usize, out: &mut [u8])
+fn put_node(kind: NodeKind, what: u32, at: usize, out: &mut [u8])
     requires { (what < 256) × (at + 2 ≤ length out.old) }
-    ensures { out.new ≡ sets out.old at (kind ∷ what ∷ []) }
+    ensures { out.new ≡ sets out.old at (node_kind_number kind ∷ what ∷ []) }
 {
-    out[at] = kind;
+    out[at] = kind.number();
     out[at + 1] = what as u8;
 }
 
@@ -60,16 +62,16 @@ fn write_tree(nodes: usize, draws: &mut Draws, at: usize, out: &mut [u8])
     ensures { WritesTree nodes draws.old.state at out.old out.new draws.new.state }
 {
     if nodes == 1 {
-        return put_node(0, draws.draw(12), at, out);
+        return put_node(NodeKind::Leaf, draws.draw(12), at, out);
     }
     if draws.draw_binary(nodes) {
-        put_node(1, draws.draw(23), at, out);
+        put_node(NodeKind::Binary, draws.draw(23), at, out);
         let left = 1 + draws.draw((nodes - 2) as u32) as usize;
         let right = nodes - 1 - left;
         write_tree(left, draws, at + 2, out);
         return write_tree(right, draws, at + 2 + 2 * left, out);
     }
-    put_node(2, draws.draw(7), at, out);
+    put_node(NodeKind::Unary, draws.draw(7), at, out);
     write_tree(nodes - 1, draws, at + 2, out);
 }
 
