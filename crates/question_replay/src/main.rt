@@ -30,7 +30,8 @@ fn next<R: Read>(rt: &impl Print, input: &mut R) -> io::Result<bool>
     Ok(true)
 }
 
-// A loop has to end, and nothing says that the input does: so it counts its turns.
+// A loop has to end, and nothing says that the input does: so it counts its turns. `symbol_replay`
+// has the same: a common part would take a closure for `next`, and be longer than both.
 fn main(rt: HostRuntime) -> io::Result<()> {
     let mut input = rt.reader();
     for _ in 0..u64::MAX {

@@ -1,2 +1,4 @@
 pub mod Agreement
+pub mod CaseTaken
+pub mod Told
 pub mod Inside

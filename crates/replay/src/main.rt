@@ -2,15 +2,18 @@
 // 2 bytes, low byte first. Prints how many cases agree; at the first that does not it stops and says which that is, counted from 0.
 #![tactic(auto)]
 
-ghost use Rattle.std.specs.Prelude.{length, take, ◌≡◌, IfSome};
+ghost use Rattle.std.specs.Prelude.{length, take, ◌≡◌, IfSome, OnOk};
+ghost use Rattle.std.specs.Io.KnownBytes.{Appends};
 ghost use Rattle.console.specs.Buffer.{holding};
 ghost use Rattle.judge_text.specs.ProgramText.{answer_text};
 ghost use Rattle.replay.specs.Agreement.{agreement, Agreement};
+ghost use Rattle.replay.specs.CaseTaken.{CaseOf, WholeText};
+ghost use Rattle.replay.specs.Told.{told};
 ghost use Rattle.replay.specs.Inside.CaseRead.{LengthRead, PartFrom, ReadTo, CaseRead};
 ghost use Rattle.typing.specs.Answer.{buffer_of};
 
 use judge_text::answer_text;
-use std::io::{self, Read};
+use std::io::{self, Lock, Read, Write};
 use ty::{id_at, same_bytes};
 
 // What reading a case comes to.
@@ -67,15 +70,17 @@ fn read_part<R: Read>(input: &mut R, space: &mut [u8]) -> Option<usize>
 }
 
 // Reads a case and judges it; the slices are room for it.
-fn read_case(
-    input: &mut impl Read,
+fn read_case<R: Read>(
+    input: &mut R,
     table: &mut [u8],
     question: &mut [u8],
     expected: &mut [u8],
     diagnostics: &mut [u8],
     out: &mut [u8],
 ) -> Case
-    ensures { CaseRead table question expected diagnostics out result }
+    ensures left { CaseRead table question expected diagnostics out result }
+    ensures taken { CaseOf (R.remaining input.old) (R.remaining input.new)
+        (λ t q e so. Agreement t q e diagnostics.old out.old so) result }
 {
     let Some(t) = read_part(input, table) else {
         return Case::End;
@@ -98,19 +103,22 @@ fn read_case(
     Case::Differs
 }
 
-// Writes what the run was.
-fn tell(rt: &impl Print, agree: u64, last: Case) -> io::Result<()> {
-    print!(rt; "{agree} cases agree")?;
+// Writes what the run was, after so many cases that agree.
+#[tactic(auto, unfolding(crate::specs::Told::told))]
+fn tell<W: Write>(output: &mut W, agree: u64, last: Case) -> io::Result<()>
+    ensures { OnOk result (Appends (W.contents output.old) (W.contents output.new) (told agree last)) }
+{
     match last {
-        Case::Differs => print!(rt; ", not case {agree}")?,
-        Case::Broken => print!(rt; ", then the input breaks off")?,
-        Case::End | Case::Agrees => {}
+        Case::Differs => writeln!(output, "{agree} cases agree, not case {agree}"),
+        Case::Broken => writeln!(output, "{agree} cases agree, then the input breaks off"),
+        Case::End | Case::Agrees => writeln!(output, "{agree} cases agree"),
     }
-    println!(rt; "")
 }
 
 // The same in slices of its own.
-fn next(input: &mut impl Read) -> Case {
+fn next<R: Read>(input: &mut R) -> Case
+    ensures { CaseOf (R.remaining input.old) (R.remaining input.new) WholeText result }
+{
     let mut table = [0u8; 65535];
     let mut question = [0u8; 65535];
     let mut expected = [0u8; 65535];
@@ -132,8 +140,8 @@ fn main(rt: HostRuntime) -> io::Result<()> {
     for agree in 0..u64::MAX {
         let case = next(&mut input);
         if case != Case::Agrees {
-            return tell(&rt, agree, case);
+            return tell(&mut rt.stdout().lock(), agree, case);
         }
     }
-    tell(&rt, u64::MAX, Case::End)
+    tell(&mut rt.stdout().lock(), u64::MAX, Case::End)
 }

@@ -1,4 +1,4 @@
--- What reading a case leaves in the lent slices, and what is answered. What is read no contract can say: here it is whatever stands in the slices afterwards.
+-- What reading a case leaves in the lent slices, and what is answered of what then stands in them. What it takes from the input says `CaseTaken`.
 use Rattle.std.specs.Prelude.{ℕ, Option, ◌≤◌, length, take, drop, List, ◌++◌, ◌⊎◌, ◌≡◌}
 use Rattle.std.specs.Io.KnownBytes.{Consumes}
 use Rattle.ty.specs.Bytes.{id_at}
