@@ -2,7 +2,7 @@
 use Prim.Native.Nat.{ℕ, ◌+◌, ◌≤◌}
 use borrow.Author.Tests.{eq-eqb, ne_eqb}
 use lib.ListN.{length, drop}
-use mathlib.Core.Bool.{Bool, true, false, not, ◌||◌}
+use mathlib.Core.Bool.{Bool, true, false, ◌||◌}
 use mathlib.Core.List.{List, ◌∷◌}
 use mathlib.Core.Path.{◌≡◌, refl, sym, ap, ◌∙◌, subst}
 use native.Mathlib.Omega.{arith}
@@ -22,30 +22,17 @@ use Rattle.ty.specs.Choose.{choose}
 
 -- ---- one record
 module _ (t : List ℕ) (e : ℕ) (missing looked : Bool) (late : List ℕ) where
-  pub look_before : looked ≡ true → (true ≡ (looked || missing)) × (late ≡ late_looked t e missing looked late)
+  pub look_before : looked ≡ true → late ≡ late_looked t e missing looked late
   unfolding late_looked
-  look_before h = (rw h, sym (choose_yes _ _ _ h))
+  look_before h = sym (choose_yes _ _ _ h)
 
-  pub look_none : looked ≡ false → not missing ≡ true → (false ≡ (looked || missing)) × (late ≡ late_looked t e missing looked late)
+  pub look_none : looked ≡ false → missing ≡ false → late ≡ late_looked t e missing looked late
   unfolding late_looked
-  look_none h m =
-      let z : missing ≡ false = not_yes missing m in
-      (rw (h, z), sym (choose_no _ _ _ h ∙ choose_no _ _ _ z))
-    where
-      not_yes : (v : Bool) → not v ≡ true → v ≡ false
-      not_yes true q = sym q
-      not_yes false q = refl
+  look_none h z = sym (choose_no _ _ _ h ∙ choose_no _ _ _ z)
 
-  pub look_made : looked ≡ false → not missing ≡ false → (late' : List ℕ) → late' ≡ marked_from t e late
-      → (true ≡ (looked || missing)) × (late' ≡ late_looked t e missing looked late)
+  pub look_made : (late' : List ℕ) → late' ≡ marked_from t e late → looked ≡ false → missing ≡ true → late' ≡ late_looked t e missing looked late
   unfolding late_looked
-  look_made h m late' a =
-      let z : missing ≡ true = not_no missing m in
-      (rw (h, z), a ∙ sym (choose_no _ _ _ h ∙ choose_yes _ _ _ z))
-    where
-      not_no : (v : Bool) → not v ≡ false → v ≡ true
-      not_no true q = refl
-      not_no false q = sym q
+  look_made late' a h z = a ∙ sym (choose_no _ _ _ h ∙ choose_yes _ _ _ z)
 
 -- the entries serve the record
 look_serves : (t : List ℕ) (e : ℕ) (late : List ℕ) → Sits t e → (missing looked : Bool) → Looked t late e looked

@@ -15,6 +15,8 @@ use Rattle.index.proofs.Paths.{and_true, id_bucket, not-met, passes_key, own_key
 use Rattle.record.proofs.SameKeys.{same_kind, function_fresh}
 use Rattle.record.proofs.RecordSizes.{stands_own}
 use Rattle.record.specs.declared.front.Head.{Head}
+use Rattle.index.proofs.TreeWalks.{search_spot}
+use Rattle.index.specs.Inside.TreeWalk.{search_of}
 use Rattle.index.proofs.StandingFront.{Standing, standing}
 use Rattle.symbol.specs.Inside.Asked.{Planted, Prepared}
 use Rattle.record.specs.Inside.Front.{front_of, front_of_head}
@@ -94,6 +96,11 @@ module _ (t x : List ℕ) (c : Cursor) (a : CursorAt t c) (g : Planted t x c.at)
     pub class_met : (r : Result Place ℕ) → SpotIs t x c.at (Ids 2 id 0) r → is_ok r ≡ has_class id (before c.index (records_of t))
     class_met (Ok q) h = class-taken q h
     class_met (Err s) h = class-free s h
+
+    pub class_searched : (r : Result Place ℕ) (k : ℕ) → r ≡ search_of t x (Ids k id 0) → k ≡ 2 → is_ok r ≡ has_class id (before c.index (records_of t))
+    class_searched r k e n =
+        class_met r
+        (search_spot t x (Ids 2 id 0) planted_open r (e ∙ ap (λ (i : ℕ). search_of t x (Ids i id 0)) n) c.at g.tree)
 
 -- ---- the key of a record
 module _ (t x : List ℕ) (c : Cursor) (h : Head) (p : Prepared t x c h) where

@@ -59,7 +59,7 @@ pub enum Entry {
 }
 
 // The functions below take a table's bytes with the index that is made, and a cursor with the record read there: no Table is accepted yet. What they ask
-// (Stands, Planted, Prepared, Asked, IndexRoom) says how walk, table and index go together; that a table is not too long is asked, as check_table has tested it.
+// (Stands, Planted, Prepared, Asked, IndexRoom) says how walk, table and index go together; that a table is not too long is asked, as check_table tests it.
 
 // The record h at me is a name with a built-in spelling.
 #[tactic(auto, using(crate::proofs::CheckRules::name_rules))]
@@ -74,6 +74,7 @@ fn builtin_name(t: &[u8], me: Cursor, h: Head) -> bool
 }
 
 // An earlier record is the class id.
+#[tactic(auto, using(crate::proofs::SearchMeetsKey::class_searched))]
 fn class_before(t: &[u8], x: &[u16], me: Cursor, id: u16) -> bool
     requires { CursorAt t.now me × Planted t.now x.now me.at }
     ensures { result ≡ has_class id (before me.index (records_of t.now)) }
@@ -87,6 +88,7 @@ fn class_before(t: &[u8], x: &[u16], me: Cursor, id: u16) -> bool
 }
 
 // The superclass of the record h at me that has no earlier record; none where there is no such superclass.
+#[tactic(auto, using(crate::proofs::CheckRules::missing_rules))]
 fn super_missing(t: &[u8], x: &[u16], me: Cursor, h: Head) -> Option<u16>
     requires { Prepared t.now x.now me h }
     ensures { result ≡ super_missing_at t.now me }
@@ -103,7 +105,8 @@ fn super_missing(t: &[u8], x: &[u16], me: Cursor, h: Head) -> Option<u16>
 #[tactic(auto, using(crate::proofs::LateMakes::look_before, crate::proofs::LateMakes::look_none, crate::proofs::LateMakes::look_made))]
 fn look(t: &[u8], me: Cursor, late: &mut [u16], missing: bool, looked: bool) -> bool
     requires { CursorAt t.now me × (length t.now ≤ 60000) }
-    ensures { (result ≡ (looked || missing)) × (late.new ≡ late_looked t.now me.at missing looked late.old) }
+    ensures answer { result ≡ (looked || missing) }
+    ensures late_after { late.new ≡ late_looked t.now me.at missing looked late.old }
 {
     if looked {
         return true;

@@ -28,7 +28,8 @@ fn next<R: Read>(rt: &impl Print, input: &mut R) -> io::Result<bool>
     Ok(true)
 }
 
-// A loop has to end, and nothing says that the input does: so it counts its turns.
+// A loop has to end, and nothing says that the input does: so it counts its turns. question_replay has the same loop: shared, it would be longer than both, as
+// `next` would come as a closure over any reader.
 fn main(rt: HostRuntime) -> io::Result<()> {
     let mut input = rt.reader();
     for _ in 0..u64::MAX {

@@ -78,7 +78,7 @@ pub check_key-requires : goal.check_key-requires
 check_key-requires c = going_key c.args.t.now _ _ c.loop-c.c (kind_before c.loop-c.kind) c.loop-c.names c.loop-c.looked c.loop-c.invariant.2
     c.step-s.result c.step-s.ensures c.loop-c-test.true 0 c.in_ok-check_own.ensures refl c.in-Some.h c.in-Some.is
     _ c.look-looked.auto.late c.look-looked.result
-    _ c.look-looked.ensures.0 c.look-looked.ensures.1 (c.is_some.ensures ∙ missing_some _ _ _ c.super_missing-missing.ensures) c.entry_for-entry.result
+    _ c.look-looked.ensures.answer c.look-looked.ensures.late_after (c.is_some.ensures ∙ missing_some _ _ _ c.super_missing-missing.ensures) c.entry_for-entry.result
     c.entry_for-entry.ensures
     c.super_missing-missing.result c.super_missing-missing.ensures
 
@@ -88,7 +88,7 @@ returns-in_err-check_key-clause-number c = passed_on c.from_residual-in_err-chec
     ∙ key_refused c.args.t.now _ _ c.loop-c.c (kind_before c.loop-c.kind) c.loop-c.names c.loop-c.looked c.loop-c.invariant.2
     c.step-s.result c.step-s.ensures c.loop-c-test.true 0 c.in_ok-check_own.ensures refl c.in-Some.h c.in-Some.is
     _ c.look-looked.auto.late c.look-looked.result
-    _ c.look-looked.ensures.0 c.look-looked.ensures.1 (c.is_some.ensures ∙ missing_some _ _ _ c.super_missing-missing.ensures) c.entry_for-entry.result
+    _ c.look-looked.ensures.answer c.look-looked.ensures.late_after (c.is_some.ensures ∙ missing_some _ _ _ c.super_missing-missing.ensures) c.entry_for-entry.result
     c.entry_for-entry.ensures
     (table_fault_number c.in_err-check_key.field-0.0) c.in_err-check_key.ensures (fault_some c.in_err-check_key.field-0.0)
 
@@ -96,7 +96,7 @@ pub returns-in_err-check_key-clause-indexed_table : goal.returns-in_err-check_ke
 returns-in_err-check_key-clause-indexed_table c = λ z. absurd (key_stopped c.args.t.now _ _ c.loop-c.c (kind_before c.loop-c.kind) c.loop-c.names c.loop-c.looked c.loop-c.invariant.2
     c.step-s.result c.step-s.ensures c.loop-c-test.true 0 c.in_ok-check_own.ensures refl c.in-Some.h c.in-Some.is
     _ c.look-looked.auto.late c.look-looked.result
-    _ c.look-looked.ensures.0 c.look-looked.ensures.1 (c.is_some.ensures ∙ missing_some _ _ _ c.super_missing-missing.ensures) c.entry_for-entry.result
+    _ c.look-looked.ensures.answer c.look-looked.ensures.late_after (c.is_some.ensures ∙ missing_some _ _ _ c.super_missing-missing.ensures) c.entry_for-entry.result
     c.entry_for-entry.ensures
     (table_fault_number c.in_err-check_key.field-0.0) c.in_err-check_key.ensures (fault_some c.in_err-check_key.field-0.0) z)
 
@@ -105,20 +105,20 @@ returns-in_err-check_key-clause-x_after c = making_stopped c.args.t.now _ _ c.lo
     (both c.args.t.now _ _ c.loop-c.c (kind_before c.loop-c.kind) c.loop-c.names c.loop-c.looked c.loop-c.invariant.2
     c.step-s.result c.step-s.ensures c.loop-c-test.true 0 c.in_ok-check_own.ensures refl c.in-Some.h c.in-Some.is
     _ c.look-looked.auto.late c.look-looked.result
-    _ c.look-looked.ensures.0 c.look-looked.ensures.1 (c.is_some.ensures ∙ missing_some _ _ _ c.super_missing-missing.ensures) c.entry_for-entry.result
+    _ c.look-looked.ensures.answer c.look-looked.ensures.late_after (c.is_some.ensures ∙ missing_some _ _ _ c.super_missing-missing.ensures) c.entry_for-entry.result
     c.entry_for-entry.ensures
     (table_fault_number c.in_err-check_key.field-0.0) c.in_err-check_key.ensures) (fault_some c.in_err-check_key.field-0.0)
 
 pub returns-in_err-check_key-clause-late_after : goal.returns-in_err-check_key-clause-late_after
 returns-in_err-check_key-clause-late_after c = noting_key c.args.t.now _ _ c.loop-c.c c.loop-c.looked c.loop-c.invariant.4 c.loop-c.invariant.2.at c.step-s.result c.step-s.ensures 0 c.in_ok-check_own.ensures refl
-    _ (c.is_some.ensures ∙ missing_some _ _ _ c.super_missing-missing.ensures) _ c.look-looked.ensures.1
+    _ (c.is_some.ensures ∙ missing_some _ _ _ c.super_missing-missing.ensures) _ c.look-looked.ensures.late_after
     (table_fault_number c.in_err-check_key.field-0.0) c.in_err-check_key.ensures (fault_some c.in_err-check_key.field-0.0)
 
 pub join-requires : goal.join-requires
 join-requires c = going_join c.args.t.now _ _ c.loop-c.c (kind_before c.loop-c.kind) c.loop-c.names c.loop-c.looked c.loop-c.invariant.2
     c.step-s.result c.step-s.ensures c.loop-c-test.true 0 c.in_ok-check_own.ensures refl c.in-Some.h c.in-Some.is
     _ c.look-looked.auto.late c.look-looked.result
-    _ c.look-looked.ensures.0 c.look-looked.ensures.1 (c.is_some.ensures ∙ missing_some _ _ _ c.super_missing-missing.ensures) c.entry_for-entry.result
+    _ c.look-looked.ensures.answer c.look-looked.ensures.late_after (c.is_some.ensures ∙ missing_some _ _ _ c.super_missing-missing.ensures) c.entry_for-entry.result
     c.entry_for-entry.ensures
     0 c.in_ok-check_key.ensures refl c.requires.0
 
@@ -129,7 +129,7 @@ loop-c-preserved c = (
   going_next c.args.t.now _ _ c.loop-c.c (kind_before c.loop-c.kind) c.loop-c.names c.loop-c.looked c.loop-c.invariant.2
       c.step-s.result c.step-s.ensures c.loop-c-test.true 0 c.in_ok-check_own.ensures refl c.in-Some.h c.in-Some.is
       _ c.look-looked.auto.late c.look-looked.result
-      _ c.look-looked.ensures.0 c.look-looked.ensures.1 (c.is_some.ensures ∙ missing_some _ _ _ c.super_missing-missing.ensures) c.entry_for-entry.result
+      _ c.look-looked.ensures.answer c.look-looked.ensures.late_after (c.is_some.ensures ∙ missing_some _ _ _ c.super_missing-missing.ensures) c.entry_for-entry.result
       c.entry_for-entry.ensures
       0 c.in_ok-check_key.ensures refl _ c.join.ensures _ (c.from-names.ensures ∙ counted c.in-Some.h.kind c.eq.result c.eq.ensures)
       (rw c.from-names.ensures (counted_few c.eq.result)),
@@ -137,18 +137,18 @@ loop-c-preserved c = (
       (both c.args.t.now _ _ c.loop-c.c (kind_before c.loop-c.kind) c.loop-c.names c.loop-c.looked c.loop-c.invariant.2
       c.step-s.result c.step-s.ensures c.loop-c-test.true 0 c.in_ok-check_own.ensures refl c.in-Some.h c.in-Some.is
       _ c.look-looked.auto.late c.look-looked.result
-      _ c.look-looked.ensures.0 c.look-looked.ensures.1 (c.is_some.ensures ∙ missing_some _ _ _ c.super_missing-missing.ensures) c.entry_for-entry.result
+      _ c.look-looked.ensures.answer c.look-looked.ensures.late_after (c.is_some.ensures ∙ missing_some _ _ _ c.super_missing-missing.ensures) c.entry_for-entry.result
       c.entry_for-entry.ensures
       0 c.in_ok-check_key.ensures) refl _
       (c.join.ensures ∙ going_placed c.args.t.now _ _ c.loop-c.c (kind_before c.loop-c.kind) c.loop-c.names c.loop-c.looked c.loop-c.invariant.2
       c.step-s.result c.step-s.ensures c.loop-c-test.true 0 c.in_ok-check_own.ensures refl c.in-Some.h c.in-Some.is
       _ c.look-looked.auto.late c.look-looked.result
-      _ c.look-looked.ensures.0 c.look-looked.ensures.1 (c.is_some.ensures ∙ missing_some _ _ _ c.super_missing-missing.ensures) c.entry_for-entry.result
+      _ c.look-looked.ensures.answer c.look-looked.ensures.late_after (c.is_some.ensures ∙ missing_some _ _ _ c.super_missing-missing.ensures) c.entry_for-entry.result
       c.entry_for-entry.ensures
       0 c.in_ok-check_key.ensures refl),
   noting_next c.args.t.now _ _ c.loop-c.c c.loop-c.looked c.loop-c.invariant.4 c.loop-c.invariant.2.at c.step-s.result c.step-s.ensures 0 c.in_ok-check_own.ensures refl
-      _ (c.is_some.ensures ∙ missing_some _ _ _ c.super_missing-missing.ensures) _ c.look-looked.ensures.1
-      0 c.in_ok-check_key.ensures refl c.look-looked.result c.look-looked.ensures.0,
+      _ (c.is_some.ensures ∙ missing_some _ _ _ c.super_missing-missing.ensures) _ c.look-looked.ensures.late_after
+      0 c.in_ok-check_key.ensures refl c.look-looked.result c.look-looked.ensures.answer,
 )
 
 pub returns-clause-number : goal.returns-clause-number

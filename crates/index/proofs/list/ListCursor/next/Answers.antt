@@ -1,6 +1,4 @@
-use mathlib.Core.Path.{sym, ap}
 use Rattle.index.proofs.ListWalks.{next_at, next_list}
-use Rattle.index.specs.Inside.ListWalk.{list_behind, list_next}
 use Rattle.index.proofs.list.ListCursor.next.Goals as goal
 
 pub follow-requires : goal.follow-requires
