@@ -129,7 +129,7 @@ pub fn first_at(n: usize, b: usize) -> usize
     1 + 2 * bucket_count(n) + b
 }
 
-// Where the entry of a list's last function stands.
+// Where the entry of a list's last function stands. The bucket's bound is asked, as `first_at` asks it.
 #[tactic(auto, using(crate::proofs::Buckets::buckets))]
 pub fn last_at(n: usize, b: usize) -> usize
     requires { b < list_count n }

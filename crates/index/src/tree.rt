@@ -16,7 +16,7 @@ use ty::{byte_at, same_bytes};
 
 // What a search looks for: the name of the record at a place, or a kind from 2 on with its ids, `two` being 0 where the kind has one id: no search looks at it.
 // The kind is a number, as it is compared with the table's byte at each record of a search; a RecordKind would be made its number there.
-// A key goes with its table: where it is a name's place, that must lie in the table (KeyIn).
+// A key goes with its table: where it is a name's place, that must lie in the table (KeyIn). An enum of its own, as neither kind of key is a none or an error.
 #[derive(Clone, Copy)]
 pub enum Key {
     Name(Place),
@@ -201,7 +201,7 @@ impl TreeCursor {
         self.here.ok_or(self.entry)
     }
 
-    // One record down from the record p here, as the key's next digit says.
+    // One record down from the record p here, as the key's next digit says. It takes bytes and index, as `search` does.
     #[tactic(auto, unfolding(crate::specs::Inside::TreeWalk::tree_step))]
     pub fn step(self, t: &[u8], x: &[u16], key: Key, p: Place) -> TreeCursor
         requires { TreeStepAsked t.now key self }

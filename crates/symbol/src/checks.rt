@@ -51,7 +51,7 @@ impl TableFault {
     }
 }
 
-// What a record that draws no number does in the index: it fills an empty entry of its tree, or joins a list of functions.
+// What a record that draws no number does in the index: it fills an empty entry of its tree, or joins a list of functions. An enum, as neither is a none.
 #[derive(Clone, Copy)]
 pub enum Entry {
     Tree(usize),
