@@ -24,3 +24,5 @@ second_unknown x y e = rw (eq-eqb y no_id (none_known y e)) (go (eqb x no_id))
     go : (b : Bool) → false ≡ (not b && false)
     go true = refl
     go false = refl
+
+pub ruleset packages = (both_known, first_unknown, second_unknown)

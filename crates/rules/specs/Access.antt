@@ -6,7 +6,7 @@ use Rattle.symbol.specs.Symbols.{Symbols}
 use Rattle.symbol.specs.Subclass.{is_subclass}
 use Rattle.question.specs.declared.Header.{Header}
 use Rattle.area.specs.DiagnosticKind.{access_diag}
-use Rattle.rules.specs.Visibility.{public_vis, protected_vis, private_vis}
+use Rattle.symbol.specs.Visibility.{public_vis, protected_vis, private_vis}
 use Rattle.operators.specs.Out.{Report, report}
 
 -- both packages are known, and they differ

@@ -1,4 +1,3 @@
-pub mod Visibility
 pub mod Accept
 pub mod Access
 pub mod Member

@@ -1,4 +1,4 @@
-// Member nodes.
+// Member nodes. Table, owner and id are parameters of their own, as in the Rust: each rule asks of a place of its own.
 ghost use Rattle.std.specs.Prelude.{◌≡◌};
 ghost use Rattle.symbol.specs.Lookup.{symbols_of};
 ghost use Rattle.rules.specs.Member.{is_nullable_object};
@@ -15,7 +15,10 @@ use operators::ruled::{Diagnostic, OneReport, Ruled, clean, fails, plain, report
 use question::Header;
 use symbol::functions::read_function;
 use symbol::lookups::{field_of, first_function, in_types, is_variant, visibility_of};
-use ty::{Kind, NameId, Part, is_kind};
+use ty::{Kind, NameId, is_kind};
+
+// The members that need no table, in six tables of a match each: their rows differ, and what one of them answers goes by the object. One table would
+// have a column more, with the six in it, in each of its rows.
 
 // A type variable's members.
 #[tactic(auto, using(ty::proofs::Choice::chain), unfolding(crate::specs::Inside::MemberRule::variable_ruled))]
@@ -100,13 +103,9 @@ fn map_member(id: u16) -> OneReport
 fn lookup_function(table: &Table<'_>, owner: u16, id: u16) -> Option<Source>
     ensures { result ≡ function_place table.now owner id }
 {
-    let t = table.bytes();
-    let place = first_function(table, owner, id)?;
-    let f = read_function(t, place);
-    Some(Source::Function {
-        start: f.start,
-        len: f.len,
-    })
+    let place = first_function(table, Some(owner), id)?;
+    let f = read_function(table.bytes(), place);
+    Some(Source::Function(f.result))
 }
 
 // A class's field of a name, or else its function: where its type lies, if there is one.
@@ -115,7 +114,7 @@ fn lookup_var_ty(table: &Table<'_>, owner: u16, id: u16) -> Option<Source>
     ensures { result ≡ variable_place table.now owner id }
 {
     match field_of(table, owner, id) {
-        Some(Part { start, len }) => Some(Source::Part { start, len }),
+        Some(part) => Some(Source::Part(part)),
         None => lookup_function(table, owner, id),
     }
 }

@@ -1,43 +1,30 @@
 -- The number of arguments that an overload takes.
-use Prim.Native.Nat.{ℕ, zero, suc, ◌+◌, ◌-◌, ◌≤◌, ◌<◌}
-use lib.ListN.{length, get_or, drop}
-use mathlib.Core.Bool.{Bool, true, false, ◌||◌}
+use Prim.Native.Nat.{ℕ, zero, suc, ◌+◌, ◌-◌}
+use lib.ListN.{length, get_or}
+use mathlib.Core.Bool.{Bool, true, false, cond, not, ◌||◌}
 use mathlib.Core.List.{List, [], ◌∷◌}
 use mathlib.Core.Path.{◌≡◌, refl, sym, ap, ◌∙◌}
 use native.Mathlib.Omega.{arith}
-use Rattle.std.specs.List.{slice_get}
+use Rattle.std.specs.List.{slice_get, count_by}
+use Rattle.std.proofs.lemmas.List.Recursion.{is_count_by}
 use Rattle.std.proofs.lemmas.Option.{slice_get_within, slice_get-get_or}
 use Rattle.std.specs.Prelude.{Option as Maybe, Some, None}
-use Rattle.scoring.proofs.ParamsAndArgsLeft.{params_next, params_none}
 use Rattle.scoring.specs.Arity.{required, ends_vararg, last_vararg}
 use Rattle.symbol.specs.Inside.LookupAnswer.{params_in}
-use Rattle.symbol.specs.Symbols.{Param}
 use Rattle.symbol.specs.declared.functions.Param.{Param as Read}
-use Rattle.ty.proofs.Choice.{choose_yes, choose_no}
+use Rattle.ty.specs.Choose.{choose}
 
-module _ (t : List ℕ) (ps : List Read) (i : ℕ) where
-  -- ---- how many are required
-  pub required_default : (d : Read) → i < length ps → (get_or ps i d).default ≡ true → required (params_in t (drop i ps)) ≡ required (params_in t (drop (i + 1) ps))
-  unfolding required
-  required_default d h e = ap (λ (ps : List Param). required ps) (params_next t ps i d h) ∙ choose_yes _ _ _ (ap (λ (b : Bool). b || (get_or ps i d).vararg) e)
-
-  pub required_vararg : (d : Read) → i < length ps → (get_or ps i d).vararg ≡ true → required (params_in t (drop i ps)) ≡ required (params_in t (drop (i + 1) ps))
-  unfolding required
-  required_vararg d h e = ap (λ (ps : List Param). required ps) (params_next t ps i d h) ∙ choose_yes _ _ _ (or_true (get_or ps i d).default e)
-    where
-      or_true : (b : Bool) {c : Bool} → c ≡ true → (b || c) ≡ true
-      or_true true e = refl
-      or_true false e = e
-
-  pub required_one : (d : Read) → i < length ps → (get_or ps i d).default ≡ false → (get_or ps i d).vararg ≡ false
-      → required (params_in t (drop i ps)) ≡ suc (required (params_in t (drop (i + 1) ps)))
-  unfolding required
-  required_one d h e f =
-      ap (λ (ps : List Param). required ps) (params_next t ps i d h) ∙ choose_no _ _ _ (ap (λ (b : Bool). b || (get_or ps i d).vararg) e ∙ f)
-
-  pub required_none : length ps ≤ i → required (params_in t (drop i ps)) ≡ 0
-  unfolding required
-  required_none h = ap (λ (ps : List Param). required ps) (params_none t ps i h)
+-- ---- how many are required
+pub required_counted : (t : List ℕ) (ps : List Read) → required (params_in t ps) ≡ count_by (λ (p : Read). not (p.default || p.vararg)) ps
+unfolding required choose
+required_counted t ps = is_count_by (λ (qs : List Read). required (params_in t qs)) (λ (p : Read). not (p.default || p.vararg)) refl step ps
+  where
+    step : (p : Read) (qs : List Read) → required (params_in t (p ∷ qs)) ≡ cond (not (p.default || p.vararg)) (1 + required (params_in t qs)) (required (params_in t qs))
+    step p qs = by (p.default || p.vararg)
+      where
+        by : (b : Bool) → choose b (required (params_in t qs)) (suc (required (params_in t qs))) ≡ cond (not b) (1 + required (params_in t qs)) (required (params_in t qs))
+        by true = refl
+        by false = omega arith
 
 -- ---- the last parameter
 last_read : (t : List ℕ) (v : Bool) (ps : List Read) (n : ℕ) → length ps ≡ suc n → (p : Read) → slice_get ps n ≡ Some p → p.vararg ≡ ends_vararg v (params_in t ps)
@@ -60,5 +47,3 @@ last_none t (q ∷ ps) e =
     let f = slice_get-get_or (q ∷ ps) (length (q ∷ ps) - 1) q (omega arith) in
     let z : ◌≡◌ {A = Maybe Read} None (Some (get_or (q ∷ ps) (length (q ∷ ps) - 1) q)) = e ∙ f in
     absurd cc
-
-pub ruleset required_left = (required_default, required_vararg, required_one, required_none)

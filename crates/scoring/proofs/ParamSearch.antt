@@ -1,41 +1,42 @@
 -- The search for a parameter, by its name or by its mark.
 use Prim.Native.Nat.{ℕ, zero, suc, ◌+◌, ◌≤◌, ◌<◌}
-use borrow.Author.Tests.{eq-eqb, ne_eqb}
 use lib.Dec.{eqb}
 use lib.ListN.{length, get_or, drop}
-use mathlib.Core.Bool.{Bool, true, false}
+use mathlib.Core.Bool.{Bool, true, false, not, cond}
 use mathlib.Core.List.{List, [], ◌∷◌}
 use mathlib.Core.Option.{Option, none, some}
 use mathlib.Core.Path.{◌≡◌, refl, sym, ap, ◌∙◌}
-use Rattle.std.specs.Prelude.{Option as Maybe, Some}
+use Rattle.std.specs.Prelude.{Option as Maybe, Some, option_map, zip}
+use Rattle.std.specs.List.{find, position, position_from}
+use Rattle.std.proofs.lemmas.Iterator.Adapters.{position_from-zero}
+use Rattle.std.proofs.lemmas.List.{drop_more}
 use native.Mathlib.Omega.{arith}
-use Rattle.scoring.proofs.ParamsAndArgsLeft.{params_next, params_none}
+use Rattle.scoring.proofs.ParamsAndArgsLeft.{params_none}
 use Rattle.scoring.specs.Inside.Params.{param_here, param_at, place_read, as_place, named_place}
 use Rattle.scoring.specs.Score.{param_named, place_named, unmarked_from}
 use Rattle.symbol.specs.Inside.LookupAnswer.{param_seen, params_in}
 use Rattle.symbol.specs.Symbols.{Param}
 use Rattle.symbol.specs.declared.functions.Param.{Param as Read}
-use Rattle.ty.proofs.Choice.{choose_yes, choose_no}
 use Rattle.ty.specs.Choose.{choose}
 
--- ---- by name: from place j on the answer is that of all
+-- ---- by name: the place is the first where a name is that one
+pub place_positioned : (t : List ℕ) (ps : List Read) (id : ℕ) → as_place (place_named id 0 (params_in t ps)) ≡ position (λ (p : Read). eqb p.name id) ps
+unfolding place_named choose
+place_positioned t ps id = from 0 ps ∙ sym (position_from-zero test ps)
+  where
+    test : Read → Bool
+    test p = eqb p.name id
+
+    from : (j : ℕ) (ps : List Read) → as_place (place_named id j (params_in t ps)) ≡ position_from test j ps
+    from j [] = refl
+    from j (p ∷ ps) = by (eqb p.name id) (let e : suc j ≡ j + 1 = omega arith in rw e (from (j + 1) ps))
+      where
+        by : (b : Bool) → as_place (place_named id (suc j) (params_in t ps)) ≡ position_from test (j + 1) ps
+            → as_place (choose b (some j) (place_named id (suc j) (params_in t ps))) ≡ cond b (Some j) (position_from test (j + 1) ps)
+        by true e = refl
+        by false e = e
+
 module _ (t : List ℕ) (ps : List Read) (id : ℕ) where
-  module _ (j : ℕ) where
-    pub place_turn : (d : Read) → j < length ps → ((get_or ps j d).name ≡ id → ⊥) → place_named id j (params_in t (drop j ps)) ≡ place_named id (j + 1) (params_in t (drop (j + 1) ps))
-    unfolding place_named
-    place_turn d h ne =
-        let f : suc j ≡ j + 1 = omega arith in
-        ap (λ (ps : List Param). place_named id j ps) (params_next t ps j d h)
-        ∙ choose_no _ _ _ (ne_eqb _ _ ne) ∙ ap (λ (k : ℕ). place_named id k (params_in t (drop (j + 1) ps))) f
-
-    pub place_here_lem : (d : Read) → j < length ps → (get_or ps j d).name ≡ id → place_named id j (params_in t (drop j ps)) ≡ some j
-    unfolding place_named
-    place_here_lem d h eq = ap (λ (ps : List Param). place_named id j ps) (params_next t ps j d h) ∙ choose_yes _ _ _ (eq-eqb _ _ eq)
-
-    pub place_none : length ps ≤ j → place_named id j (params_in t (drop j ps)) ≡ none
-    unfolding place_named
-    place_none h = ap (λ (ps : List Param). place_named id j ps) (params_none t ps j h)
-
   -- what stands at that place
   row_param : (n j : ℕ) → n + j ≡ length ps → param_named id (params_in t (drop j ps)) ≡ param_here t (param_at ps (as_place (place_named id j (params_in t (drop j ps)))))
   unfolding place_named param_named choose
@@ -69,24 +70,30 @@ module _ (t : List ℕ) (ps : List Read) (id : ℕ) where
     pub param_named_is : param_named id (params_in t ps) ≡ param_here t (param_at ps r)
     param_named_is = row_param (length ps) 0 (omega arith) ∙ ap (λ (o : Maybe ℕ). param_here t (param_at ps o)) (sym e)
 
--- ---- by mark
-module _ (t : List ℕ) (ps : List Read) (marks : List Bool) (j : ℕ) where
-  pub free_turn : (d : Read) → j < length ps → get_or marks j false ≡ true
-      → unmarked_from j (params_in t (drop j ps)) marks ≡ unmarked_from (j + 1) (params_in t (drop (j + 1) ps)) marks
+-- ---- by mark: of the parameters with their marks, the first without one
+module _ (t : List ℕ) where
+  abbrev unmarked : Read × Bool → Bool
+  unmarked x = not x.1
+
+  abbrev first_free : Maybe (Read × Bool) → Option Param
+  first_free f = param_here t (option_map (λ (x : Read × Bool). x.0) f)
+
+  from : (j : ℕ) (ps : List Read) (marks : List Bool) → j + length ps ≤ length marks
+      → unmarked_from j (params_in t ps) marks ≡ first_free (find unmarked (zip ps (drop j marks)))
+  unfolding unmarked_from choose
+  from j [] marks h = refl
+  from j (p ∷ ps) marks h =
+      let l : j < length marks = omega arith in
+      let e : suc j ≡ j + 1 = omega arith in
+      rw (drop_more marks j false l) (by (get_or marks j false) (rw e (from (j + 1) ps marks (omega arith))))
+    where
+      by : (b : Bool) → unmarked_from (suc j) (params_in t ps) marks ≡ first_free (find unmarked (zip ps (drop (j + 1) marks)))
+          → choose b (unmarked_from (suc j) (params_in t ps) marks) (some (param_seen t p))
+          ≡ first_free (cond (not b) (Some (p, b)) (find unmarked (zip ps (drop (j + 1) marks))))
+      by true e = e
+      by false e = refl
+
+  pub free_found : (ps : List Read) (marks : List Bool) → length ps ≤ length marks → (f : Maybe (Read × Bool))
+      → f ≡ find (λ (x : Read × Bool). not x.1) (zip ps marks) → param_here t (option_map (λ (x : Read × Bool). x.0) f) ≡ unmarked_from 0 (params_in t ps) marks
   unfolding unmarked_from
-  free_turn d h e =
-      let f : suc j ≡ j + 1 = omega arith in
-      ap (λ (ps : List Param). unmarked_from j ps marks) (params_next t ps j d h)
-      ∙ choose_yes _ _ _ e ∙ ap (λ (k : ℕ). unmarked_from k (params_in t (drop (j + 1) ps)) marks) f
-
-  pub free_here : (d : Read) → j < length ps → get_or marks j false ≡ false → unmarked_from j (params_in t (drop j ps)) marks ≡ some (param_seen t (get_or ps j d))
-  unfolding unmarked_from
-  free_here d h e = ap (λ (ps : List Param). unmarked_from j ps marks) (params_next t ps j d h) ∙ choose_no _ _ _ e
-
-  pub free_none : length ps ≤ j → unmarked_from j (params_in t (drop j ps)) marks ≡ none
-  unfolding unmarked_from
-  free_none h = ap (λ (ps : List Param). unmarked_from j ps marks) (params_none t ps j h)
-
-pub ruleset by_name = (place_turn, place_here_lem, place_none)
-
-pub ruleset by_mark = (free_turn, free_here, free_none)
+  free_found ps marks h f e = ap (λ (f : Maybe (Read × Bool)). first_free f) e ∙ sym (from 0 ps marks (omega arith))

@@ -265,14 +265,14 @@ module _ (S : Symbols) (f : Option Param) (v : Bool) (ts : List Ty) (xs : List A
 
 -- ---- both
 -- the passes n and s
-module _ (t : List ℕ) (f : Function) (xs : List Seen) (n : NamedPass) (s : Maybe Score) (e : n ≡ named_in t f.params xs)
-    (g : s ≡ as_score (positional_in t f.params n.marks xs)) where
+module _ (t : List ℕ) (f : Function) (xs : List Seen) (n : NamedPass) (s : Maybe Score) (e : n ≡ named_in t f.params.items xs)
+    (g : s ≡ as_score (positional_in t f.params.items n.marks xs)) where
   pub score_is : (r : Maybe Score) → r ≡ as_score (plus (score_of n.score) (score_of s)) → r ≡ as_score (score_in t f xs)
   unfolding score
   score_is r h =
       h ∙ ap (λ (z : Option ℕ). as_score (plus z (score_of s))) (score_of_lem n.score _ (ap (λ (z : NamedPass). z.score) e))
-      ∙ ap (λ (z : Option ℕ). as_score (plus (named_score (symbols_of t) (params_in t f.params) xs) z))
-      (score_of_lem s _ g ∙ ap (λ (z : NamedPass). positional_in t f.params z.marks xs) e)
+      ∙ ap (λ (z : Option ℕ). as_score (plus (named_score (symbols_of t) (params_in t f.params.items) xs) z))
+      (score_of_lem s _ g ∙ ap (λ (z : NamedPass). positional_in t f.params.items z.marks xs) e)
 
 -- ---- what the functions' proofs take
 pub ruleset comparison = (compared_same, compared_taken, compared_not)
@@ -280,5 +280,7 @@ pub ruleset comparison = (compared_same, compared_taken, compared_not)
 pub ruleset named_one_more = (named_passed, named_added, none_few)
 
 pub ruleset unnamed_one_more = (unnamed_passed, unnamed_added, one_few, vararg_few)
+
+pub ruleset named_whole = (named_start, named_done)
 
 pub ruleset unnamed_whole = (unnamed_start, unnamed_done)

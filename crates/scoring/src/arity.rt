@@ -6,28 +6,19 @@ ghost use Rattle.scoring.specs.Arity.{required as required_of, last_vararg, fits
 use symbol::functions::{Function, Params};
 
 // How many parameters have no default and are not vararg.
-#[tactic(auto, using(crate::proofs::Arities::required_left))]
+#[tactic(auto, using(crate::proofs::Arities::required_counted))]
 fn required(params: &Params) -> usize
-    ensures { (t : List ℕ) → result ≡ required_of (params_in t params.now) }
+    ensures { (t : List ℕ) → result ≡ required_of (params_in t params.now.items) }
 {
-    let mut n: usize = 0;
-    for p in params.items() {
-        if !(p.default || p.vararg) {
-            n += 1;
-        }
-    }
-    n
+    params.iter().filter(|p| !(p.default || p.vararg)).count()
 }
 
 // Whether the last parameter is vararg.
 #[tactic(auto, using(crate::proofs::Arities::last_some, crate::proofs::Arities::last_none))]
 pub fn last_vararg(params: &Params) -> bool
-    ensures { (t : List ℕ) → result ≡ last_vararg (params_in t params.now) }
+    ensures { (t : List ℕ) → result ≡ last_vararg (params_in t params.now.items) }
 {
-    match params.items().last() {
-        Some(p) => p.vararg,
-        None => false,
-    }
+    params.last().is_some_and(|p| p.vararg)
 }
 
 // Whether n arguments are enough and not too many.

@@ -21,7 +21,7 @@ pub struct Score {
 }
 
 // What the named pass hands on: its score, None where an argument does not match, and a mark for each parameter that an argument names. The marks
-// go on by value.
+// stand beside the parameters, which are only lent, and go on by value: document 01 asks for a mark per parameter.
 #[derive(Clone, Copy)]
 pub struct NamedPass {
     pub score: Option<Score>,
@@ -42,42 +42,26 @@ fn add(a: Option<Score>, b: Option<Score>) -> Option<Score>
 }
 
 // The place of the first parameter of a name.
-#[tactic(auto, using(crate::proofs::ParamSearch::by_name))]
 pub fn named_place(params: &Params, id: u16) -> Option<usize>
-    ensures found { (t : List ℕ) → result ≡ named_place t params.now id }
-    ensures below { IfSome result (λ j. (j < length params.now) × (length params.now ≤ 16)) }
+    ensures found { (t : List ℕ) → result ≡ named_place t params.now.items id }
+    ensures below { IfSome result (λ j. (j < length params.now.items) × (length params.now.items ≤ 16)) }
 {
-    let items = params.items();
-    for j in 0..items.len() {
-        if items[j].name == id {
-            return Some(j);
-        }
-    }
-    None
+    params.iter().position(|p| p.name == id)
 }
 
 // The parameter at a place, if there is one.
 fn at_place(params: &Params, place: Option<usize>) -> Option<Param>
-    ensures { result ≡ param_at params.now place }
+    ensures { result ≡ param_at params.now.items place }
 {
-    match place {
-        Some(j) => params.get(j),
-        None => None,
-    }
+    params.as_slice().get(place?).copied()
 }
 
 // The first parameter without a mark.
-#[tactic(auto, using(crate::proofs::ParamSearch::by_mark))]
 fn free_param(params: &Params, marks: [bool; 16]) -> Option<Param>
-    ensures { (t : List ℕ) → param_here t result ≡ unmarked_from 0 (params_in t params.now) marks }
+    ensures { (t : List ℕ) → param_here t result ≡ unmarked_from 0 (params_in t params.now.items) marks }
 {
-    let items = params.items();
-    for j in 0..items.len() {
-        if !marks[j] {
-            return Some(items[j]);
-        }
-    }
-    None
+    let (p, _) = params.iter().zip(&marks).find(|&(_, marked)| !marked)?;
+    Some(*p)
 }
 
 // An argument of the type x against a parameter, and `otherwise` where there is none.
@@ -93,7 +77,7 @@ fn compare(
     let Some(p) = param else {
         return otherwise;
     };
-    let t = area::part(table.bytes(), p.part.start, p.part.len);
+    let t = area::part(table.bytes(), p.part);
     if ty::same_bytes(x, t) {
         return Some(Score { points: 2 });
     }
@@ -129,7 +113,7 @@ fn named_turn(
     m: NamedPass,
 ) -> NamedPass
     requires { points_of m.score ≤ 62 }
-    ensures { result ≡ named_more table.now params.now (optional name) x.now m }
+    ensures { result ≡ named_more table.now params.now.items (optional name) x.now m }
 {
     match name {
         None => m,
@@ -142,17 +126,17 @@ fn named_turn(
     }
 }
 
-// The named pass.
-#[tactic(auto, using(crate::proofs::Scores::named_done))]
+// The named pass. Table, slots and arguments apart, here and below: a struct of the three would be taken apart in each function that it comes to.
+#[tactic(auto, using(crate::proofs::Scores::named_whole))]
 fn named_pass(table: &Table<'_>, params: &Params, slots: &[Slot], args: &Args) -> NamedPass
-    ensures is { result ≡ named_in table.now params.now (args_in slots.now args.now) }
+    ensures is { result ≡ named_in table.now params.now.items (args_in slots.now args.now.items) }
     ensures few { points_of result.score ≤ 64 }
 {
     let mut m = NamedPass {
         score: Some(Score { points: 0 }),
         marks: [false; 16],
     };
-    for a in args.items() {
+    for a in args.iter() {
         m = named_turn(table, params, a.name, type_of(slots, a.node), m);
     }
     m
@@ -191,13 +175,13 @@ fn positional_pass(
     slots: &[Slot],
     args: &Args,
 ) -> Option<Score>
-    ensures is { result ≡ as_score (positional_in table.now params.now marks (args_in slots.now args.now)) }
+    ensures is { result ≡ as_score (positional_in table.now params.now.items marks (args_in slots.now args.now.items)) }
     ensures few { points_of result ≤ 64 }
 {
     let param = free_param(params, marks);
     let v = last_vararg(params);
     let mut score = Some(Score { points: 0 });
-    for a in args.items() {
+    for a in args.iter() {
         score = unnamed_turn(table, param, v, a.name, type_of(slots, a.node), score);
     }
     score
@@ -206,7 +190,7 @@ fn positional_pass(
 // The score of an overload, and none where an argument does not match.
 #[tactic(auto, using(crate::proofs::Scores::score_is))]
 pub fn score_function(table: &Table<'_>, f: &Function, slots: &[Slot], args: &Args) -> Option<Score>
-    ensures { result ≡ as_score (score_in table.now f.now (args_in slots.now args.now)) }
+    ensures { result ≡ as_score (score_in table.now f.now (args_in slots.now args.now.items)) }
 {
     let params = &f.params;
     let named = named_pass(table, params, slots, args);

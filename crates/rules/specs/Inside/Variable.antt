@@ -10,7 +10,7 @@ use Rattle.ty.specs.declared.Part.{Part}
 -- of a function that was looked for, the result type
 abbrev pub function_variable : List ℕ → Found → Option Source
 function_variable table None = None
-function_variable table (Some p) = Some (source.Function (function_at table p).start (function_at table p).len)
+function_variable table (Some p) = Some (source.Function (function_at table p).result)
 
 -- of the first function of an owner and a name
 unfoldable pub function_place : List ℕ → ℕ → ℕ → Option Source
@@ -19,7 +19,7 @@ function_place table owner id = function_variable table (first_place (function_p
 -- of a field that was looked for, or else v
 abbrev pub field_variable : Option Part → Option Source → Option Source
 field_variable None v = v
-field_variable (Some p) v = Some (source.Part p.start p.len)
+field_variable (Some p) v = Some (source.Part p)
 
 -- of the field of an owner and a name, or else of the first function; the law `variable_placed` says that the bytes there are the type of `lookup_var`
 unfoldable pub variable_place : List ℕ → ℕ → ℕ → Option Source

@@ -1,9 +1,6 @@
-use Rattle.scoring.proofs.Scores.{named_start, named_next}
+use Rattle.scoring.proofs.Scores.{named_next}
 use Rattle.scoring.proofs.score.named_pass.Goals as goal
 
-pub loop-a-init : goal.loop-a-init
-loop-a-init c = named_start _ _ _ _
-
 pub loop-a-preserved : goal.loop-a-preserved
-loop-a-preserved c = let e = c.items-a-items.ensures.is in
+loop-a-preserved c = let e = c.deref-a-items.ensures.0 in
     named_next _ _ _ _ _ _ c.loop-a.invariant _ _ _ (rw e at c.loop-a-test.true) (rw e at c.type_of.ensures) (rw e at c.named_turn-m.ensures)

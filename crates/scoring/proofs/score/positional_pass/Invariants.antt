@@ -4,4 +4,4 @@ use Rattle.symbol.specs.Lookup.{symbols_of}
 use Rattle.scoring.proofs.score.positional_pass.Given as goal
 
 abbrev pub invariant-loop-a : goal.invariant-loop-a
-invariant-loop-a l = UnnamedFrom (symbols_of l.table) (param_here l.table l.param) l.v l.slots l.args l.score l.a-index
+invariant-loop-a l = UnnamedFrom (symbols_of l.table) (param_here l.table l.param) l.v l.slots l.args.items l.score l.a-index
