@@ -70,3 +70,6 @@ pub number_most : (s : List ℕ) → IfSome (number_in s) (λ m. m ≤ too_large
 unfolding number_in
 number_most [] = tt
 number_most (b ∷ s) = number_from_most 0 (b ∷ s) (omega arith)
+
+-- the steps of `number_in`
+pub ruleset number_steps = (number_none, number-start, number_bad, number_more, number-done)

@@ -15,6 +15,7 @@ use std::io;
 const TOO_LARGE: u64 = 4_294_967_296;
 
 // The number of which n are the digits before b, a digit.
+#[tactic(auto, unfolding(crate::specs::Argument::more_digits))]
 fn more(n: u64, b: u8) -> u64
     requires { 48 ≤ b }
     ensures { result ≡ more_digits n b }
@@ -25,6 +26,7 @@ fn more(n: u64, b: u8) -> u64
 }
 
 // The number that a text is in decimal.
+#[tactic(auto, using(crate::proofs::Arguments::number_steps))]
 fn number_in(text: &[u8]) -> Option<u64>
     ensures { result ≡ number_in text.now }
 {
@@ -42,6 +44,7 @@ fn number_in(text: &[u8]) -> Option<u64>
 }
 
 // Argument i as a number; one of more than 32 bytes is none.
+#[tactic(auto, using(crate::proofs::Arguments::number_most))]
 fn argument(rt: &impl Env, i: usize) -> Option<u64>
     ensures { IfSome result (λ n. n ≤ too_large) }
 {
@@ -51,6 +54,7 @@ fn argument(rt: &impl Env, i: usize) -> Option<u64>
 }
 
 // Writes the question, or says with which number it is refused; `out` is room for it.
+#[tactic(auto, using(written::proofs::Outputs::len_fits))]
 fn respond(rt: &(impl Print + Eprint), start: u32, nodes: usize, out: &mut [u8]) -> io::Result<()>
     ensures { out.new ≡ lent_after (length out.old) (load_of start nodes (length out.old)) }
 {

@@ -26,6 +26,7 @@ struct Draws {
 
 impl Draws {
     // What a draw of n takes.
+    #[tactic(auto, using(crate::proofs::TreeReturns::wrapped), unfolding(crate::specs::Draw::taken_from))]
     fn draw(&mut self, n: u32) -> u32
         requires { 1 ≤ n }
         ensures stepped { self.new.state ≡ stepped self.old.state }
@@ -40,6 +41,7 @@ impl Draws {
     }
 
     // Whether a node with so many nodes in its tree, at least two, is a binary, else it is a unary.
+    #[tactic(auto, using(crate::proofs::TreeReturns::shape_two))]
     fn draw_binary(&mut self, nodes: usize) -> bool
         ensures { ShapeIs result self.new.state (shape_of nodes self.old.state) }
     {
@@ -57,6 +59,7 @@ fn put_node(kind: NodeKind, what: u32, at: usize, out: &mut [u8])
 }
 
 // Draws a tree of so many nodes and writes it from `at` on as it is drawn.
+#[tactic(auto, using(crate::proofs::DrawnTrees::binary_many))]
 fn write_tree(nodes: usize, draws: &mut Draws, at: usize, out: &mut [u8])
     requires { (1 ≤ nodes) × (nodes ≤ 64) × (at + 2 * nodes ≤ length out.old) }
     ensures { WritesTree nodes draws.old.state at out.old out.new draws.new.state }

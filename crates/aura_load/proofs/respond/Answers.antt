@@ -3,8 +3,5 @@ use Rattle.std.proofs.Math.Seq.{length-take-le}
 use Rattle.written.proofs.Outputs.{len_fits}
 use Rattle.aura_load.proofs.respond.Goals as goal
 
-pub slice_bounds-write_all-end : goal.slice_bounds-write_all-end
-slice_bounds-write_all-end g c = len_fits _ _ _ _ c.in-Ok.ensures.writes
-
 pub slice_bounds-write_all-end-in-Ok : goal.slice_bounds-write_all-end-in-Ok
 slice_bounds-write_all-end-in-Ok g c = sym (length-take-le _ _ (len_fits _ _ _ _ c.in-Ok.ensures.writes))

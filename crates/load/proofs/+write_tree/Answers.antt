@@ -1,5 +1,4 @@
 use Rattle.std.proofs.Common.{refl, sym, ap, ◌∙◌, arith}
-use Rattle.load.proofs.DrawnTrees.{binary_many}
 use Rattle.load.proofs.TreeReturns.{leaf_written, unary_written, binary_written, left_is}
 use Rattle.load.proofs.+write_tree.Goals as goal
 use Rattle.load.specs.Draw.{taken_from, stepped}
@@ -7,9 +6,6 @@ use Rattle.load.specs.Draw.{taken_from, stepped}
 pub returns-then-nodes-eq1 : goal.returns-then-nodes-eq1
 returns-then-nodes-eq1 t c =
     leaf_written _ _ _ _ _ _ c.if-nodes-eq1.true c.draw.ensures.stepped _ c.draw.ensures.taken c.put_node.ensures
-
-pub draw-requires-then-draw_binary-2 : goal.draw-requires-then-draw_binary-2
-draw-requires-then-draw_binary-2 t c = omega (arith, binary_many c.args.nodes c.args.draws.now.state (sym c.if-draw_binary.ensures.answer))
 
 pub returns-then-draw_binary : goal.returns-then-draw_binary
 returns-then-draw_binary t c =
