@@ -10,7 +10,7 @@ use Rattle.question.proofs.QuestionFaults.{failed, some_number, unread_bytes, un
 use Rattle.question.proofs.NodeIds.{same_fault}
 use Rattle.question.specs.Inside.Skip.{skip_from}
 use Rattle.question.specs.Inside.Top.{read_fault}
-use Rattle.question.specs.Inside.Walk.{WalkStep}
+use Rattle.question.specs.Inside.WalkStep.{WalkStep}
 use Rattle.question.specs.Node.{read_of}
 use Rattle.question.specs.Parse.{most_nodes}
 use Rattle.question.specs.NodeRead.{node_at, own_bytes, children}

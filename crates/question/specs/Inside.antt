@@ -1,4 +1,4 @@
 pub mod Top
 pub mod Stands
 pub mod Skip
-pub mod Walk
+pub mod WalkStep

@@ -6,7 +6,7 @@ ghost use Rattle.question.specs.NodeKind.{node_kind_number, NodeKindIs};
 ghost use Rattle.question.specs.NodeRead.{Bad, leaf_of, node_of, node_in, node_at, own_bytes, children as children_of};
 ghost use Rattle.question.specs.Node.{node_read, read_of};
 ghost use Rattle.question.specs.Inside.Skip.{skip_at};
-ghost use Rattle.question.specs.Inside.Walk.{WalkStep};
+ghost use Rattle.question.specs.Inside.WalkStep.{WalkStep};
 ghost use Rattle.question.specs.declared.node.NodeFault.TheVariants.{Bad as BadNode};
 
 use crate::operator::{BinOp, UnOp};

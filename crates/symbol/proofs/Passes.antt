@@ -24,7 +24,7 @@ use Rattle.index.proofs.SearchTrees.{tree_same, tree_start_lem}
 use Rattle.record.specs.Inside.Walk.{start, CursorAt, StepIs, Stands, record_at, before, behind}
 use Rattle.index.specs.Inside.IndexedTable.{IndexRoom, IndexedTable}
 use Rattle.index.specs.Inside.Ahead.{late_size, LateRoom, Looked}
-use Rattle.symbol.specs.Inside.Asked.{kind_before, super_missing_at, Asked, Prepared}
+use Rattle.symbol.specs.Inside.Asked.{number_before, super_missing_at, Asked, Prepared}
 use Rattle.record.specs.Inside.HeadFault.{super_missing, own_fault, key_fault, has_key, last_kind, head_fault, found_from}
 use Rattle.index.specs.Inside.Entered.{Entered}
 use Rattle.record.specs.Inside.Front.{front_of, front_of_head, front_at}
@@ -134,7 +134,7 @@ module _ (t x late : List ℕ) (c : Cursor) (k n : ℕ) (looked : Bool) (g : Goi
       own-front = ap (front_at (drop c.at t)) (sym read) ∙ st.own
 
       -- what the check of a record by itself is told
-      pub going_asked : (o : Option RecordKind) → kind_before o ≡ k → Asked t c h o n
+      pub going_asked : (o : Option RecordKind) → number_before o ≡ k → Asked t c h o n
       going_asked o e = record { stands = stands; kind = e ∙ g.kind; names = g.names }
 
     -- a number

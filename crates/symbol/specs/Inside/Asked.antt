@@ -14,14 +14,14 @@ use Rattle.record.specs.declared.walk.Cursor.{Cursor}
 use Rattle.ty.specs.Choose.{choose}
 
 -- the number of the kind before a record; 0 before the first
-abbrev pub kind_before : Option RecordKind → ℕ
-kind_before None = 0
-kind_before (Some k) = record_kind_number k
+abbrev pub number_before : Option RecordKind → ℕ
+number_before None = 0
+number_before (Some k) = record_kind_number k
 
 -- The whole record h stands at c; k is the kind before it, and n how many names are before it.
 pub record Asked (t : List ℕ) (c : Cursor) (h : Head) (k : Option RecordKind) (n : ℕ) : Type 0 where
   pub stands : Stands t c h
-  pub kind : kind_before k ≡ last_kind (before c.index (records_of t))
+  pub kind : number_before k ≡ last_kind (before c.index (records_of t))
   pub names : n ≡ count_of 1 (before c.index (records_of t))
 
 -- The index has the records before byte e.

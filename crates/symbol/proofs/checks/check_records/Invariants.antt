@@ -4,11 +4,11 @@ use mathlib.Core.Path.{◌≡◌}
 use Rattle.symbol.proofs.IndexMakes.{Making}
 use Rattle.symbol.proofs.LateMakes.{Noting}
 use Rattle.symbol.proofs.Passes.{Going}
-use Rattle.symbol.specs.Inside.Asked.{kind_before}
+use Rattle.symbol.specs.Inside.Asked.{number_before}
 use Rattle.symbol.proofs.checks.check_records.Given as goal
 
 abbrev pub invariant-loop-c : goal.invariant-loop-c
-invariant-loop-c l = (length l.x ≡ length l.initial.x) × (length l.late ≡ length l.initial.late) × Going l.t l.x l.late l.c (kind_before l.kind) l.names l.looked
+invariant-loop-c l = (length l.x ≡ length l.initial.x) × (length l.late ≡ length l.initial.late) × Going l.t l.x l.late l.c (number_before l.kind) l.names l.looked
     × Making l.t l.initial.x l.x l.c × Noting l.t l.initial.late l.late l.c l.looked
 
 abbrev pub decreases-loop-c : goal.decreases-loop-c
