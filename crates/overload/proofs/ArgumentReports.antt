@@ -24,6 +24,10 @@ use Rattle.symbol.specs.Inside.LookupAnswer.{optional, param_seen, params_in}
 use Rattle.symbol.specs.Symbols.{Param, Overload, Symbols}
 use Rattle.symbol.specs.declared.functions.Param.{Param as Read}
 use Rattle.operators.specs.Diag.{diag}
+use Rattle.std.proofs.Common.{zero-add}
+use Rattle.std.proofs.lemmas.List.FromFn.{length-enumerate_from, get_or-enumerate_from}
+use Rattle.std.proofs.lemmas.Slice.Zip.{length-zip, get_or-zip}
+use Rattle.std.specs.List.{zip, enumerate_from}
 use Rattle.ty.proofs.Choice.{by_choice, choose_yes, choose_no}
 use Rattle.ty.specs.Bytes.{Ty}
 
@@ -101,6 +105,37 @@ all_unknown_few (o ∷ os) xs h =
     omega
     (arith, length-append (unknowns o.params 1 xs) (all_unknown os xs), unknowns_few o.params 1 xs, all_unknown_few os xs h)
 
+-- ---- arguments and parameters side by side, with their numbers
+abbrev pub numbered : List Arg → List Read → List (ℕ × (Arg × Read))
+numbered xs ps = enumerate_from 0 (zip xs ps)
+
+pub numbered_length : (xs : List Arg) (ps : List Read) → length (numbered xs ps) ≡ min (length xs) (length ps)
+numbered_length xs ps = length-enumerate_from 0 (zip xs ps) ∙ length-zip xs ps
+
+-- the pair with the number i
+pub record PairAt (xs : List Arg) (ps : List Read) (i : ℕ) (v : ℕ × (Arg × Read)) : Type 0 where
+  pub args : i < length xs
+  pub params : i < length ps
+  pub number : v.0 ≡ i
+  pub arg : v.1.0 ≡ get_or xs i v.1.0
+  pub param : v.1.1 ≡ get_or ps i v.1.1
+
+pub pair_at : (xs : List Arg) (ps : List Read) (i : ℕ) (v : ℕ × (Arg × Read)) → i < length (numbered xs ps) → v ≡ get_or (numbered xs ps) i v → PairAt xs ps i v
+pair_at xs ps i v h e =
+    let few : length (numbered xs ps) ≡ min (length xs) (length ps) = numbered_length xs ps in
+    let g : i < length (zip xs ps) = omega (arith, length-zip xs ps) in
+    let a : i < length xs = omega arith in
+    let b : i < length ps = omega arith in
+    let is : v ≡ (0 + i, (get_or xs i v.1.0, get_or ps i v.1.1))
+    = e ∙ get_or-enumerate_from 0 (zip xs ps) i v g ∙ ap (λ (q : Arg × Read). (0 + i, q)) (get_or-zip xs ps i v.1 a b) in
+    record {
+      args = a;
+      params = b;
+      number = ap (λ (q : ℕ × (Arg × Read)). q.0) is ∙ zero-add i;
+      arg = ap (λ (q : ℕ × (Arg × Read)). q.1.0) is;
+      param = ap (λ (q : ℕ × (Arg × Read)). q.1.1) is;
+    }
+
 -- ---- the check by index
 module _ (S : Symbols) where
   pub mismatch_few : (q : Param) (i : ℕ) (a : Seen) → length (mismatch_one S q i a) ≤ 1
@@ -133,20 +168,22 @@ module _ (S : Symbols) where
     index_start = record { few = omega arith; left = refl }
 
     module _ (b : Reports) (i : ℕ) (w : IndexFrom t ps ts xs b₀ b i) where
-      pub index_turn : (d : Read) (e : Arg) (b₁ : Reports) → i < length xs → i < length ps
-          → b₁ ≡ reported b (mismatch_one S (param_seen t (get_or ps i d)) (i + 1) (seen ts (get_or xs i e))) → IndexFrom t ps ts xs b₀ b₁ (i + 1)
+      pub index_turn : (v : ℕ × (Arg × Read)) (b₁ : Reports) → PairAt xs ps i v
+          → b₁ ≡ reported b (mismatch_one S (param_seen t v.1.1) (v.0 + 1) (seen ts v.1.0)) → IndexFrom t ps ts xs b₀ b₁ (i + 1)
       unfolding mismatches
-      index_turn d e b₁ h g v =
+      index_turn v b₁ at told =
           let f : suc (i + 1) ≡ i + 1 + 1 = omega arith in
-          let p : Param = param_seen t (get_or ps i d) in
-          let x : Seen = seen ts (get_or xs i e) in
+          let p : Param = param_seen t (get_or ps i v.1.1) in
+          let x : Seen = seen ts (get_or xs i v.1.0) in
+          let here : b₁ ≡ reported b (mismatch_one S p (i + 1) x)
+          = told ∙ (λ k. reported b (mismatch_one S (param_seen t (at.param k)) (at.number k + 1) (seen ts (at.arg k)))) in
           record {
-            few = omega (arith, w.few, reported_more b (mismatch_one S p (i + 1) x) v, mismatch_few p (i + 1) x);
+            few = omega (arith, w.few, reported_more b (mismatch_one S p (i + 1) x) here, mismatch_few p (i + 1) x);
             left = reported_then b (mismatch_one S p (i + 1) x) (mismatches S (params_in t (drop (i + 1) ps)) (i + 1 + 1) (args_in ts (drop (i + 1) xs)))
-                (ap (λ (z : List Param). mismatches S z (i + 1) (args_in ts (drop i xs))) (params_next t ps i d g)
-                ∙ ap (λ (z : List Seen). mismatches S (p ∷ params_in t (drop (i + 1) ps)) (i + 1) z) (args_next ts xs i e h)
+                (ap (λ (z : List Param). mismatches S z (i + 1) (args_in ts (drop i xs))) (params_next t ps i v.1.1 at.params)
+                ∙ ap (λ (z : List Seen). mismatches S (p ∷ params_in t (drop (i + 1) ps)) (i + 1) z) (args_next ts xs i v.1.0 at.args)
                 ∙ ap (λ (k : ℕ). mismatch_one S p (i + 1) x ++ mismatches S (params_in t (drop (i + 1) ps)) k (args_in ts (drop (i + 1) xs))) f)
-                v ∙ w.left;
+                here ∙ w.left;
           }
 
       pub index_done : min (length xs) (length ps) ≤ i → b ≡ reported b₀ (mismatches S (params_in t ps) 1 (args_in ts xs))

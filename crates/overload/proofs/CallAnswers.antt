@@ -54,14 +54,14 @@ pub record CalledIs (t : List ℕ) (v : Verdict) (r : Source) : Type 0 where
   pub reads : (ts : List Ty) (node first second : ℕ) → ReadsChildren ts node first second r
 
 -- a result's source, of a function that was read
-pub read_source : (t : List ℕ) (p : Place) (f : Function) → f ≡ function_at t p → Part f.start f.len ≡ result_at t p
-read_source t p f e = ap (λ (g : Function). Part g.start g.len) e
+pub read_source : (t : List ℕ) (p : Place) (f : Function) → f ≡ function_at t p → Part f.result ≡ result_at t p
+read_source t p f e = ap (λ (g : Function). Part g.result) e
 
 -- ---- a tally is settled
 module _ (t : List ℕ) (p : Place) (node : ℕ) (xs : List Arg) (w : Tally) where
   -- something matches
   module _ (h : Highest) (m : w.highest ≡ Some h) where
-    pub source_best : Part h.start h.len ≡ settled_source t p w
+    pub source_best : Part h.result ≡ settled_source t p w
     source_best = sym (ap (λ (z : Maybe Highest). best_source z (choose (eqb w.fitting 1) (result_at t p) error_source)) m)
 
     pub diags_best : tie_report node h.many ≡ settled_diags t p node xs w
@@ -95,6 +95,8 @@ module _ (t : List ℕ) (p : Place) (node : ℕ) (xs : List Arg) (w : Tally) whe
       pub diags_none : diag no_match_diag node 0 ∷ [] ≡ settled_diags t p node xs w
       diags_none = sym (diags_else ∙ choose_no _ _ _ (ne_eqb w.fitting 1 several))
 
+pub ruleset settled = (source_best, diags_best, source_one, diags_one, source_none, diags_none, read_source)
+
 -- ---- what the definition says of the overloads at some places
 -- functions stand where the best one does
 BestStands : List ℕ → BestPlace → Type 0
@@ -116,7 +118,7 @@ module _ (t : List ℕ) where
       let s = score (symbols_of t) (overload_at t p) xs in chosen_stands (better_place b p s) ps xs (better_stands b p s v w.0) w.1
 
   -- the bytes of a result
-  result_is : (p : Place) → FunctionAt t p → take (function_at t p).len (drop (function_at t p).start t) ≡ (overload_at t p).result
+  result_is : (p : Place) → FunctionAt t p → take (function_at t p).result.len (drop (function_at t p).result.start t) ≡ (overload_at t p).result
   result_is p h = ap (λ (o : Overload). o.result) (function_at-read t p h).same
 
 module _ (t : List ℕ) (node : ℕ) (xs : List Arg) (own : Bool) where

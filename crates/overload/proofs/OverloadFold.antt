@@ -28,32 +28,33 @@ use Rattle.symbol.specs.Lookup.{symbols_of}
 use Rattle.symbol.specs.Symbols.{Overload}
 use Rattle.ty.proofs.Choice.{by_choice, choose_yes, choose_no}
 use Rattle.ty.specs.Choose.{choose}
+use Rattle.ty.specs.declared.Part.{Part}
 
 -- ---- the highest score, by the tests of the code
-module _ (start len : ℕ) (h : Maybe Highest) (s : Maybe Score) where
-  pub higher_none : s ≡ None → h ≡ higher_with start len (score_of s) h
+module _ (found : Part) (h : Maybe Highest) (s : Maybe Score) where
+  pub higher_none : s ≡ None → h ≡ higher_with found (score_of s) h
   unfolding higher_with
-  higher_none e = sym (ap (λ (z : Maybe Score). higher_with start len (score_of z) h) e)
+  higher_none e = sym (ap (λ (z : Maybe Score). higher_with found (score_of z) h) e)
 
   module _ (p : Score) (e : s ≡ Some p) where
-    pub higher_first : h ≡ None → Some (highest_one start len p.points) ≡ higher_with start len (score_of s) h
+    pub higher_first : h ≡ None → Some (highest_one found p.points) ≡ higher_with found (score_of s) h
     unfolding higher_with
-    higher_first m = sym (λ i. higher_with start len (score_of (e i)) (m i))
+    higher_first m = sym (λ i. higher_with found (score_of (e i)) (m i))
 
     module _ (b : Highest) (m : h ≡ Some b) where
-      higher_both : higher_with start len (score_of s) h ≡ choose (ltb b.score p.points) (Some (highest_one start len p.points))
+      higher_both : higher_with found (score_of s) h ≡ choose (ltb b.score p.points) (Some (highest_one found p.points))
           (choose (eqb b.score p.points) (Some (highest_more b)) (Some b))
       unfolding higher_with
-      higher_both = λ i. higher_with start len (score_of (e i)) (m i)
+      higher_both = λ i. higher_with found (score_of (e i)) (m i)
 
-      pub higher_more : b.score < p.points → Some (highest_one start len p.points) ≡ higher_with start len (score_of s) h
+      pub higher_more : b.score < p.points → Some (highest_one found p.points) ≡ higher_with found (score_of s) h
       higher_more g = sym (higher_both ∙ choose_yes _ _ _ (lt-ltb _ _ g))
 
       module _ (g : p.points ≤ b.score) where
-        pub higher_same : b.score ≡ p.points → Some (highest_more b) ≡ higher_with start len (score_of s) h
+        pub higher_same : b.score ≡ p.points → Some (highest_more b) ≡ higher_with found (score_of s) h
         higher_same d = sym (higher_both ∙ choose_no _ _ _ (le-ltb _ _ g) ∙ choose_yes _ _ _ (eq-eqb _ _ d))
 
-        pub higher_less : (b.score ≡ p.points → ⊥) → h ≡ higher_with start len (score_of s) h
+        pub higher_less : (b.score ≡ p.points → ⊥) → h ≡ higher_with found (score_of s) h
         higher_less d = m ∙ sym (higher_both ∙ choose_no _ _ _ (le-ltb _ _ g) ∙ choose_no _ _ _ (ne_eqb _ _ d))
 
 pub ruleset higher_by_test = (higher_none, higher_first, higher_more, higher_same, higher_less)
@@ -62,16 +63,16 @@ pub ruleset higher_by_test = (higher_none, higher_first, higher_more, higher_sam
 module _ (t : List ℕ) where
   -- it is kept as the best of the places is
   pub higher_best : (b : BestPlace) (p : Place) (s : Option ℕ)
-      → higher_with (function_at t p).start (function_at t p).len s (highest_at t b) ≡ highest_at t (better_place b p s)
+      → higher_with (function_at t p).result s (highest_at t b) ≡ highest_at t (better_place b p s)
   unfolding higher_with highest_at better_place choose
   higher_best b p none = refl
   higher_best nowhere p (some s) = refl
   higher_best (best_at h first n) p (some s) = go (ltb h s) (eqb h s)
     where
       r : Highest
-      r = record { score = h; many = n; start = (function_at t first).start; len = (function_at t first).len }
+      r = record { score = h; many = n; result = (function_at t first).result }
 
-      go : (l e : Bool) → choose l (Some (highest_one (function_at t p).start (function_at t p).len s)) (choose e (Some (highest_more r)) (Some r))
+      go : (l e : Bool) → choose l (Some (highest_one (function_at t p).result s)) (choose e (Some (highest_more r)) (Some r))
           ≡ highest_at t (choose l (best_at s p 1) (choose e (best_at h first (suc n)) (best_at h first n)))
       go true e = refl
       go false true = let k : n + 1 ≡ suc n = omega arith in ap (λ (m : ℕ). highest_at t (best_at h first m)) k

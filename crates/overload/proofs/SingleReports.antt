@@ -8,24 +8,25 @@ use mathlib.Core.Option.{Option, none, some}
 use mathlib.Core.Path.{◌≡◌, refl, sym, ap, ◌∙◌}
 use native.Mathlib.Omega.{arith}
 use Rattle.area.specs.Diagnostic.{Diag}
-use Rattle.std.specs.Prelude.{Option as Maybe, is_some}
+use Rattle.std.specs.Prelude.{Option as Maybe, Some, None, is_some}
+use Rattle.std.specs.Option.{MatchOption}
 use Rattle.overload.proofs.ArgumentReports.{reported_as}
 use Rattle.scoring.specs.Arg.{Arg}
 use Rattle.overload.specs.Before.{suspend_allowed, suspend_report, method_reports}
 use Rattle.overload.specs.ByIndex.{absent, unknown_one, passes_by_index, mismatch_one}
 use Rattle.scoring.specs.Inside.Params.{as_place, named_place}
-use Rattle.symbol.specs.Inside.LookupAnswer.{params_in}
+use Rattle.symbol.specs.Inside.LookupAnswer.{optional, params_in}
 use Rattle.symbol.specs.declared.functions.Param.{Param as Read}
 use Rattle.overload.specs.Inside.DiagIf.{diag_if, missing, unknown}
 use Rattle.area.proofs.Reporting.{reported_both, reported_more}
 use Rattle.area.specs.Reported.{reported}
 use Rattle.area.specs.declared.reports.Reports.{Reports}
-use Rattle.overload.specs.Resolve.{none_fits, tie_report}
+use Rattle.overload.specs.Resolve.{tie_report}
 use Rattle.scoring.specs.Score.{param_named, place_named}
 use Rattle.question.specs.declared.Header.{Header}
 use Rattle.rules.specs.Access.{blocked, access_report}
 use Rattle.operators.specs.Diag.{diag, reported_at as at}
-use Rattle.area.specs.DiagnosticKind.{suspend_diag, unknown_name_diag, mismatch_diag, argument_count_diag, tie_diag, access_diag}
+use Rattle.area.specs.DiagnosticKind.{suspend_diag, unknown_name_diag, mismatch_diag, tie_diag, access_diag}
 use Rattle.operators.specs.Out.{Report, report, unless}
 use Rattle.symbol.specs.Symbols.{Param, Symbols}
 use Rattle.ty.proofs.Choice.{by_choice}
@@ -56,6 +57,13 @@ unknown_named t ps id r e b d = go b (place_named id 0 (params_in t ps)) (sym (a
     go true (some j) d f = absurd (true≢false d)
     go false (some j) d f = sym f
 
+-- by `is_some_and`
+pub unknown_by : (t : List ℕ) (ps : List Read) (m : Maybe ℕ) (Q : ℕ → Type 0) (b : Bool) → MatchOption m (b ≡ false) Q
+    → ((id : ℕ) → Q id → is_some (named_place t ps id) ≡ not b) → b ≡ unknown (optional m) (params_in t ps)
+unfolding unknown
+unknown_by t ps None Q b w f = w
+unknown_by t ps (Some id) Q b w f = unknown_named t ps id _ refl b (f id w)
+
 pub unknown_told : (b : Bool) (m : Option ℕ) (ps : List Param) (i n : ℕ) → b ≡ unknown m ps → diag_if b unknown_name_diag n i ≡ unknown_one m ps i n
 unfolding diag_if unknown missing unknown_one absent choose
 unknown_told b none ps i n e = ap (λ (z : Bool). diag_if z unknown_name_diag n i) e
@@ -72,10 +80,6 @@ mismatch_told S p i a true e = ap (λ (z : Bool). choose z [] (diag mismatch_dia
 mismatch_told S p i a false e = ap (λ (z : Bool). choose z [] (diag mismatch_diag a.node i ∷ [])) e
 
 -- ---- a call
-pub none_told : (own : Bool) (node n : ℕ) → diag_if own argument_count_diag node n ≡ (none_fits own node n).diags
-unfolding diag_if none_fits
-none_told own node n = refl
-
 pub tie_told : (node many : ℕ) → diag_if (ltb 1 many) tie_diag node many ≡ tie_report node many
 unfolding diag_if tie_report
 tie_told node many = refl

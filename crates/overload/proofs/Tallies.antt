@@ -11,7 +11,12 @@ use Rattle.area.proofs.Reporting.{reported_none, reported_more}
 use Rattle.area.specs.Diagnostic.{count_limit}
 use Rattle.area.specs.Reported.{reported}
 use Rattle.area.specs.declared.reports.Reports.{Reports}
-use Rattle.overload.proofs.OverloadFold.{higher_best, chosen_snoc, chosen_few, unknown_one_lem}
+use Rattle.scoring.specs.Arity.{fits}
+use Rattle.symbol.proofs.FunctionsRead.{read_is}
+use Rattle.index.specs.Inside.Found.{FunctionAt}
+use mathlib.Core.Bool.{Bool, true, false, ◌&&◌}
+use Rattle.overload.specs.Inside.Picked.{taken}
+use Rattle.overload.proofs.OverloadFold.{taken_not, taken-fits, taken_other, higher_best, chosen_snoc, chosen_few, unknown_one_lem}
 use Rattle.overload.proofs.ArgumentReports.{all_unknown_few, reported_as}
 use Rattle.scoring.specs.Arg.{Arg}
 use Rattle.overload.specs.ByIndex.{all_unknown}
@@ -29,15 +34,29 @@ use Rattle.symbol.specs.Lookup.{symbols_of}
 use Rattle.symbol.specs.Symbols.{Overload}
 use Rattle.symbol.specs.declared.functions.Function.{Function}
 
+-- ---- one more function of the list, which was read as f: it is taken or not, by the tests of the code
+module _ (t : List ℕ) (k : Bool) (n : ℕ) (p : Place) (at : FunctionAt t p) (f : Function) (e : f ≡ function_at t p) where
+  same : overload_at t p ≡ overload_in t f
+  same = sym (read_is t p at f e).same
+
+  pub turn_builtin : (k && f.builtin) ≡ true → taken t k n p ≡ []
+  turn_builtin h = taken_not t k n p (ap (λ (o : Overload). k && o.builtin) same ∙ h)
+
+  pub turn_other : (k && f.builtin) ≡ false → fits n (overload_in t f) ≡ false → taken t k n p ≡ []
+  turn_other h g = taken_other t k n p (ap (λ (o : Overload). k && o.builtin) same ∙ h) (ap (λ (o : Overload). fits n o) same ∙ g)
+
+  pub turn_fits : (k && f.builtin) ≡ false → fits n (overload_in t f) ≡ true → taken t k n p ≡ p ∷ []
+  turn_fits h g = taken-fits t k n p (ap (λ (o : Overload). k && o.builtin) same ∙ h) (ap (λ (o : Overload). fits n o) same ∙ g)
+
 module _ (t : List ℕ) (xs : List Arg) where
   -- ---- one overload that fits, at the place p, which was read as f
   pub tally_taken : (w : Tally) (p : Place) (f : Function) → f ≡ function_at t p → overload_in t f ≡ overload_at t p → (q : Found) (s : Option ℕ) (h : Maybe Highest)
-      → q ≡ option_or w.first (Some p) → s ≡ score (symbols_of t) (overload_in t f) xs → h ≡ higher_with f.start f.len s w.highest
+      → q ≡ option_or w.first (Some p) → s ≡ score (symbols_of t) (overload_in t f) xs → h ≡ higher_with f.result s w.highest
       → ◌≡◌ {A = Tally} (record { first = q; fitting = w.fitting + 1; highest = h }) (tally_with t xs w p)
   tally_taken w p f e same q s h first scored higher =
-      let high : h ≡ higher_with (function_at t p).start (function_at t p).len (score (symbols_of t) (overload_at t p) xs) w.highest
-      = higher ∙ ap (λ (z : Option ℕ). higher_with f.start f.len z w.highest) (scored ∙ ap (λ (o : Overload). score (symbols_of t) o xs) same)
-      ∙ ap (λ (g : Function). higher_with g.start g.len (score (symbols_of t) (overload_at t p) xs) w.highest) e in
+      let high : h ≡ higher_with (function_at t p).result (score (symbols_of t) (overload_at t p) xs) w.highest
+      = higher ∙ ap (λ (z : Option ℕ). higher_with f.result z w.highest) (scored ∙ ap (λ (o : Overload). score (symbols_of t) o xs) same)
+      ∙ ap (λ (g : Function). higher_with g.result (score (symbols_of t) (overload_at t p) xs) w.highest) e in
       λ i. record { first = first i; fitting = w.fitting + 1; highest = high i }
 
   -- none or one of them, at the places us
@@ -93,3 +112,5 @@ module _ (t : List ℕ) (xs : List Arg) where
         many = omega (arith, chosen_few t nowhere ps xs);
         count = omega (arith, reported_more b₀ (all_unknown_at t ps xs) f, all_unknown_few (map (overload_at t) ps) xs short, length-map ps (overload_at t));
       }
+
+pub ruleset turned = (tally_none, told_none, tally_one, told_one, turn_builtin, turn_other, turn_fits)

@@ -1,5 +1,6 @@
 // A call of a list of functions.
-ghost use Rattle.std.specs.Prelude.{◌+◌, ◌≤◌, ◌<◌, ◌≡◌, length};
+ghost use Rattle.std.specs.Prelude.{◌+◌, ◌≤◌, ◌<◌, ◌≡◌};
+ghost use Rattle.arrayvec.specs.ArrayVec.{array_vec_len};
 ghost use Rattle.area.specs.Diagnostic.{count_limit};
 ghost use Rattle.area.specs.Reported.{reported};
 ghost use Rattle.index.specs.Inside.Found.{FunctionAt};
@@ -9,6 +10,7 @@ ghost use Rattle.symbol.specs.Inside.FunctionFields.{function_at};
 ghost use Rattle.scoring.specs.Arity.{any_own};
 ghost use Rattle.scoring.specs.Inside.Args.{args_in};
 ghost use Rattle.scoring.specs.Inside.Scored.{score_of};
+ghost use Rattle.ty.specs.Name.{id_number};
 ghost use Rattle.overload.specs.Resolve.{none_fits};
 ghost use Rattle.overload.specs.Inside.Picked.{taken, picked_in};
 ghost use Rattle.overload.specs.Inside.BestPlace.{error_source};
@@ -26,15 +28,14 @@ use scoring::arity::viable;
 use scoring::score::{Score, score_function};
 use symbol::functions::{Function, is_builtin_function, read_function};
 use symbol::lookups::Functions;
-use ty::Kind;
+use ty::{Kind, Part};
 
 // The highest score so far: how many have it, and where the result of the first of them lies in the table.
 #[derive(Clone, Copy)]
 pub struct Highest {
     pub score: usize,
     pub many: usize,
-    pub start: usize,
-    pub len: usize,
+    pub result: Part,
 }
 
 // What the walk over a function list keeps: the first overload that fits in number, how many fit, and the highest score, if anything matches.
@@ -46,8 +47,9 @@ pub struct Tally {
 }
 
 // Whether a function of the list is not a builtin.
-fn any_own(table: &Table<'_>, owner: u16, id: u16) -> bool
-    ensures { result ≡ any_own ((symbols_of table.now).functions_of owner id) }
+#[tactic(auto, using(crate::proofs::FunctionListWalk::own_start, crate::proofs::FunctionListWalk::own_on))]
+fn any_own(table: &Table<'_>, owner: Option<u16>, id: u16) -> bool
+    ensures { result ≡ any_own ((symbols_of table.now).functions_of (id_number owner) id) }
 {
     let bytes = table.bytes();
     let mut c = Functions::first(table, owner, id);
@@ -60,11 +62,11 @@ fn any_own(table: &Table<'_>, owner: u16, id: u16) -> bool
     false
 }
 
-// The highest score once one more overload has its score, if it matches. Its result lies in the table from start on.
+// The highest score once one more overload has its score, if it matches. Its result lies in the table.
 #[tactic(auto, using(crate::proofs::OverloadFold::higher_by_test))]
-fn higher(h: Option<Highest>, start: usize, len: usize, s: Option<Score>) -> Option<Highest>
+fn higher(h: Option<Highest>, found: Part, s: Option<Score>) -> Option<Highest>
     requires { many_of h ≤ 60000 }
-    ensures { result ≡ higher_with start len (score_of s) h }
+    ensures { result ≡ higher_with found (score_of s) h }
 {
     let Some(s) = s else {
         return h;
@@ -72,8 +74,7 @@ fn higher(h: Option<Highest>, start: usize, len: usize, s: Option<Score>) -> Opt
     let first = Some(Highest {
         score: s.points,
         many: 1,
-        start,
-        len,
+        result: found,
     });
     let Some(best) = h else {
         return first;
@@ -90,6 +91,10 @@ fn higher(h: Option<Highest>, start: usize, len: usize, s: Option<Score>) -> Opt
     h
 }
 
+// What is asked here and below is in no type: that a function stands at p, since a place by itself is of no table; and room for what is reported, since its
+// bound goes by the number of nodes. table, slots and args stand apart, as scoring takes them: a struct of the three would be made once, and opened in each
+// function.
+
 // One more overload, which fits: its unknown names are reported, and it is scored.
 fn take_one(
     table: &Table<'_>,
@@ -101,19 +106,20 @@ fn take_one(
     reports: &mut Reports<'_>,
 ) -> Tally
     requires { FunctionAt table.now p × (f.now ≡ function_at table.now p) × Room w reports.old }
-    ensures tally { result ≡ tally_with table.now (args_in slots.now args.now) w p }
-    ensures reports { reports.new ≡ reported reports.old (unknowns_at table.now p (args_in slots.now args.now)) }
+    ensures tally { result ≡ tally_with table.now (args_in slots.now args.now.items) w p }
+    ensures reports { reports.new ≡ reported reports.old (unknowns_at table.now p (args_in slots.now args.now.items)) }
 {
     unknown_names(&f.params, args, reports);
     let score = score_function(table, f, slots, args);
     Tally {
         first: w.first.or(Some(p)),
         fitting: w.fitting + 1,
-        highest: higher(w.highest, f.start, f.len, score),
+        highest: higher(w.highest, f.result, score),
     }
 }
 
 // One more function of the list, with n arguments. own: builtins drop out.
+#[tactic(auto, using(crate::proofs::Tallies::turned))]
 fn turn(
     table: &Table<'_>,
     own: bool,
@@ -126,8 +132,8 @@ fn turn(
     reports: &mut Reports<'_>,
 ) -> Tally
     requires { FunctionAt table.now p × (f.now ≡ function_at table.now p) × Room w reports.old }
-    ensures tally { result ≡ tally_more table.now (args_in slots.now args.now) w (taken table.now own n p) }
-    ensures reports { reports.new ≡ reported reports.old (all_unknown_at table.now (taken table.now own n p) (args_in slots.now args.now)) }
+    ensures tally { result ≡ tally_more table.now (args_in slots.now args.now.items) w (taken table.now own n p) }
+    ensures reports { reports.new ≡ reported reports.old (all_unknown_at table.now (taken table.now own n p) (args_in slots.now args.now.items)) }
 {
     if own & f.builtin {
         return w;
@@ -138,20 +144,21 @@ fn turn(
     w
 }
 
-// The walk over the list.
+// The walk over the list. own goes down the walk as a flag: a test handed on as a closure would hold it too.
+#[tactic(auto, using(crate::proofs::FunctionListWalk::walk_start, crate::proofs::FunctionListWalk::walk_on))]
 fn walk(
     table: &Table<'_>,
     own: bool,
-    owner: u16,
+    owner: Option<u16>,
     id: u16,
     slots: &[Slot],
     args: &Args,
     reports: &mut Reports<'_>,
 ) -> Tally
     requires { reports.old.count + most_diagnostics ≤ count_limit }
-    ensures tally { result ≡ tally_of table.now (args_in slots.now args.now) (picked_in table.now own (length args.now) owner id) }
+    ensures tally { result ≡ tally_of table.now (args_in slots.now args.now.items) (picked_in table.now own (array_vec_len args.now) (id_number owner) id) }
     ensures reports { reports.new ≡ reported reports.old
-        (all_unknown_at table.now (picked_in table.now own (length args.now) owner id) (args_in slots.now args.now)) }
+        (all_unknown_at table.now (picked_in table.now own (array_vec_len args.now) (id_number owner) id) (args_in slots.now args.now.items)) }
     ensures room { Room result reports.new }
     ensures clean { table_fault table.now ≡ 0 }
 {
@@ -172,6 +179,7 @@ fn walk(
 }
 
 // A call of functions of which none fits in number.
+#[tactic(auto, unfolding(crate::specs::Inside::DiagIf::diag_if, crate::specs::Resolve::none_fits))]
 fn none_fits(own: bool, node: usize, n: usize, reports: &mut Reports<'_>) -> Source
     requires { reports.old.count < count_limit }
     ensures source { result ≡ error_source }
@@ -182,6 +190,7 @@ fn none_fits(own: bool, node: usize, n: usize, reports: &mut Reports<'_>) -> Sou
 }
 
 // A call of functions of which at least one fits in number, the first of them being at p.
+#[tactic(auto, using(crate::proofs::CallAnswers::settled), unfolding(crate::specs::Inside::DiagIf::diag_if, crate::specs::Resolve::tie_report))]
 fn settle(
     table: &Table<'_>,
     p: Place,
@@ -193,32 +202,27 @@ fn settle(
 ) -> Source
     requires { FunctionAt table.now p × Room w reports.old }
     ensures source { result ≡ settled_source table.now p w }
-    ensures reports { reports.new ≡ reported reports.old (settled_diags table.now p node (args_in slots.now args.now) w) }
+    ensures reports { reports.new ≡ reported reports.old (settled_diags table.now p node (args_in slots.now args.now.items) w) }
 {
     if let Some(best) = w.highest {
         report_if(1 < best.many, DiagnosticKind::Tie, node, best.many, reports);
-        return Source::Part {
-            start: best.start,
-            len: best.len,
-        };
+        return Source::Part(best.result);
     }
     if w.fitting == 1 {
         let f = read_function(table.bytes(), p);
         by_index(table, &f.params, slots, args, reports);
-        return Source::Part {
-            start: f.start,
-            len: f.len,
-        };
+        return Source::Part(f.result);
     }
+    // Every diagnostic of an answer has a number: 0 where its kind has nothing to count.
     reports.report(DiagnosticKind::NoMatch, node, 0);
     Source::Kind(Kind::Error)
 }
 
-// The call at a node of the functions of an owner and a name, once its arguments are judged: where its type comes from. No owner is NameId::NONE. The types
-// of the arguments lie in their slots.
+// The call at a node of the functions of an owner, if there is one, and a name, once its arguments are judged: where its type comes from. The types of the
+// arguments lie in their slots.
 pub fn check_call_args(
     table: &Table<'_>,
-    owner: u16,
+    owner: Option<u16>,
     id: u16,
     node: usize,
     slots: &[Slot],
@@ -226,8 +230,8 @@ pub fn check_call_args(
     reports: &mut Reports<'_>,
 ) -> Source
     requires { reports.old.count + most_diagnostics ≤ count_limit }
-    ensures source { result ≡ call_source table.now owner id (args_in slots.now args.now) }
-    ensures reports { reports.new ≡ reported reports.old (call_at table.now owner id node slots.now args.now).diags }
+    ensures source { result ≡ call_source table.now (id_number owner) id (args_in slots.now args.now.items) }
+    ensures reports { reports.new ≡ reported reports.old (call_at table.now (id_number owner) id node slots.now args.now.items).diags }
 {
     let own = any_own(table, owner, id);
     let w = walk(table, own, owner, id, slots, args, reports);

@@ -20,7 +20,9 @@ use scoring::score::named_place;
 use symbol::functions::Params;
 use ty::Kind;
 
-// A diagnostic, where a test holds.
+// A diagnostic, where a test holds. The test stands beside what it reports: an Option of that would be made from the test and opened at once. Room is asked,
+// here and below, since the bound of what is reported goes by the number of nodes, which no type here knows.
+#[tactic(auto, using(crate::proofs::ArgumentReports::reported_yes, crate::proofs::ArgumentReports::reported_no))]
 pub fn report_if(
     test: bool,
     kind: DiagnosticKind,
@@ -38,22 +40,17 @@ pub fn report_if(
 
 // Whether an argument has a name that no parameter has.
 fn unknown(params: &Params, name: Option<u16>) -> bool
-    ensures { (t : List ℕ) → result ≡ unknown (optional name) (params_in t params.now) }
+    ensures { (t : List ℕ) → result ≡ unknown (optional name) (params_in t params.now.items) }
 {
-    match name {
-        None => false,
-        Some(id) => named_place(params, id).is_none(),
-    }
+    name.is_some_and(|id| named_place(params, id).is_none())
 }
 
 // The unknown names among a call's arguments.
 pub fn unknown_names(params: &Params, args: &Args, reports: &mut Reports<'_>)
     requires { reports.old.count + 16 ≤ count_limit }
-    ensures { (t : List ℕ) (ts : List Ty) → reports.new ≡ reported reports.old (unknowns (params_in t params.now) 1 (args_in ts args.now)) }
+    ensures { (t : List ℕ) (ts : List Ty) → reports.new ≡ reported reports.old (unknowns (params_in t params.now.items) 1 (args_in ts args.now.items)) }
 {
-    let items = args.items();
-    for i in 0..items.len() {
-        let x = items[i];
+    for (i, x) in args.as_slice().iter().enumerate() {
         let test = unknown(params, x.name);
         report_if(test, DiagnosticKind::UnknownName, x.node, i + 1, reports);
     }
@@ -69,7 +66,7 @@ fn passes_by_index(table: &Table<'_>, p: &[u8], x: &[u8], vararg: bool) -> bool
         || ty::is_kind(x, Kind::Any)
 }
 
-// The check by index: each argument against the parameter at its place, as far as there are both.
+// The check by index: each argument against the parameter at its place, as far as there are both. For table, slots and args apart see calls.rt.
 pub fn by_index(
     table: &Table<'_>,
     params: &Params,
@@ -78,14 +75,13 @@ pub fn by_index(
     reports: &mut Reports<'_>,
 )
     requires { reports.old.count + 16 ≤ count_limit }
-    ensures { reports.new ≡ reported reports.old (mismatches (symbols_of table.now) (params_in table.now params.now) 1 (args_in slots.now args.now)) }
+    ensures { reports.new ≡ reported reports.old
+        (mismatches (symbols_of table.now) (params_in table.now params.now.items) 1 (args_in slots.now args.now.items)) }
 {
-    let ps = params.items();
-    let xs = args.items();
-    for i in 0..xs.len().min(ps.len()) {
-        let p = ps[i];
-        let x = xs[i];
-        let t = area::part(table.bytes(), p.part.start, p.part.len);
+    let xs = args.as_slice();
+    let ps = params.as_slice();
+    for (i, (x, p)) in xs.iter().zip(ps).enumerate() {
+        let t = area::part(table.bytes(), p.part);
         let passes = passes_by_index(table, t, type_of(slots, x.node), p.vararg);
         report_if(!passes, DiagnosticKind::Mismatch, x.node, i + 1, reports);
     }

@@ -33,7 +33,7 @@ chosen_at t ps xs = chosen_from t nowhere ps xs
 
 -- where the result of the function at a place lies
 abbrev pub result_at : List ℕ → Place → Source
-result_at t p = Part (function_at t p).start (function_at t p).len
+result_at t p = Part (function_at t p).result
 
 -- Error
 abbrev pub error_source : Source

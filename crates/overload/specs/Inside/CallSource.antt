@@ -26,7 +26,7 @@ use Rattle.overload.specs.declared.calls.Tally.{Tally}
 -- by the highest score, if anything matches
 abbrev pub best_source : Maybe Highest → Source → Source
 best_source None s = s
-best_source (Some h) s = Part h.start h.len
+best_source (Some h) s = Part h.result
 
 abbrev pub best_diags : ℕ → Maybe Highest → List Diag → List Diag
 best_diags node None ds = ds

@@ -3,6 +3,7 @@ use Rattle.std.specs.Prelude.{ℕ, ◌+◌, ◌≤◌, List, [], ◌∷◌, map,
 use Rattle.std.specs.Option.{option_or}
 use Rattle.std.proofs.Math.Option.{Option, none, some}
 use Rattle.ty.specs.Choose.{choose}
+use Rattle.ty.specs.declared.Part.{Part}
 use Rattle.symbol.specs.Lookup.{symbols_of}
 use Rattle.symbol.specs.Inside.LookupAnswer.{overload_at}
 use Rattle.symbol.specs.Inside.FunctionFields.{function_at}
@@ -27,22 +28,22 @@ many_of (Some h) = h.many
 -- the best of some overloads, as it is kept
 unfoldable pub highest_at : List ℕ → BestPlace → Maybe Highest
 highest_at t nowhere = None
-highest_at t (best_at s p n) = Some (record { score = s; many = n; start = (function_at t p).start; len = (function_at t p).len })
+highest_at t (best_at s p n) = Some (record { score = s; many = n; result = (function_at t p).result })
 
--- one overload has the score s; its result is len bytes of the table from start on
-abbrev pub highest_one : ℕ → ℕ → ℕ → Highest
-highest_one start len s = record { score = s; many = 1; start = start; len = len }
+-- one overload has the score s; r is where its result lies
+abbrev pub highest_one : Part → ℕ → Highest
+highest_one r s = record { score = s; many = 1; result = r }
 
 -- one more has the highest score
 abbrev pub highest_more : Highest → Highest
-highest_more h = record { score = h.score; many = h.many + 1; start = h.start; len = h.len }
+highest_more h = record { score = h.score; many = h.many + 1; result = h.result }
 
--- the highest score h once one more overload has its score, if any; its result is len bytes of the table from start on
-unfoldable pub higher_with : ℕ → ℕ → Option ℕ → Maybe Highest → Maybe Highest
-higher_with start len none h = h
-higher_with start len (some s) None = Some (highest_one start len s)
-higher_with start len (some s) (Some h) =
-    choose (ltb h.score s) (Some (highest_one start len s)) (choose (eqb h.score s) (Some (highest_more h)) (Some h))
+-- the highest score h once one more overload has its score, if any; r is where its result lies
+unfoldable pub higher_with : Part → Option ℕ → Maybe Highest → Maybe Highest
+higher_with r none h = h
+higher_with r (some s) None = Some (highest_one r s)
+higher_with r (some s) (Some h) =
+    choose (ltb h.score s) (Some (highest_one r s)) (choose (eqb h.score s) (Some (highest_more h)) (Some h))
 
 -- ---- the tally
 
@@ -59,7 +60,7 @@ tally_with t xs w p =
     record {
       first = option_or w.first (Some p);
       fitting = w.fitting + 1;
-      highest = higher_with (function_at t p).start (function_at t p).len (score (symbols_of t) (overload_at t p) xs) w.highest;
+      highest = higher_with (function_at t p).result (score (symbols_of t) (overload_at t p) xs) w.highest;
     }
 
 -- and once those at some places are

@@ -1,8 +1,5 @@
-use Rattle.overload.proofs.FunctionListWalk.{own_start, own_none, own_found, own_stands, own_on, own_less}
+use Rattle.overload.proofs.FunctionListWalk.{own_none, own_found, own_stands, own_less}
 use Rattle.overload.proofs.calls.any_own.Goals as goal
-
-pub loop-p-init : goal.loop-p-init
-loop-p-init c = own_start _ c.bytes-bytes.ensures.clean _ _ _ c.first-c.ensures
 
 pub returns : goal.returns
 returns c = own_none _ c.bytes-bytes.ensures.clean _ _ _ c.loop-p.invariant _ c.found.ensures c.in_default.is
@@ -16,7 +13,3 @@ next-c-requires c = own_stands _ c.bytes-bytes.ensures.clean _ _ _ c.loop-p.inva
 
 pub loop-p-smaller : goal.loop-p-smaller
 loop-p-smaller c = own_less _ c.bytes-bytes.ensures.clean _ _ _ c.loop-p.invariant _ c.found.ensures _ c.in-Some.is _ c.next-c.ensures
-
-pub loop-p-preserved : goal.loop-p-preserved
-loop-p-preserved c = own_on _ c.bytes-bytes.ensures.clean _ _ _ c.loop-p.invariant _ c.found.ensures _ c.in-Some.is _
-    (rw c.bytes-bytes.ensures.bytes at c.is_builtin_function.ensures) c.if-not-is_builtin_function.false _ c.next-c.ensures

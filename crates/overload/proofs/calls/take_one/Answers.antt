@@ -1,5 +1,4 @@
 use mathlib.Core.Path.{ap}
-use native.Mathlib.Omega.{arith}
 use Rattle.overload.proofs.ArgumentReports.{reported_as}
 use Rattle.overload.proofs.Tallies.{tally_taken}
 use Rattle.scoring.proofs.Scores.{score_of_lem}
@@ -9,14 +8,11 @@ use Rattle.symbol.proofs.FunctionsRead.{read_is}
 use Rattle.symbol.specs.Symbols.{Overload}
 use Rattle.overload.proofs.calls.take_one.Goals as goal
 
-pub unknown_names-requires : goal.unknown_names-requires
-unknown_names-requires c = omega (arith, c.requires.2.count)
-
 pub returns-clause-tally : goal.returns-clause-tally
 returns-clause-tally c = let read = read_is _ _ c.requires.0 _ c.requires.1 in
     tally_taken _ _ c.args.w _ _ c.requires.1 read.same _ _ _ c.or.ensures (score_of_lem _ _ c.score_function-score.ensures) c.higher.ensures
 
 pub returns-clause-reports : goal.returns-clause-reports
 returns-clause-reports c = let read = read_is _ _ c.requires.0 _ c.requires.1 in
-    reported_as _ (ap (λ (o : Overload). unknowns o.params 1 (args_in c.args.slots.now c.args.args.now)) read.same)
+    reported_as _ (ap (λ (o : Overload). unknowns o.params 1 (args_in c.args.slots.now c.args.args.now.items)) read.same)
     (c.unknown_names.ensures c.args.table.now c.args.slots.now)
