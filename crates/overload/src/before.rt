@@ -24,8 +24,8 @@ fn suspends(table: &Table<'_>, header: Header, owner: Option<u16>, id: u16) -> b
     !header.suspend && is_suspend(table, owner, id)
 }
 
-// table, header, id, node and reports stand apart, here and below: a struct of them would be made for each call, and opened here. Room is asked, since the
-// bound of what is reported goes by the number of nodes, which no type here knows.
+// table, header, id, node and reports stand apart, here and below, and vis and owner below: a struct of them would be made for each call, and opened here. Room
+// is asked, since the bound of what is reported goes by the number of nodes, which no type here knows.
 #[tactic(auto, using(crate::proofs::SingleReports::suspend_reported))]
 fn report_suspend(
     table: &Table<'_>,
