@@ -6,7 +6,7 @@ use mathlib.Core.List.{List, ◌++◌}
 use mathlib.Core.Path.{◌≡◌, ap, sym, ◌∙◌}
 use native.Mathlib.Omega.{arith}
 use Rattle.console.specs.Buffer.{Filled}
-use Rattle.judge_text.proofs.Whole.{filled-part}
+use Rattle.judge_text.proofs.Whole.{filled-part, filled-whole}
 use Rattle.judge_text.specs.ProgramText.{answer_text}
 use Rattle.replay.specs.Agreement.{agreement}
 use Rattle.replay.specs.CaseTaken.{CaseTaken}
@@ -40,3 +40,6 @@ taken_case old m k new t q e ts qs es x y z i j l =
       expected_length = (z.2, z.3 ∙ sym (length-take-le e es l));
       taken = Consumes-trans _ _ _ _ _ x.1 (Consumes-trans _ _ _ _ _ y.1 z.1);
     }
+
+-- what `agrees` cites
+pub ruleset agreeing = (compared, filled-whole)

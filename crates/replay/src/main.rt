@@ -28,6 +28,7 @@ enum Case {
 }
 
 // The judge's text is the expected one.
+#[tactic(auto, using(crate::proofs::Agreeing::agreeing))]
 fn agrees(
     table: &[u8],
     question: &[u8],
@@ -70,6 +71,7 @@ fn read_part<R: Read>(input: &mut R, space: &mut [u8]) -> Option<usize>
 }
 
 // Reads a case and judges it; the slices are room for it.
+#[tactic(auto, using(ty::proofs::Choice::chosen, ty::proofs::Choice::passed))]
 fn read_case<R: Read>(
     input: &mut R,
     table: &mut [u8],
