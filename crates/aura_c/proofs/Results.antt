@@ -8,12 +8,13 @@ use mathlib.Core.Bool.{true, false}
 use mathlib.Core.List.{List, [], ◌++◌}
 use mathlib.Core.Path.{◌≡◌, refl, sym, ap, ◌∙◌, subst}
 use Rattle.aura_c.proofs.Stored.{joined}
-use Rattle.aura_c.specs.declared.Front.{Front}
-use Rattle.aura_c.specs.AnswerBytes.{bytes_of, answer_size, front_with, answer_too_short, result_of, answer_slice, diagnostics_slice}
-use Rattle.judge.specs.Answered.{outcome_is}
+use Rattle.aura_c.specs.AnswerBytes.{bytes_of, answer_size, answer_too_short, result_of, answer_slice, diagnostics_slice}
+use Rattle.judge.proofs.Fronts.{front_typed}
+use Rattle.judge.specs.Answered.{outcome_is, front_with}
+use Rattle.judge.specs.declared.Front.{Front}
 use Rattle.judge.specs.declared.Judged.{Judged}
 use Rattle.judge.specs.declared.refusal.Refusal.{Refusal}
-use Rattle.std.proofs.Common.{Result, Ok, Err}
+use Rattle.std.proofs.Common.{Result}
 use Rattle.ty.proofs.Choice.{chosen, passed}
 use Rattle.typing.proofs.Sized.{Sized, sized}
 use Rattle.typing.specs.Answer.{Answer, zeros, answer_of, buffer_of}
@@ -25,14 +26,6 @@ cleared_length b e = ap length e ∙ length-replicate {A = ℕ} (length b) 0
 -- what is told of a table and a question: the result, the answer slice and the diagnostics
 abbrev Told : List ℕ → List ℕ → ℕ → ℕ → ℕ → List ℕ → List ℕ → Type 0
 Told t q lent room r b d = (r ≡ result_of t q lent room) × ((b ≡ answer_slice t q lent room) × (d ≡ diagnostics_slice t q lent room))
-
--- the type is what the front leaves out
-abbrev typed : Answer → List ℕ → Answer
-typed x ty = record { number = x.number; pass = x.pass; ty = ty; len = x.len; count = x.count }
-
-front_typed : (a : Front) (r : Result Judged Refusal) (ty : List ℕ) → front_with a [] ≡ outcome_is r [] → front_with a ty ≡ outcome_is r ty
-front_typed a (Ok j) ty e = ap (λ (x : Answer). typed x ty) e
-front_typed a (Err f) ty e = ap (λ (x : Answer). typed x ty) e
 
 module _ (t q : List ℕ) (lent room : ℕ) where
   pub told_short : {b d : List ℕ} → room < answer_size → b ≡ replicate room 0 → d ≡ replicate lent 0 → Told t q lent room answer_too_short b d

@@ -5,8 +5,9 @@ use lib.Seq.{sets}
 use mathlib.Core.List.{List, [], ◌∷◌, ◌++◌}
 use mathlib.Core.Path.{◌≡◌, refl, ap, ◌∙◌}
 use native.Mathlib.Omega.{arith}
-use Rattle.aura_c.specs.AnswerBytes.{little_endian, bytes_of, answer_size, front_with}
-use Rattle.aura_c.specs.declared.Front.{Front}
+use Rattle.aura_c.specs.AnswerBytes.{little_endian, bytes_of, answer_size}
+use Rattle.judge.specs.Answered.{front_with}
+use Rattle.judge.specs.declared.Front.{Front}
 use Rattle.written.proofs.ListFacts.{drop-replicate}
 use Rattle.written.specs.Padding.{padded_to}
 

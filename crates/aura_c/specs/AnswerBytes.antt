@@ -1,7 +1,6 @@
 -- What a caller from C is lent back: an answer as bytes, and the two slices afterwards. Document 01, "Answer": number, pass mark, the type in 256 bytes with
 -- zeros behind its length, that length, and a diagnostic count; "Types as bytes": numbers are low byte first.
 use Rattle.std.specs.Prelude.{ℕ, zero, suc, ◌/◌, ◌%◌, ltb, List, [], ◌∷◌, ◌++◌}
-use Rattle.aura_c.specs.declared.Front.{Front}
 use Rattle.ty.specs.Choose.{choose}
 use Rattle.typing.specs.Answer.{Answer, zeros, answer_of, buffer_of}
 use Rattle.written.specs.Padding.{padded_to}
@@ -14,10 +13,6 @@ little_endian (suc k) n = n % 256 ∷ little_endian k (n / 256)
 -- byte 0 the number, 1 the pass mark, 2 and 3 the type's length, 4 to 11 the count, 12 to 267 the type
 unfoldable pub bytes_of : Answer → List ℕ
 bytes_of a = a.number ∷ a.pass ∷ (little_endian 2 a.len ++ (little_endian 8 a.count ++ a.ty))
-
--- the answer with that front and a type
-abbrev pub front_with : Front → List ℕ → Answer
-front_with a ty = record { number = a.number; pass = a.pass; ty = ty; len = a.len; count = a.count }
 
 -- how many bytes an answer has
 abbrev pub answer_size : ℕ

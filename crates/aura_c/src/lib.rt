@@ -3,13 +3,13 @@
 
 ghost use Rattle.std.specs.Prelude.{◌≡◌, [], ◌≤◌, length};
 ghost use Rattle.std.proofs.lemmas.List.Edits.{sets};
-ghost use Rattle.judge.specs.Answered.{outcome_is};
-ghost use Rattle.aura_c.specs.AnswerBytes.{bytes_of, answer_size, front_with, result_of, answer_slice, diagnostics_slice};
+ghost use Rattle.judge.specs.Answered.{front_with};
+ghost use Rattle.aura_c.specs.AnswerBytes.{bytes_of, answer_size, result_of, answer_slice, diagnostics_slice};
 ghost use Rattle.aura_c.specs.LoadAccepted.{LoadAccepted};
 ghost use Rattle.load.specs.Load.{load_of};
 ghost use Rattle.written.specs.Output.{written_number, written_len, lent_after};
 
-use judge::{Judged, Refusal, judge_into};
+use judge::{Front, front_of, judge_into};
 use load::write_load;
 use written::put_two;
 
@@ -20,36 +20,7 @@ const TYPE_AT: usize = 12;
 
 const TOO_SHORT: u8 = 255;
 
-// What stands before an answer's type.
-#[derive(Clone, Copy)]
-struct Front {
-    number: u8,
-    pass: u8,
-    len: usize,
-    count: usize,
-}
-
-// That of what the judge answers: all but the number is 0 where it refuses.
-fn front_of(outcome: Result<Judged, Refusal>) -> Front
-    ensures { front_with result [] ≡ outcome_is outcome [] }
-{
-    match outcome {
-        Ok(judged) => Front {
-            number: 0,
-            pass: u8::from(judged.pass),
-            len: judged.len,
-            count: judged.count,
-        },
-        Err(refusal) => Front {
-            number: refusal.number(),
-            pass: 0,
-            len: 0,
-            count: 0,
-        },
-    }
-}
-
-// It goes to the front of `out`, its numbers low byte first.
+// What stands before an answer's type goes to the front of `out`, its numbers low byte first.
 fn put_front(a: Front, out: &mut [u8])
     requires { answer_size ≤ length out.old }
     ensures { out.new ≡ sets out.old 0 (bytes_of (front_with a [])) }

@@ -1,5 +1,5 @@
 -- Laws of the answer, on plain values: what each return leaves.
-use Prim.Native.Nat.{ℕ, suc, ◌+◌, ◌*◌, ◌≤◌}
+use Prim.Native.Nat.{ℕ, suc, ◌*◌, ◌≤◌}
 use borrow.Author.Tests.{eq-eqb, ne_eqb, ltb-false}
 use lib.Dec.{eqb, ltb}
 use lib.ListN.{length, length-replicate}

@@ -1,2 +1,3 @@
 pub mod Answering
 pub mod Sizes
+pub mod Fronts

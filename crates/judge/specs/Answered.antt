@@ -2,6 +2,7 @@
 use Rattle.std.specs.Prelude.{ℕ, length, List, ◌≡◌, Result, Ok, Err}
 use Rattle.judge.specs.RefusalNumber.{refusal_number}
 use Rattle.judge.specs.declared.Answer.{Answer}
+use Rattle.judge.specs.declared.Front.{Front}
 use Rattle.judge.specs.declared.Judged.{Judged}
 use Rattle.judge.specs.declared.refusal.Refusal.{Refusal}
 use Rattle.question.specs.QuestionRefused.{question_fault}
@@ -20,6 +21,10 @@ answer_is r = record { number = r.number; pass = r.pass; ty = r.ty; len = r.len;
 abbrev pub outcome_is : Result Judged Refusal → List ℕ → of.Answer
 outcome_is (Ok r) ty = record { number = 0; pass = mark_of r.pass; ty = ty; len = r.len; count = r.count }
 outcome_is (Err r) ty = record { number = refusal_number r; pass = 0; ty = ty; len = 0; count = 0 }
+
+-- the answer with that front and a type
+abbrev pub front_with : Front → List ℕ → of.Answer
+front_with a ty = record { number = a.number; pass = a.pass; ty = ty; len = a.len; count = a.count }
 
 -- the answer and the buffer afterwards are the definition's
 pub record Answered (t q : List ℕ) (lent : ℕ) (r : of.Answer) (b : List ℕ) : Type 0 where

@@ -5,15 +5,16 @@ mod refusal;
 mod room;
 mod root;
 
-ghost use Rattle.std.specs.Prelude.{◌≡◌};
+ghost use Rattle.std.specs.Prelude.{◌≡◌, []};
 ghost use Rattle.typing.specs.Answer.{answer_bytes, zeros};
 ghost use Rattle.typing.specs.Demand1.{Demand1};
-ghost use Rattle.judge.specs.Answered.{answer_is, outcome_is, Answered, AnsweredInto, AcceptedDemand3, OfCall};
+ghost use Rattle.judge.specs.Answered.{answer_is, outcome_is, front_with, Answered, AnsweredInto, AcceptedDemand3, OfCall};
 
 pub use refusal::Refusal;
 use room::judge_sized;
 
 // The answer: refusal number (0 for none), pass mark, the type in 256 bytes with zeros behind its length, that length, and how many diagnostics there are.
+// Numbers, and bytes with their length beside: these are the fields that docs/FORMAT.md has under "Fields of an answer".
 #[derive(Clone, Copy)]
 pub struct Answer {
     pub number: u8,
@@ -42,29 +43,57 @@ pub fn judge(table: &[u8], question: &[u8], diagnostics: &mut [u8]) -> Answer
     with_type(outcome, ty)
 }
 
-// An outcome with the 256 bytes of its type.
-fn with_type(outcome: Result<Judged, Refusal>, ty: [u8; 256]) -> Answer
-    ensures { answer_is result ≡ outcome_is outcome ty }
+// What an answer has beside its type, in the numbers of its fields.
+#[derive(Clone, Copy)]
+pub struct Front {
+    pub number: u8,
+    pub pass: u8,
+    pub len: usize,
+    pub count: usize,
+}
+
+// That of what the judge answers: all but the number is 0 where it refuses.
+pub fn front_of(outcome: Result<Judged, Refusal>) -> Front
+    ensures { front_with result [] ≡ outcome_is outcome [] }
 {
     match outcome {
-        Ok(judged) => Answer {
+        Ok(judged) => Front {
             number: 0,
             pass: u8::from(judged.pass),
-            ty,
             len: judged.len,
             count: judged.count,
         },
-        Err(refusal) => Answer {
+        Err(refusal) => Front {
             number: refusal.number(),
             pass: 0,
-            ty,
             len: 0,
             count: 0,
         },
     }
 }
 
+// An outcome with the 256 bytes of its type.
+#[tactic(auto, using(crate::proofs::Fronts::front_typed))]
+fn with_type(outcome: Result<Judged, Refusal>, ty: [u8; 256]) -> Answer
+    ensures { answer_is result ≡ outcome_is outcome ty }
+{
+    let Front {
+        number,
+        pass,
+        len,
+        count,
+    } = front_of(outcome);
+    Answer {
+        number,
+        pass,
+        ty,
+        len,
+        count,
+    }
+}
+
 // Judges a question against a table: what is answered or why nothing is, the type in what is lent for it, and the diagnostics in the lent buffer.
+// Four slices, and no struct of them: the clause says of each lent one what is in it before and behind.
 pub fn judge_into(
     table: &[u8],
     question: &[u8],

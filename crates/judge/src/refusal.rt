@@ -32,7 +32,7 @@ impl From<QuestionFault> for Refusal {
 }
 
 impl Refusal {
-    // The number in an answer.
+    // The number in an answer; a match, as `as u8` gives none for a variant that holds a fault with a number of its own.
     pub fn number(self) -> u8
         ensures { result ≡ refusal_number self }
     {

@@ -1,4 +1,6 @@
 // Room for the index and the slots: little is cleared for a short table and a short question.
+// Table, question, diagnostics and type are parameters apart: the clauses say of each lent buffer what is in it before and behind, and would take a struct
+// of them apart. Clear, Ready, IndexRoom, the limit of 60,000 and Space are asked: each speaks of several of them, and a type for each would serve one call.
 ghost use Rattle.std.specs.Prelude.{◌≤◌, ◌≡◌, length};
 ghost use Rattle.area.specs.Inside.Slot.{slot_count};
 ghost use Rattle.cycle.specs.Inside.Contract.{Space, slots_for};
@@ -42,6 +44,7 @@ pub fn judge_sized(
         let index = [0u16; 1];
         return judge_checked(&Table::new(table, &index), 0, question, diagnostics, ty);
     }
+    // the sizes are arms, as an array's length is a constant
     match TableSize::of(table.len()) {
         TableSize::Short => judge_with_room::<1461>(table, question, diagnostics, ty),
         TableSize::Middle => judge_with_room::<11163>(table, question, diagnostics, ty),

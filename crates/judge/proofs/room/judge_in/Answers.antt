@@ -1,6 +1,5 @@
 use lib.ListN.{length}
 use mathlib.Core.Path.{refl}
-use native.Mathlib.Omega.{arith}
 use Rattle.std.proofs.Common.{rules}
 use Rattle.judge.proofs.Answering.{root_same, root_asked, root_filled, root_few, ret_judged}
 use Rattle.judge.proofs.room.judge_in.Goals as goal

@@ -1,4 +1,4 @@
-use mathlib.Core.Path.{◌≡◌, sym}
+use mathlib.Core.Path.{◌≡◌}
 use Rattle.judge.proofs.Answering.{ret_table}
 use Rattle.judge.specs.declared.refusal.Refusal.TheVariants.{Table}
 use Rattle.std.proofs.Common.{rules, Err}
@@ -8,10 +8,3 @@ pub returns-in_err-names-clause-answered_into : goal.returns-in_err-names-clause
 returns-in_err-names-clause-answered_into c =
     let e : c.from_residual.result ≡ Err (Table c.in_err-names.field-0.0) = search rules in
     rw e (ret_table _ _ _ _ c.in_err-names.ensures.number _ c.requires.0.blank _ c.requires.0.buffer)
-
-pub new-requires : goal.new-requires
-new-requires c = c.in_ok-names.ensures.indexed_table (sym c.in_ok-names.ensures.number)
-
-pub judge_checked-requires : goal.judge_checked-requires
-judge_checked-requires c =
-    rw c.new.ensures (c.requires.0, (c.in_ok-names.ensures.indexed_table (sym c.in_ok-names.ensures.number)).clean, c.in_ok-names.ensures.names)
