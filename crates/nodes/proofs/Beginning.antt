@@ -7,12 +7,13 @@ use mathlib.Core.List.{List, [], ◌∷◌}
 use mathlib.Core.Option.{Option, none, some}
 use Rattle.std.proofs.Common as std
 use Rattle.std.proofs.Common.{Some, None}
+use Rattle.std.specs.Bool.{then_some}
 use mathlib.Core.Path.{◌≡◌, refl, sym, ap, ◌∙◌}
 use native.Mathlib.Omega.{arith}
 use Rattle.area.proofs.Reporting.{reported_none}
 use Rattle.area.specs.Reported.{reported}
 use Rattle.area.specs.declared.reports.Reports.{Reports}
-use Rattle.nodes.specs.Inside.Call.{owner_of, method_owner, list_found, before_at, Begun}
+use Rattle.nodes.specs.Inside.Call.{owner_of, method_owner, finds_list, list_found, before_at, CallBegun, Begun}
 use Rattle.nodes.specs.Inside.Row.{id_of}
 use Rattle.operators.specs.Diag.{reported_at as at_node}
 use Rattle.area.specs.DiagnosticKind.{suspend_diag}
@@ -42,45 +43,52 @@ chosen_some x y true e = (refl, cc)
 chosen_some x y false e = absurd (cc)
 
 -- ---- the contract of what begins a call
-list_is : {node : ℕ} {r : std.Option ℕ} (owner : ℕ) {b b' : Reports} (rs : List Report) (os : List Overload) → b' ≡ reported b (at_node node rs)
-    → r ≡ Some owner → Begun owner node (some (record { before = rs; overloads = os })) b b' r
-unfolding list_found before_at
-list_is owner rs os x f = record { list = f; reports = x }
+list_is : {node : ℕ} {b b' : Reports} (rs : List Report) (os : List Overload) → b' ≡ reported b (at_node node rs)
+    → CallBegun node (some (record { before = rs; overloads = os })) b b' true
+unfolding finds_list before_at
+list_is rs os x = record { list = refl; reports = x }
 
-no_list : {owner node : ℕ} {r : std.Option ℕ} (b : Reports) → r ≡ None → Begun owner node none b b r
-unfolding list_found before_at
-no_list b f = record { list = f; reports = sym (reported_none b) }
+no_list : {node : ℕ} (b : Reports) → CallBegun node none b b false
+unfolding finds_list before_at
+no_list b = record { list = refl; reports = sym (reported_none b) }
 
-module _ (S : Symbols) (H : Header) (id node : ℕ) {r : std.Option ℕ} where
-  pub call_none : (b : Reports) → S.functions_of no_id id ≡ [] → r ≡ None → Begun no_id node (call_of S H id) b b r
+-- a method call tells whose list it has
+owned_list : {owner node : ℕ} (found : Option Callee) {b b' : Reports} {listed : Bool} {r : std.Option ℕ} → CallBegun node found b b' listed → r ≡ then_some listed owner → Begun owner node found b b' r
+unfolding finds_list list_found
+owned_list none x e = record { list = rw x.list at e; reports = x.reports }
+owned_list (some c) x e = record { list = rw x.list at e; reports = x.reports }
+
+module _ (S : Symbols) (H : Header) (id node : ℕ) where
+  pub call_none : (b : Reports) → S.functions_of no_id id ≡ [] → CallBegun node (call_of S H id) b b false
   unfolding call_in
-  call_none b e f = rw e (no_list b f)
+  call_none b e = rw e (no_list b)
 
   pub call_some : {b b' : Reports} {o : Overload} {os : List Overload} → S.functions_of no_id id ≡ o ∷ os → b' ≡ reported b (at_node node (call_reports S H id))
-      → r ≡ Some no_id → Begun no_id node (call_of S H id) b b' r
+      → CallBegun node (call_of S H id) b b' true
   unfolding call_in
-  call_some {o = o} {os = os} e x f = rw e (list_is no_id (call_reports S H id) (o ∷ os) x f)
+  call_some {o = o} {os = os} e x = rw e (list_is (call_reports S H id) (o ∷ os) x)
 
-  pub method_none : (b : Reports) (owner : ℕ) → S.functions_of owner id ≡ [] → r ≡ None → Begun owner node (method_in S H owner id (S.functions_of owner id)) b b r
+  pub method_none : (b : Reports) (owner : ℕ) → S.functions_of owner id ≡ [] → CallBegun node (method_in S H owner id (S.functions_of owner id)) b b false
   unfolding method_in
-  method_none b owner e f = rw e (no_list b f)
+  method_none b owner e = rw e (no_list b)
 
   pub method_some : {b b' : Reports} (owner vis : ℕ) {o : Overload} {os : List Overload} → S.functions_of owner id ≡ o ∷ os → vis ≡ o.visibility
-      → b' ≡ reported b (at_node node (method_reports S H vis owner id)) → r ≡ Some owner
-      → Begun owner node (method_in S H owner id (S.functions_of owner id)) b b' r
+      → b' ≡ reported b (at_node node (method_reports S H vis owner id)) → CallBegun node (method_in S H owner id (S.functions_of owner id)) b b' true
   unfolding method_in
-  method_some owner vis {o = o} {os = os} e v x f = rw e (list_is owner (method_reports S H o.visibility owner id) (o ∷ os) (rw v at x) f)
+  method_some owner vis {o = o} {os = os} e v x = rw e (list_is (method_reports S H o.visibility owner id) (o ∷ os) (rw v at x))
 
-  pub owner_none : (b : Reports) (t : Ty) {o : std.Option ℕ} → o ≡ owner_of t → o ≡ None → r ≡ None → Begun (method_owner t) node (method_of S H id t) b b r
-  unfolding method_by base_name choose
-  owner_none b t e n f = rw (chosen_none (name_of (non_null t)) (eqb (kind_of (non_null t)) named_kind) (sym e ∙ n)) (no_list b f)
+  module _ {r : std.Option ℕ} where
+    pub owner_none : (b : Reports) (t : Ty) {o : std.Option ℕ} → o ≡ owner_of t → o ≡ None → r ≡ None → Begun (method_owner t) node (method_of S H id t) b b r
+    unfolding method_by base_name choose list_found before_at
+    owner_none b t e n f =
+        rw (chosen_none (name_of (non_null t)) (eqb (kind_of (non_null t)) named_kind) (sym e ∙ n)) (record { list = f; reports = sym (reported_none b) })
 
-  pub owner_some : (b b' : Reports) (t : Ty) (owner : ℕ) {o : std.Option ℕ} → o ≡ owner_of t → o ≡ Some owner
-      → Begun owner node (method_in S H owner id (S.functions_of owner id)) b b' r → Begun (method_owner t) node (method_of S H id t) b b' r
-  unfolding method_by base_name choose id_of
-  owner_some b b' t owner e n x =
-      let w = chosen_some (name_of (non_null t)) owner (eqb (kind_of (non_null t)) named_kind) (sym e ∙ n) in
-      rw (w.0, w.1) x
+    pub owner_some : (b b' : Reports) (t : Ty) (owner : ℕ) {o : std.Option ℕ} {listed : Bool} → o ≡ owner_of t → o ≡ Some owner
+        → CallBegun node (method_in S H owner id (S.functions_of owner id)) b b' listed → r ≡ then_some listed owner → Begun (method_owner t) node (method_of S H id t) b b' r
+    unfolding method_by base_name choose id_of
+    owner_some b b' t owner e n x f =
+        let w = chosen_some (name_of (non_null t)) owner (eqb (kind_of (non_null t)) named_kind) (sym e ∙ n) in
+        rw (w.0, w.1) (owned_list _ x f)
 
 -- ---- for the judge of a node
 -- the list that is found for the call at `node` is the owner's, and what is reported before the arguments has been reported
@@ -151,10 +159,24 @@ module _ {owner node : ℕ} {b b' : Reports} {r : std.Option ℕ} where
       let w = k c refl in
       (c, refl, record { owned = (let f = x.list in cc); list = w.list; reports = x.reports; few = w.few })
 
+module _ {node : ℕ} {b b' : Reports} {r : Bool} where
+  pub unlisted_call : (found : Option Callee) → CallBegun node found b b' r → r ≡ false → (found ≡ none) × (b' ≡ b)
+  unfolding finds_list before_at
+  unlisted_call none x e = (refl, x.reports ∙ reported_none b)
+  unlisted_call (some c) x e = let f = x.list in absurd (cc)
+
+  listed_call : (S : Symbols) (owner id : ℕ) (found : Option Callee) → ((c : Callee) → found ≡ some c → Listed S owner id c) → CallBegun node found b b' r → r ≡ true
+      → (c : Callee) × (found ≡ some c) × ListIs S owner id node c b b' owner
+  unfolding finds_list before_at
+  listed_call S owner id none k x e = let f = x.list in absurd (cc)
+  listed_call S owner id (some c) k x e =
+      let w = k c refl in
+      (c, refl, record { owned = refl; list = w.list; reports = x.reports; few = w.few })
+
 -- a call, and a method call on an object of the type t, that find a list
-pub call_begun : (S : Symbols) (H : Header) (id : ℕ) {node : ℕ} {b b' : Reports} {r : std.Option ℕ} → Begun no_id node (call_of S H id) b b' r → {of : ℕ} → r ≡ Some of
-    → (c : Callee) × (call_of S H id ≡ some c) × ListIs S no_id id node c b b' of
-call_begun S H id = begun_some S id (call_of S H id) (call_listed S H id)
+pub call_begun : (S : Symbols) (H : Header) (id : ℕ) {node : ℕ} {b b' : Reports} {r : Bool} → CallBegun node (call_of S H id) b b' r → r ≡ true
+    → (c : Callee) × (call_of S H id ≡ some c) × ListIs S no_id id node c b b' no_id
+call_begun S H id = listed_call S no_id id (call_of S H id) (call_listed S H id)
 
 pub method_begun : (S : Symbols) (H : Header) (id : ℕ) (t : Ty) {node : ℕ} {b b' : Reports} {r : std.Option ℕ} → Begun (method_owner t) node (method_of S H id t) b b' r → {of : ℕ} → r ≡ Some of
     → (c : Callee) × (method_of S H id t ≡ some c) × ListIs S (method_owner t) id node c b b' of

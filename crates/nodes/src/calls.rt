@@ -1,11 +1,14 @@
 // Calls and method calls, before and behind their arguments.
+//
+// Table, header, id, node, slots and reports are parameters apart: each call hands on others of them, and slots and reports are lent to the arguments in
+// between. count_limit, slot_count, `node < length slots` and CallAsked are asked: a type of all that they speak of would borrow slots and reports.
 ghost use Rattle.std.specs.Prelude.{◌+◌, ◌≤◌, ◌<◌, ◌≡◌, length};
 ghost use Rattle.area.specs.Diagnostic.{count_limit};
 ghost use Rattle.area.specs.Inside.Slot.{slot_count, type_at};
 ghost use Rattle.ty.specs.Bytes.{plain_ty};
 ghost use Rattle.ty.specs.KindNumber.{kind_number};
-ghost use Rattle.ty.specs.Name.{no_id};
-ghost use Rattle.nodes.specs.Inside.Call.{owner_of, callee_at, owned_at, method_at, method_owner, Begun, verdict_at, CallAsked, FinishedCall};
+ghost use Rattle.ty.specs.Name.{id_number};
+ghost use Rattle.nodes.specs.Inside.Call.{owner_of, callee_at, owned_at, method_at, method_owner, CallBegun, Begun, verdict_at, CallAsked, FinishedCall};
 ghost use Rattle.nodes.specs.Inside.Progress.{FinishedSilently, passed_over};
 
 use crate::progress::{State, finished};
@@ -20,7 +23,7 @@ use question::node::skip;
 use scoring::args::Args;
 use symbol::functions::read_function;
 use symbol::lookups::first_function;
-use ty::{Kind, NameId};
+use ty::Kind;
 
 // A judged argument row: its arguments, and how far the judgement is behind it.
 #[derive(Drop)]
@@ -29,22 +32,25 @@ pub struct RowJudged {
     pub state: State,
 }
 
-// A call of an ownerless function: whose list there is, NameId::NONE for nobody's.
-#[tactic(auto, using(crate::proofs::Beginning::call_none, crate::proofs::Beginning::call_some, crate::proofs::Working::found_none, crate::proofs::Working::found_here_lem))]
+// A call of an ownerless function: whether there is a list.
 pub fn begin_call(
     table: &Table<'_>,
     header: Header,
     id: u16,
     node: usize,
     reports: &mut Reports<'_>,
-) -> Option<u16>
+) -> bool
     requires { reports.old.count < count_limit }
-    ensures { Begun no_id node (callee_at table.now header id) reports.old reports.new result }
+    ensures { CallBegun node (callee_at table.now header id) reports.old reports.new result }
 {
     let _ = table.bytes(); // the table is accepted
-    first_function(table, NameId::NONE, id)?;
-    before_call(table, header, id, node, reports);
-    Some(NameId::NONE)
+    match first_function(table, None, id) {
+        None => false,
+        Some(_) => {
+            before_call(table, header, id, node, reports);
+            true
+        }
+    }
 }
 
 // The owner of a method of the object in a slot, whose base is Named, or none.
@@ -53,13 +59,10 @@ fn owner_of(slots: &[Slot], m: usize) -> Option<u16>
     ensures { result ≡ owner_of (type_at slots.now m) }
 {
     let base = ty::non_null(type_of(slots, m));
-    if ty::is_kind(base, Kind::Named) {
-        return Some(ty::name_of(base));
-    }
-    None
+    ty::is_kind(base, Kind::Named).then_some(ty::name_of(base))
 }
 
-// A method call of a list of functions, if there is one.
+// A method call: whether there is a list of the owner's. Apart from begin_call, since it reads the list's visibility, and asks room for two reports.
 fn begin_owned(
     table: &Table<'_>,
     header: Header,
@@ -67,18 +70,22 @@ fn begin_owned(
     id: u16,
     node: usize,
     reports: &mut Reports<'_>,
-) -> Option<u16>
+) -> bool
     requires { reports.old.count + 2 ≤ count_limit }
-    ensures { Begun owner node (owned_at table.now header owner id) reports.old reports.new result }
+    ensures { CallBegun node (owned_at table.now header owner id) reports.old reports.new result }
 {
     let bytes = table.bytes();
-    let first = first_function(table, owner, id)?;
-    let f = read_function(bytes, first);
-    before_method(table, header, f.visibility, owner, id, node, reports);
-    Some(owner)
+    match first_function(table, Some(owner), id) {
+        None => false,
+        Some(first) => {
+            let f = read_function(bytes, first);
+            before_method(table, header, f.visibility, owner, id, node, reports);
+            true
+        }
+    }
 }
 
-// A method call; its object's type lies in the slot behind the call's.
+// A method call: whose list there is, if there is one. Its object's type lies in the slot behind the call's.
 pub fn begin_method(
     table: &Table<'_>,
     header: Header,
@@ -92,7 +99,7 @@ pub fn begin_method(
         (method_at table.now header id (type_at slots.now (node + 1))) reports.old reports.new result }
 {
     let owner = owner_of(slots, node + 1)?;
-    begin_owned(table, header, owner, id, node, reports)
+    begin_owned(table, header, owner, id, node, reports).then_some(owner)
 }
 
 // A call without a list: its arguments stay unvisited, and its type is one without body.
@@ -112,8 +119,9 @@ pub fn unlisted(
     let e = State {
         at: p.at,
         node: s.node + p.nodes,
-        fine: s.fine,
+        ..s
     };
+    // the node stands for its children, which a kind does not read
     store(slots, table, node, node, node, Source::Kind(kind));
     finished(e, node, slots)
 }
@@ -121,17 +129,19 @@ pub fn unlisted(
 // A call of a list of functions, once its arguments are judged.
 pub fn finish_call(
     table: &Table<'_>,
-    owner: u16,
+    owner: Option<u16>,
     id: u16,
     node: usize,
     row: &RowJudged,
     slots: &mut [Slot],
     reports: &mut Reports<'_>,
 ) -> State
-    requires { CallAsked slots.old node reports.old (verdict_at table.now slots.old owner id node row.now) }
-    ensures { FinishedCall row.now.state node (verdict_at table.now slots.old owner id node row.now) slots.old slots.new reports.old reports.new result }
+    requires { CallAsked slots.old node reports.old (verdict_at table.now slots.old (id_number owner) id node row.now) }
+    ensures { FinishedCall row.now.state node (verdict_at table.now slots.old (id_number owner) id node row.now)
+        slots.old slots.new reports.old reports.new result }
 {
     let source = check_call_args(table, owner, id, node, slots, &row.args, reports);
+    // the node stands for its children, which no call's type is read from
     store(slots, table.bytes(), node, node, node, source);
     finished(row.state, node, slots)
 }

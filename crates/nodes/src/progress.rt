@@ -16,7 +16,7 @@ pub struct State {
     pub fine: bool,
 }
 
-// Where the children of a node with so many bytes of its own begin.
+// Where the children of a node with so many bytes of its own begin. slot_count is asked, as a node's number is of no slots by itself.
 pub fn inside(s: State, own: usize) -> State
     requires { (s.at + own ≤ 65536) × (s.node < slot_count) }
     ensures { result ≡ inside_of s own }
@@ -24,7 +24,7 @@ pub fn inside(s: State, own: usize) -> State
     State {
         at: s.at + own,
         node: s.node + 1,
-        fine: s.fine,
+        ..s
     }
 }
 
@@ -34,9 +34,8 @@ pub fn finished(s: State, node: usize, slots: &[Slot]) -> State
 {
     let error = is_error(type_of(slots, node));
     State {
-        at: s.at,
-        node: s.node,
         fine: s.fine & !error,
+        ..s
     }
 }
 

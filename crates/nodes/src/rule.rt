@@ -1,4 +1,7 @@
 // Nodes whose type goes by their children's types: leaves, named arguments, operators and members.
+//
+// Node, state and slots are parameters apart: the judge writes its state while it reads the slots, and lends them to its children in between. Child, slot_size,
+// count_limit, LeafAsked and RuleAsked are asked: they speak of a node, the slots and the reports at once, and a type of these would borrow them all.
 ghost use Rattle.std.specs.Prelude.{◌+◌, ◌<◌, ◌≤◌, ◌≡◌, length};
 ghost use Rattle.area.specs.Diagnostic.{count_limit};
 ghost use Rattle.area.specs.Reported.{reported};
@@ -21,6 +24,7 @@ use operators::unary::check_unary;
 use question::Header;
 use question::operator::{BinOp, UnOp};
 use rules::member::check_member;
+use ty::Part;
 
 // A leaf's type is its own.
 pub fn judge_leaf(q: &[u8], len: u16, s: State, slots: &mut [Slot]) -> State
@@ -28,9 +32,10 @@ pub fn judge_leaf(q: &[u8], len: u16, s: State, slots: &mut [Slot]) -> State
     ensures { FinishedSilently (inside_of s (len + 1)) s.node (leaf_at q.now s len) slots.old slots.new result }
 {
     let node = s.node;
-    let n = len as usize;
-    store_part(slots, q, node, s.at + 1, n);
-    let e = inside(s, n + 1);
+    let len = len as usize;
+    let start = s.at + 1;
+    store_part(slots, q, node, Part { start, len });
+    let e = inside(s, len + 1);
     finished(e, node, slots)
 }
 
@@ -40,12 +45,13 @@ pub fn finish_named(table: &[u8], node: usize, s: State, slots: &mut [Slot]) -> 
     ensures { FinishedSilently s node (type_at slots.old (node + 1)) slots.old slots.new result }
 {
     let first = node + 1;
+    // the only child stands for a second, which First does not read
     store(slots, table, node, first, first, Source::First);
     finished(s, node, slots)
 }
 
 // A diagnostic of a rule, if there is one.
-#[tactic(auto, using(crate::proofs::Working::reported_none, crate::proofs::Working::reported_one))]
+#[tactic(auto, using(crate::proofs::Working::reported_none))]
 fn report_one(reports: &mut Reports<'_>, node: usize, d: Option<Diagnostic>)
     requires { reports.old.count < count_limit }
     ensures { reports.new ≡ reported reports.old (at_node node (reports_of d)) }

@@ -1,5 +1,5 @@
 -- What a call finds before its arguments are visited, and what it asks and gives behind them.
-use Rattle.std.specs.Prelude.{ℕ, ◌+◌, ◌≤◌, ◌<◌, eqb, length, List, [], ◌≡◌, Some, None}
+use Rattle.std.specs.Prelude.{ℕ, ◌+◌, ◌≤◌, ◌<◌, eqb, length, List, [], ◌≡◌, Some, None, Bool, true, false}
 use Rattle.std.specs.Prelude as std
 use Rattle.std.proofs.Math.Option.{Option, none, some}
 use Rattle.area.specs.Diagnostic.{Diag, count_limit}
@@ -31,6 +31,11 @@ owner_of t = choose (eqb (kind_of (non_null t)) named_kind) (Some (name_of (non_
 abbrev pub method_owner : Ty → ℕ
 method_owner t = id_of (base_name t)
 
+-- whether a call finds a list
+unfoldable pub finds_list : Option Callee → Bool
+finds_list none = false
+finds_list (some c) = true
+
 -- whose list a call finds that looks for an owner's, if there is one
 unfoldable pub list_found : ℕ → Option Callee → std.Option ℕ
 list_found owner none = None
@@ -41,7 +46,12 @@ unfoldable pub before_at : ℕ → Option Callee → List Diag
 before_at node none = []
 before_at node (some c) = at_node node c.before
 
--- the call at `node` has begun; the lent buffer was b and is b'
+-- the call at `node` has begun, and has a list or not; the lent buffer was b and is b'
+pub record CallBegun (node : ℕ) (found : Option Callee) (b b' : Reports) (r : Bool) : Type 0 where
+  pub list : r ≡ finds_list found
+  pub reports : b' ≡ reported b (before_at node found)
+
+-- the same where a call tells whose list it has
 pub record Begun (owner node : ℕ) (found : Option Callee) (b b' : Reports) (r : std.Option ℕ) : Type 0 where
   pub list : r ≡ list_found owner found
   pub reports : b' ≡ reported b (before_at node found)
@@ -66,7 +76,7 @@ method_at table H id t = method_of (symbols_of table) H id t
 -- what a call of an owner's list gives for the arguments of a row
 abbrev pub verdict_at : Slice → List Ty → ℕ → ℕ → ℕ → RowJudged → Verdict
 verdict_at table ts owner id node row =
-    resolve (symbols_of table) ((symbols_of table).functions_of owner id) node (args_in ts row.args)
+    resolve (symbols_of table) ((symbols_of table).functions_of owner id) node (args_in ts row.args.items)
 
 -- node n is finished with the type and the diagnostics of v
 abbrev pub FinishedCall : State → ℕ → Verdict → List Ty → List Ty → Reports → Reports → State → Type 0
