@@ -4,6 +4,7 @@ use lib.ListN.{length, length-append}
 use Rattle.std.specs.Prelude as std
 use Rattle.std.proofs.Common.{Some, None}
 use mathlib.Core.List.{List, [], ◌++◌, append_assoc, append-nil}
+use mathlib.Core.Bool.{Bool, true, false}
 use mathlib.Core.Option.{Option}
 use mathlib.Core.Path.{◌≡◌, refl, sym, ap, ◌∙◌}
 use native.Mathlib.Numerals.{add-one}
@@ -19,8 +20,8 @@ use Rattle.cycle.proofs.Rows.{row_args, row_count}
 use Rattle.cycle.proofs.Spaces.{slots_few}
 use Rattle.cycle.proofs.Steps.{slot_room, asked_inside, ChildIs, child, close}
 use Rattle.nodes.proofs.Working.{at_length}
-use Rattle.nodes.proofs.Beginning.{ListIs, begun_none, call_begun, method_begun}
-use Rattle.nodes.specs.Inside.Call.{method_owner, Begun, CallAsked}
+use Rattle.nodes.proofs.Beginning.{ListIs, unlisted_call, begun_none, call_begun, method_begun}
+use Rattle.nodes.specs.Inside.Call.{method_owner, CallBegun, Begun, CallAsked}
 use Rattle.cycle.specs.Inside.Contract.{most_at_node, slots_for, Space, NodeAsked, NodeIs, RowAsked, RowIs}
 use Rattle.nodes.specs.Inside.SlotsFilled.{SlotsFilled}
 use Rattle.area.specs.declared.reports.Reports.{Reports}
@@ -133,26 +134,26 @@ module _ {t : List ℕ} (ok : CleanTable t) (H : Header) {q : List ℕ} {s : Sta
     unfolding row_asked asked_row
     row_is = is row_asked
 
-    args_is : args_in ts₁ row.args ≡ (judges (symbols_of t) H rs n).args
+    args_is : args_in ts₁ row.args.items ≡ (judges (symbols_of t) H rs n).args
     unfolding row_asked asked_row
     args_is = row_args ok row_asked lent (is row_asked) ∙ ap (λ (k : ℕ). (judges (symbols_of t) H rs k).args) (ap (λ (z : State). z.node) before.result)
 
-    args_few : length (args_in ts₁ row.args) ≤ 16
+    args_few : length (args_in ts₁ row.args.items) ≤ 16
     args_few = omega (arith, ap (λ (xs : List Arg). length xs) args_is ∙ row_count (symbols_of t) H rs n)
 
-    verdict_is : resolve (symbols_of t) ((symbols_of t).functions_of of id) s.node (args_in ts₁ row.args)
+    verdict_is : resolve (symbols_of t) ((symbols_of t).functions_of of id) s.node (args_in ts₁ row.args.items)
         ≡ resolve (symbols_of t) c.overloads s.node (judges (symbols_of t) H rs n).args
     verdict_is = rw (list.owned, list.list, args_is)
 
     row_later : LaterRow t H s p n g (d ++ at_node s.node c.before) ts ts₁ b b₃ row.state rs
     row_later = later_row before row_is
 
-    pub call_ready : CallAsked ts₁ s.node b₃ (resolve (symbols_of t) ((symbols_of t).functions_of of id) s.node (args_in ts₁ row.args))
+    pub call_ready : CallAsked ts₁ s.node b₃ (resolve (symbols_of t) ((symbols_of t).functions_of of id) s.node (args_in ts₁ row.args.items))
     call_ready =
         let J : Judgements = judges (symbols_of t) H rs n in
         let D : List Diag = d ++ at_node s.node c.before in
         let cnt : b₃.count ≡ b.count + length (D ++ J.diags) = reached_count row_later.reached in
-        let v = args_in ts₁ row.args in
+        let v = args_in ts₁ row.args.items in
         record {
           room = slot_room x lent;
           few = omega (arith, length-append D J.diags, before_few, row_later.few, slots_few (length q));
@@ -164,8 +165,8 @@ module _ {t : List ℕ} (ok : CleanTable t) (H : Header) {q : List ℕ} {s : Sta
         → judge (symbols_of t) H x.tree s.node
         ≡ called s.node c.before (resolve (symbols_of t) c.overloads s.node (judges (symbols_of t) H rs n).args) (g ++ (judges (symbols_of t) H rs n).typed) d (judges (symbols_of t) H rs n).diags
         → p + bytess rs ≡ s.at + bytes x.tree → number_after_row rs n ≡ number_after x.tree s.node → length d + most_at_node * suc (sizes rs) ≤ most_at_node * size x.tree
-        → Finished row.state s.node (resolve (symbols_of t) ((symbols_of t).functions_of of id) s.node (args_in ts₁ row.args)).ty
-        (resolve (symbols_of t) ((symbols_of t).functions_of of id) s.node (args_in ts₁ row.args)).diags ts₁ ts' b₃ b' r
+        → Finished row.state s.node (resolve (symbols_of t) ((symbols_of t).functions_of of id) s.node (args_in ts₁ row.args.items)).ty
+        (resolve (symbols_of t) ((symbols_of t).functions_of of id) s.node (args_in ts₁ row.args.items)).diags ts₁ ts' b₃ b' r
         → NodeIs t H s ts₀ ts' b b' r x.tree
     call_close fill eq ep en size f =
         let J : Judgements = judges (symbols_of t) H rs n in
@@ -182,13 +183,13 @@ calls_fit t ok =
 
 -- ---- calls
 module _ {t : List ℕ} (ok : CleanTable t) (fit : CallsFit (symbols_of t)) (H : Header) {q : List ℕ} {s : State} {b : Reports} (x : NodeAsked q s b) (id many : ℕ) (h : node_at q s.at ≡ Call id many)
-    {s₁ : State} (i : s₁ ≡ inside_of s 4) {b₁ : Reports} {begun : std.Option ℕ} (is : Begun no_id s.node (call_of (symbols_of t) H id) b b₁ begun) where
+    {s₁ : State} (i : s₁ ≡ inside_of s 4) {b₁ : Reports} {begun : Bool} (is : CallBegun s.node (call_of (symbols_of t) H id) b b₁ begun) where
   inside-call : Reached s (s.at + 4) (suc s.node) [] [] b b s₁
   inside-call =
       reached_as (ap (λ (z : State). z.at) i) (ap (λ (z : State). z.node) i) refl refl (reached_inside 4 i (reached_here s₁ b))
 
   -- no list
-  module _ (no : begun ≡ None) where
+  module _ (no : begun ≡ false) where
     over_call : let rs = (is_call q s.at x.tree id many x.stands h).0 in Reached s (s.at + 4 + bytess rs) (number_after_row rs (suc s.node)) [] [] b b (passed_over q s₁ many)
     unfolding size
     over_call =
@@ -209,7 +210,7 @@ module _ {t : List ℕ} (ok : CleanTable t) (fit : CallsFit (symbols_of t)) (H :
     unfolding judge size bytes number_after call_step
     ret_call_none f =
         let (rs, e, counted, st) = is_call q s.at x.tree id many x.stands h in
-        let (found, n) = begun_none _ is no in
+        let (found, n) = unlisted_call _ is no in
         let by : bytes x.tree ≡ 4 + bytess rs = ap bytes e in
         let num : number_after x.tree s.node ≡ number_after_row rs (suc s.node) = ap (λ (z : Node). number_after z s.node) e in
         let sz : size x.tree ≡ suc (sizes rs) = ap size e in
@@ -217,7 +218,7 @@ module _ {t : List ℕ} (ok : CleanTable t) (fit : CallsFit (symbols_of t)) (H :
         rw n (close ok H x _ j over_call (filled_none _) (f b) refl refl (omega arith) (sym num) (omega arith))
 
   -- a list
-  module _ {of : ℕ} (yes : begun ≡ Some of) where
+  module _ (yes : begun ≡ true) where
     pub asked_args : RowAsked q s₁ b₁ 0 many
     unfolding size Legal
     asked_args =
@@ -239,7 +240,7 @@ module _ {t : List ℕ} (ok : CleanTable t) (fit : CallsFit (symbols_of t)) (H :
 
     module _ {ts ts₁ : List Ty} {b₂ : Reports} {row : RowJudged} (lent : Space q ts₁)
         (js : (y : RowAsked q s₁ b₁ 0 many) → RowIs t H s₁ [] ts ts₁ b₁ b₂ row y.trees) where
-      pub args_ready : CallAsked ts₁ s.node b₂ (resolve (symbols_of t) ((symbols_of t).functions_of of id) s.node (args_in ts₁ row.args))
+      pub args_ready : CallAsked ts₁ s.node b₂ (resolve (symbols_of t) ((symbols_of t).functions_of no_id id) s.node (args_in ts₁ row.args.items))
       unfolding size Legal
       args_ready =
           let (rs, e, counted, st) = is_call q s.at x.tree id many x.stands h in
@@ -247,11 +248,11 @@ module _ {t : List ℕ} (ok : CleanTable t) (fit : CallsFit (symbols_of t)) (H :
           let sz : size x.tree ≡ suc (sizes rs) = ap size e in
           let lg : Legal x.names (call id rs) = rw e at x.legal in
           call_ready ok H x inside-call id c list rs many st lg.1 counted (room_of q s.at _ h).1 (omega arith) (omega (arith, x.room)) (omega (arith, x.within.few)) lent js
-          (λ xs. call_short (symbols_of t) (symbols_fit t ok.clean) H id c s.node xs found) (λ xs k. rw (list.owned, list.list) at (fit.most of id s.node xs k))
+          (λ xs. call_short (symbols_of t) (symbols_fit t ok.clean) H id c s.node xs found) (λ xs k. rw (list.owned, list.list) at (fit.most no_id id s.node xs k))
 
       pub ret_call : {ts' : List Ty} {b' : Reports} {r : State}
-          → Finished row.state s.node (resolve (symbols_of t) ((symbols_of t).functions_of of id) s.node (args_in ts₁ row.args)).ty
-          (resolve (symbols_of t) ((symbols_of t).functions_of of id) s.node (args_in ts₁ row.args)).diags ts₁ ts' b₂ b' r
+          → Finished row.state s.node (resolve (symbols_of t) ((symbols_of t).functions_of no_id id) s.node (args_in ts₁ row.args.items)).ty
+          (resolve (symbols_of t) ((symbols_of t).functions_of no_id id) s.node (args_in ts₁ row.args.items)).diags ts₁ ts' b₂ b' r
           → NodeIs t H s ts ts' b b' r x.tree
       unfolding judge size Legal bytes number_after call_step
       ret_call f =
@@ -262,7 +263,7 @@ module _ {t : List ℕ} (ok : CleanTable t) (fit : CallsFit (symbols_of t)) (H :
           let sz : size x.tree ≡ suc (sizes rs) = ap size e in
           let lg : Legal x.names (call id rs) = rw e at x.legal in
           call_close ok H x inside-call id c list rs many st lg.1 counted (room_of q s.at _ h).1 (omega arith) (omega (arith, x.room)) (omega (arith, x.within.few)) lent js
-          (λ xs. call_short (symbols_of t) (symbols_fit t ok.clean) H id c s.node xs found) (λ xs k. rw (list.owned, list.list) at (fit.most of id s.node xs k))
+          (λ xs. call_short (symbols_of t) (symbols_fit t ok.clean) H id c s.node xs found) (λ xs k. rw (list.owned, list.list) at (fit.most no_id id s.node xs k))
           (filled_none _) (ap (λ (z : Node). judge (symbols_of t) H z s.node) e ∙ ap (λ (o : Option Callee). call_step (symbols_of t) s.node o (judges (symbols_of t) H rs (suc s.node))) found) (omega arith) (sym num) (omega arith) f
 
 -- ---- method calls
@@ -356,7 +357,7 @@ module _ {t : List ℕ} (ok : CleanTable t) (fit : CallsFit (symbols_of t)) (H :
 
         module _ {ts₁ : List Ty} {b₂ : Reports} {row : RowJudged} (lent : Space q ts₁)
             (js : (y : RowAsked q r₁ b₁ 0 many) → RowIs t H r₁ [] ts ts₁ b₁ b₂ row y.trees) where
-          pub method_ready : CallAsked ts₁ s.node b₂ (resolve (symbols_of t) ((symbols_of t).functions_of of id) s.node (args_in ts₁ row.args))
+          pub method_ready : CallAsked ts₁ s.node b₂ (resolve (symbols_of t) ((symbols_of t).functions_of of id) s.node (args_in ts₁ row.args.items))
           unfolding size Legal
           method_ready =
               let (c, rs, e, counted, sc, st) = is_method q s.at x.tree id many x.stands h in
@@ -368,8 +369,8 @@ module _ {t : List ℕ} (ok : CleanTable t) (fit : CallsFit (symbols_of t)) (H :
               (λ xs. method_short (symbols_of t) (symbols_fit t ok.clean) H id (judge (symbols_of t) H c (suc s.node)).ty f s.node xs found) (λ xs k. rw (list.owned, list.list) at (fit.most of id s.node xs k))
 
           pub ret_method : {ts' : List Ty} {b' : Reports} {r : State}
-              → Finished row.state s.node (resolve (symbols_of t) ((symbols_of t).functions_of of id) s.node (args_in ts₁ row.args)).ty
-              (resolve (symbols_of t) ((symbols_of t).functions_of of id) s.node (args_in ts₁ row.args)).diags ts₁ ts' b₂ b' r
+              → Finished row.state s.node (resolve (symbols_of t) ((symbols_of t).functions_of of id) s.node (args_in ts₁ row.args.items)).ty
+              (resolve (symbols_of t) ((symbols_of t).functions_of of id) s.node (args_in ts₁ row.args.items)).diags ts₁ ts' b₂ b' r
               → NodeIs t H s ts₀ ts' b₀ b' r x.tree
           unfolding judge size Legal bytes number_after method_step
           ret_method w =

@@ -1,4 +1,8 @@
 // The node judge and the argument-row judge.
+//
+// Space, NodeAsked and RowAsked are asked, and the parameters stand apart: a type of all that they speak of would be taken apart at each call, as a child takes
+// the slots and the reports with another state. That there is room for what is reported is part of Within, which goes by the nodes passed.
+ghost use Rattle.ty.specs.Name.{id_number};
 ghost use Rattle.cycle.specs.Inside.Contract.{Space, NodeAsked, JudgesNode, RowAsked, JudgesRow, CallFits, CallIs};
 
 use area::reports::Reports;
@@ -51,18 +55,18 @@ pub fn judge_node(
         }
         Node::Call { id, count } => {
             let s = inside(s, 4);
-            match begin_call(table, header, id, node, reports) {
-                None => unlisted(bytes, q, Kind::Error, count, node, s, slots),
-                Some(owner) => {
-                    judge_call(table, q, header, owner, id, node, s, count, slots, reports)
-                }
+            if !begin_call(table, header, id, node, reports) {
+                return unlisted(bytes, q, Kind::Error, count, node, s, slots);
             }
+            judge_call(table, q, header, None, id, node, s, count, slots, reports)
         }
+        // Apart from a call: the object is judged first, and its type gives an owner.
         Node::Method { id, count } => {
             let x = judge_node(table, q, header, inside(s, 4), slots, reports);
             match begin_method(table, header, id, node, slots, reports) {
                 None => unlisted(bytes, q, Kind::Any, count, node, x, slots),
                 Some(owner) => {
+                    let owner = Some(owner);
                     judge_call(table, q, header, owner, id, node, x, count, slots, reports)
                 }
             }
@@ -77,7 +81,7 @@ fn judge_call(
     table: &Table<'_>,
     q: &[u8],
     header: Header,
-    owner: u16,
+    owner: Option<u16>,
     id: u16,
     node: usize,
     s: State,
@@ -85,8 +89,8 @@ fn judge_call(
     slots: &mut [Slot],
     reports: &mut Reports<'_>,
 ) -> State
-    requires { Space q.now slots.old × RowAsked q.now s reports.old 0 n × CallFits table.now q.now header owner id node s n slots.old reports.old }
-    ensures { CallIs table.now q.now header owner id node s n slots.old slots.new reports.old reports.new result }
+    requires { Space q.now slots.old × RowAsked q.now s reports.old 0 n × CallFits table.now q.now header (id_number owner) id node s n slots.old reports.old }
+    ensures { CallIs table.now q.now header (id_number owner) id node s n slots.old slots.new reports.old reports.new result }
 {
     let row = judge_row(table, q, header, s, n, slots, reports);
     finish_call(table, owner, id, node, &row, slots, reports)
@@ -108,7 +112,7 @@ fn judge_row(
 {
     let mut args = Args::new();
     let mut e = s;
-    for k in 0..n {
+    for _k in 0..n {
         args.push(Arg {
             node: e.node,
             name: argument_name(q, e.at),

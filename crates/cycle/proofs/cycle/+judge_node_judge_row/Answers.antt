@@ -99,29 +99,29 @@ judge_node-begin_call-requires t c = few_reported c.requires.1
 pub judge_node-unlisted-requires : goal.judge_node-unlisted-requires
 judge_node-unlisted-requires t c =
     let h = read_as _ _ c.in-Ok.ensures c.in-Call.is in
-    (slot_room c.requires.1 c.requires.0, call_passed (record { clean = c.bytes-bytes.ensures.clean }) (calls_fit _ (record { clean = c.bytes-bytes.ensures.clean })) c.args.header c.requires.1 _ _ h c.inside-s.ensures c.begin_call.ensures c.in-None.is)
+    (slot_room c.requires.1 c.requires.0, call_passed (record { clean = c.bytes-bytes.ensures.clean }) (calls_fit _ (record { clean = c.bytes-bytes.ensures.clean })) c.args.header c.requires.1 _ _ h c.inside-s.ensures c.begin_call.ensures c.if-not-begin_call.true)
 
-pub judge_node-returns-in-None : goal.judge_node-returns-in-None
-judge_node-returns-in-None t c =
+pub judge_node-returns-then-not-begin_call : goal.judge_node-returns-then-not-begin_call
+judge_node-returns-then-not-begin_call t c =
     let h = read_as _ _ c.in-Ok.ensures c.in-Call.is in
-    λ x. ret_call_none (record { clean = c.bytes-bytes.ensures.clean }) (calls_fit _ (record { clean = c.bytes-bytes.ensures.clean })) c.args.header x _ _ h c.inside-s.ensures c.begin_call.ensures c.in-None.is c.unlisted.ensures
+    λ x. ret_call_none (record { clean = c.bytes-bytes.ensures.clean }) (calls_fit _ (record { clean = c.bytes-bytes.ensures.clean })) c.args.header x _ _ h c.inside-s.ensures c.begin_call.ensures c.if-not-begin_call.true c.unlisted.ensures
 
 pub judge_node-judge_call-requires : goal.judge_node-judge_call-requires
 judge_node-judge_call-requires t c =
     let h = read_as _ _ c.in-Ok.ensures c.in-Call.is in (
-      below c.decreases (args_fall (record { clean = c.bytes-bytes.ensures.clean }) (calls_fit _ (record { clean = c.bytes-bytes.ensures.clean })) c.args.header c.requires.1 _ _ h c.inside-s.ensures c.begin_call.ensures c.in-Some.is),
+      below c.decreases (args_fall (record { clean = c.bytes-bytes.ensures.clean }) (calls_fit _ (record { clean = c.bytes-bytes.ensures.clean })) c.args.header c.requires.1 _ _ h c.inside-s.ensures c.begin_call.ensures c.if-not-begin_call.false),
       (
         c.requires.0,
-        asked_args (record { clean = c.bytes-bytes.ensures.clean }) (calls_fit _ (record { clean = c.bytes-bytes.ensures.clean })) c.args.header c.requires.1 _ _ h c.inside-s.ensures c.begin_call.ensures c.in-Some.is,
-        λ row ts' b' lent js. args_ready (record { clean = c.bytes-bytes.ensures.clean }) (calls_fit _ (record { clean = c.bytes-bytes.ensures.clean })) c.args.header c.requires.1 _ _ h c.inside-s.ensures c.begin_call.ensures c.in-Some.is lent js,
+        asked_args (record { clean = c.bytes-bytes.ensures.clean }) (calls_fit _ (record { clean = c.bytes-bytes.ensures.clean })) c.args.header c.requires.1 _ _ h c.inside-s.ensures c.begin_call.ensures c.if-not-begin_call.false,
+        λ row ts' b' lent js. args_ready (record { clean = c.bytes-bytes.ensures.clean }) (calls_fit _ (record { clean = c.bytes-bytes.ensures.clean })) c.args.header c.requires.1 _ _ h c.inside-s.ensures c.begin_call.ensures c.if-not-begin_call.false lent js,
       ),
     )
 
-pub judge_node-returns-in-Some : goal.judge_node-returns-in-Some
-judge_node-returns-in-Some t c =
+pub judge_node-returns-else-not-begin_call : goal.judge_node-returns-else-not-begin_call
+judge_node-returns-else-not-begin_call t c =
     let h = read_as _ _ c.in-Ok.ensures c.in-Call.is in
     let w = c.judge_call.ensures in
-    λ x. ret_call (record { clean = c.bytes-bytes.ensures.clean }) (calls_fit _ (record { clean = c.bytes-bytes.ensures.clean })) c.args.header x _ _ h c.inside-s.ensures c.begin_call.ensures c.in-Some.is w.lent w.judged w.finished
+    λ x. ret_call (record { clean = c.bytes-bytes.ensures.clean }) (calls_fit _ (record { clean = c.bytes-bytes.ensures.clean })) c.args.header x _ _ h c.inside-s.ensures c.begin_call.ensures c.if-not-begin_call.false w.lent w.judged w.finished
 
 pub judge_node-judge_node-x-requires-in-Method : goal.judge_node-judge_node-x-requires-in-Method
 judge_node-judge_node-x-requires-in-Method t c =
@@ -134,32 +134,32 @@ judge_node-begin_method-requires t c =
     let h = read_as _ _ c.in-Ok.ensures c.in-Method.is in
     (node_room c.requires.1, object_few (record { clean = c.bytes-bytes.ensures.clean }) (calls_fit _ (record { clean = c.bytes-bytes.ensures.clean })) c.args.header c.requires.1 _ _ h c.inside-in-Method.ensures c.judge_node-x-in-Method.ensures)
 
-pub judge_node-unlisted-requires-in-None-begin_method : goal.judge_node-unlisted-requires-in-None-begin_method
-judge_node-unlisted-requires-in-None-begin_method t c =
+pub judge_node-unlisted-requires-in-None : goal.judge_node-unlisted-requires-in-None
+judge_node-unlisted-requires-in-None t c =
     let h = read_as _ _ c.in-Ok.ensures c.in-Method.is in
-    (slot_still c.requires.1 c.requires.0 c.judge_node-x-in-Method.auto.slots, method_passed (record { clean = c.bytes-bytes.ensures.clean }) (calls_fit _ (record { clean = c.bytes-bytes.ensures.clean })) c.args.header c.requires.1 _ _ h c.inside-in-Method.ensures c.judge_node-x-in-Method.ensures c.requires.0 c.begin_method.ensures c.in-None-begin_method.is)
+    (slot_still c.requires.1 c.requires.0 c.judge_node-x-in-Method.auto.slots, method_passed (record { clean = c.bytes-bytes.ensures.clean }) (calls_fit _ (record { clean = c.bytes-bytes.ensures.clean })) c.args.header c.requires.1 _ _ h c.inside-in-Method.ensures c.judge_node-x-in-Method.ensures c.requires.0 c.begin_method.ensures c.in-None.is)
 
-pub judge_node-returns-in-None-begin_method : goal.judge_node-returns-in-None-begin_method
-judge_node-returns-in-None-begin_method t c =
+pub judge_node-returns-in-None : goal.judge_node-returns-in-None
+judge_node-returns-in-None t c =
     let h = read_as _ _ c.in-Ok.ensures c.in-Method.is in
-    λ x. ret_method_none (record { clean = c.bytes-bytes.ensures.clean }) (calls_fit _ (record { clean = c.bytes-bytes.ensures.clean })) c.args.header x _ _ h c.inside-in-Method.ensures c.judge_node-x-in-Method.ensures c.requires.0 c.begin_method.ensures c.in-None-begin_method.is c.unlisted-in-None-begin_method.ensures
+    λ x. ret_method_none (record { clean = c.bytes-bytes.ensures.clean }) (calls_fit _ (record { clean = c.bytes-bytes.ensures.clean })) c.args.header x _ _ h c.inside-in-Method.ensures c.judge_node-x-in-Method.ensures c.requires.0 c.begin_method.ensures c.in-None.is c.unlisted-in-None.ensures
 
-pub judge_node-judge_call-requires-in-Some-begin_method : goal.judge_node-judge_call-requires-in-Some-begin_method
-judge_node-judge_call-requires-in-Some-begin_method t c =
+pub judge_node-judge_call-requires-in-Some : goal.judge_node-judge_call-requires-in-Some
+judge_node-judge_call-requires-in-Some t c =
     let h = read_as _ _ c.in-Ok.ensures c.in-Method.is in (
-      below c.decreases (method_fall (record { clean = c.bytes-bytes.ensures.clean }) (calls_fit _ (record { clean = c.bytes-bytes.ensures.clean })) c.args.header c.requires.1 _ _ h c.inside-in-Method.ensures c.judge_node-x-in-Method.ensures c.requires.0 c.begin_method.ensures c.in-Some-begin_method.is),
+      below c.decreases (method_fall (record { clean = c.bytes-bytes.ensures.clean }) (calls_fit _ (record { clean = c.bytes-bytes.ensures.clean })) c.args.header c.requires.1 _ _ h c.inside-in-Method.ensures c.judge_node-x-in-Method.ensures c.requires.0 c.begin_method.ensures c.in-Some.is),
       (
         space_still c.judge_node-x-in-Method.auto.slots c.requires.0,
-        asked_method (record { clean = c.bytes-bytes.ensures.clean }) (calls_fit _ (record { clean = c.bytes-bytes.ensures.clean })) c.args.header c.requires.1 _ _ h c.inside-in-Method.ensures c.judge_node-x-in-Method.ensures c.requires.0 c.begin_method.ensures c.in-Some-begin_method.is,
-        λ row ts' b' lent js. method_ready (record { clean = c.bytes-bytes.ensures.clean }) (calls_fit _ (record { clean = c.bytes-bytes.ensures.clean })) c.args.header c.requires.1 _ _ h c.inside-in-Method.ensures c.judge_node-x-in-Method.ensures c.requires.0 c.begin_method.ensures c.in-Some-begin_method.is lent js,
+        asked_method (record { clean = c.bytes-bytes.ensures.clean }) (calls_fit _ (record { clean = c.bytes-bytes.ensures.clean })) c.args.header c.requires.1 _ _ h c.inside-in-Method.ensures c.judge_node-x-in-Method.ensures c.requires.0 c.begin_method.ensures c.in-Some.is,
+        λ row ts' b' lent js. method_ready (record { clean = c.bytes-bytes.ensures.clean }) (calls_fit _ (record { clean = c.bytes-bytes.ensures.clean })) c.args.header c.requires.1 _ _ h c.inside-in-Method.ensures c.judge_node-x-in-Method.ensures c.requires.0 c.begin_method.ensures c.in-Some.is lent js,
       ),
     )
 
-pub judge_node-returns-in-Some-begin_method : goal.judge_node-returns-in-Some-begin_method
-judge_node-returns-in-Some-begin_method t c =
+pub judge_node-returns-in-Some : goal.judge_node-returns-in-Some
+judge_node-returns-in-Some t c =
     let h = read_as _ _ c.in-Ok.ensures c.in-Method.is in
-    let w = c.judge_call-in-Some-begin_method.ensures in
-    λ x. ret_method (record { clean = c.bytes-bytes.ensures.clean }) (calls_fit _ (record { clean = c.bytes-bytes.ensures.clean })) c.args.header x _ _ h c.inside-in-Method.ensures c.judge_node-x-in-Method.ensures c.requires.0 c.begin_method.ensures c.in-Some-begin_method.is w.lent w.judged w.finished
+    let w = c.judge_call-in-Some.ensures in
+    λ x. ret_method (record { clean = c.bytes-bytes.ensures.clean }) (calls_fit _ (record { clean = c.bytes-bytes.ensures.clean })) c.args.header x _ _ h c.inside-in-Method.ensures c.judge_node-x-in-Method.ensures c.requires.0 c.begin_method.ensures c.in-Some.is w.lent w.judged w.finished
 
 pub judge_node-returns-in_default : goal.judge_node-returns-in_default
 judge_node-returns-in_default t c =
@@ -206,8 +206,8 @@ judge_row-judge_node-e-requires t c =
 pub judge_row-loop-k-preserved : goal.judge_row-loop-k-preserved
 judge_row-loop-k-preserved t c = (
   c.loop-k.invariant.0,
-  rw c.push.ensures (simp length-append (omega (arith, c.loop-k.invariant.1))),
-  λ x. rw c.push.ensures (turn_next (c.loop-k.invariant.2 x) c.loop-k-test.true c.argument_name.ensures c.judge_node-e.ensures),
+  rw c.push.ensures.items (simp length-append (omega (arith, c.loop-k.invariant.1))),
+  λ x. rw c.push.ensures.items (turn_next (c.loop-k.invariant.2 x) c.loop-k-test.true c.argument_name.ensures c.judge_node-e.ensures),
 )
 
 pub judge_row-returns : goal.judge_row-returns
