@@ -7,6 +7,8 @@ use Rattle.question.specs.declared.node.Node.TheVariants.{Member as MemberNode, 
 use Rattle.question.specs.declared.node.Node.{Node}
 use Rattle.question.specs.declared.node.NodeFault.TheVariants.{Bad as BadNode, Endless as EndlessNode}
 use Rattle.question.specs.declared.node.NodeFault.{NodeFault}
+use Rattle.ty.specs.declared.read.TypeFault.TheVariants.{Cut, Malformed, Endless as Unended}
+use Rattle.ty.specs.declared.read.TypeFault.{TypeFault}
 
 abbrev pub node_read : Node → NodeRead
 node_read (LeafNode len top) = Leaf len top
@@ -20,6 +22,12 @@ node_read (MethodNode id n) = Method id n
 abbrev pub fault_read : NodeFault → NodeRead
 fault_read BadNode = Bad
 fault_read (EndlessNode top) = Endless top
+
+-- why a leaf is no node, by why its type was not read
+abbrev pub leaf_fault : TypeFault → NodeFault
+leaf_fault Cut = BadNode
+leaf_fault Malformed = BadNode
+leaf_fault (Unended top error) = EndlessNode top
 
 abbrev pub read_of : Result Node NodeFault → NodeRead
 read_of (Ok node) = node_read node

@@ -14,6 +14,6 @@ node_kind_number Member = 4
 node_kind_number Call = 5
 node_kind_number Method = 6
 
--- the kind with that byte, or none where no kind has it
+-- the kind with that byte, or that byte where no kind has it
 abbrev pub NodeKindIs : ℕ → Result NodeKind UnknownNumber → Type 0
-NodeKindIs byte r = MatchResult r (λ kind. node_kind_number kind ≡ byte) (λ _. (kind : NodeKind) → node_kind_number kind ≢ byte)
+NodeKindIs byte r = MatchResult r (λ kind. node_kind_number kind ≡ byte) (λ e. (e.0 ≡ byte) × ((kind : NodeKind) → node_kind_number kind ≢ byte))

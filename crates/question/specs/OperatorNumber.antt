@@ -1,6 +1,5 @@
 -- The numbers of the operators. Document 01, "Table and question": binary in `BinOp` order 0 to 22, unary in `UnOp` order 0 to 6.
-use Rattle.std.specs.Prelude.{Result, Ok, Err, ℕ, ◌<◌, ◌≡◌}
-use Rattle.question.specs.NodeRead.{last_binary, last_unary}
+use Rattle.std.specs.Prelude.{◌≡◌, ◌≢◌, ℕ, Result, MatchResult}
 use Rattle.question.specs.declared.operator.BinOp.TheVariants.{Add, Sub, Mul, Div, Mod, Eq, Ne, Lt, Gt, Le, Ge, And, Or, BitAnd, BitOr, BitXor, Shl, Shr}
 use Rattle.question.specs.declared.operator.BinOp.TheVariants.{UShr, Assign, To, Is, As}
 use Rattle.question.specs.declared.operator.BinOp.{BinOp}
@@ -42,11 +41,9 @@ unary_number AddrOf = 4
 unary_number Dereference = 5
 unary_number NotNull = 6
 
--- reading a number gives the operator that has it, or an error past the last
+-- the operator with that number, or that number where no operator has it
 abbrev pub ReadsBinary : ℕ → Result BinOp UnknownNumber → Type 0
-ReadsBinary n (Ok op) = binary_number op ≡ n
-ReadsBinary n (Err e) = last_binary < n
+ReadsBinary n r = MatchResult r (λ op. binary_number op ≡ n) (λ e. (e.0 ≡ n) × ((op : BinOp) → binary_number op ≢ n))
 
 abbrev pub ReadsUnary : ℕ → Result UnOp UnknownNumber → Type 0
-ReadsUnary n (Ok op) = unary_number op ≡ n
-ReadsUnary n (Err e) = last_unary < n
+ReadsUnary n r = MatchResult r (λ op. unary_number op ≡ n) (λ e. (e.0 ≡ n) × ((op : UnOp) → unary_number op ≢ n))

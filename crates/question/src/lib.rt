@@ -17,7 +17,7 @@ use ty::name::id_defined;
 use ty::{byte_at, id_at, known_id};
 
 // Where the script stands: the current type and package, NameId::NONE for none, and whether in a suspend function.
-// No Option: the theorem that a written question reads back holds of each header.
+// Numbers, no Options: Some(65535) would read back as None, so that the law that a written question reads back (specs/ReadBack.antt) would need a premise.
 #[derive(Clone, Copy)]
 pub struct Header {
     pub current: u16,
@@ -53,7 +53,8 @@ impl QuestionFault {
 
 const LONGEST_QUESTION: usize = 16384;
 
-const HEADER_BYTES: usize = 5;
+// How many bytes a question's header has.
+pub const HEADER_BYTES: usize = 5;
 
 // The header of a question, with 0 for each byte that is not there.
 #[tactic(auto, unfolding(crate::specs::Header::header_of))]
@@ -71,10 +72,7 @@ pub fn read_header(question: &[u8]) -> Header
 fn none_or_defined(id: u16, names: Names) -> bool
     ensures { result ≡ none_or_defined names id }
 {
-    match known_id(id) {
-        None => true,
-        Some(id) => id_defined(id, names.count),
-    }
+    known_id(id).is_none_or(|id| id_defined(id, names.count))
 }
 
 // The header is there, and its ids are none or defined.
@@ -103,7 +101,7 @@ fn check_id(id: u16, names: Names) -> Result<(), QuestionFault>
     }
 }
 
-// One of the first 64 nodes, by its highest id.
+// Checks the ids of one of the first 64 nodes by the highest of them.
 #[tactic(auto, unfolding(crate::specs::Inside::Top::read_fault))]
 fn check_node(node: Node, names: Names) -> Result<(), QuestionFault>
     ensures { number_of result ≡ read_fault names (node_read node) }
@@ -116,7 +114,7 @@ fn check_node(node: Node, names: Names) -> Result<(), QuestionFault>
     }
 }
 
-// What it draws that no such node was read; a leaf whose type has no end, by its highest id too.
+// The fault where no node was read. A leaf's type without end is UndefinedId if its highest id is undefined.
 #[tactic(auto, unfolding(crate::specs::Inside::Top::read_fault, crate::specs::Inside::Top::endless_fault, ty::specs::Choose::choose))]
 fn unread(fault: NodeFault, names: Names) -> QuestionFault
     ensures { question_fault_number result ≡ read_fault names (fault_read fault) }
@@ -128,7 +126,7 @@ fn unread(fault: NodeFault, names: Names) -> QuestionFault
     }
 }
 
-// One of the first 64 nodes, as it was read.
+// Checks what was read of one of the first 64 nodes: its fault, or its ids.
 fn checked(read: Result<Node, NodeFault>, names: Names) -> Result<Node, QuestionFault>
     ensures number { number_of result ≡ read_fault names (read_of read) }
     ensures node { IfOk result (λ node. read ≡ Ok node) }

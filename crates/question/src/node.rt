@@ -4,7 +4,7 @@ ghost use Rattle.ty.specs.Read.{read_type, longest_type};
 ghost use Rattle.ty.specs.Choose.{choose};
 ghost use Rattle.question.specs.NodeKind.{node_kind_number, NodeKindIs};
 ghost use Rattle.question.specs.NodeRead.{Bad, leaf_of, node_of, node_in, node_at, own_bytes, children as children_of};
-ghost use Rattle.question.specs.Node.{node_read, read_of};
+ghost use Rattle.question.specs.Node.{node_read, read_of, leaf_fault};
 ghost use Rattle.question.specs.Inside.Skip.{skip_at};
 ghost use Rattle.question.specs.Inside.WalkStep.{WalkStep};
 ghost use Rattle.question.specs.declared.node.NodeFault.TheVariants.{Bad as BadNode};
@@ -86,6 +86,18 @@ impl From<UnknownNumber> for NodeFault {
     }
 }
 
+// A leaf whose type was not read is no node, or has no end.
+impl From<TypeFault> for NodeFault {
+    ghost from_gives = { λ fault node_fault. node_fault ≡ leaf_fault fault };
+
+    fn from(fault: TypeFault) -> NodeFault {
+        match fault {
+            TypeFault::Cut | TypeFault::Malformed => NodeFault::Bad,
+            TypeFault::Endless { top, error: _ } => NodeFault::Endless { top },
+        }
+    }
+}
+
 // Where nodes end: the next position, and how many nodes were passed.
 #[derive(Clone, Copy)]
 pub struct Skipped {
@@ -108,15 +120,11 @@ fn leaf(s: &[u8]) -> Result<Node, NodeFault>
     if kind_of(s) < Kind::Nullable as u8 {
         return Ok(Node::Leaf { len: 1, top: 0 });
     }
-    match read_type(s, LONGEST_TYPE) {
-        Ok(read) => Ok(Node::Leaf {
-            len: read.len as u16,
-            top: read.top,
-        }),
-        Err(TypeFault::Endless { top, error: _ }) => Err(NodeFault::Endless { top }),
-        Err(TypeFault::Cut) => Err(NodeFault::Bad),
-        Err(TypeFault::Malformed) => Err(NodeFault::Bad),
-    }
+    let read = read_type(s, LONGEST_TYPE)?;
+    Ok(Node::Leaf {
+        len: read.len as u16,
+        top: read.top,
+    })
 }
 
 // A node whose bytes are there, and none otherwise.

@@ -1,5 +1,6 @@
 // The operators of binary and of unary nodes, by the numbers that stand for them.
-ghost use Rattle.question.specs.OperatorNumber.{ReadsBinary, ReadsUnary};
+ghost use Rattle.std.specs.Prelude.{◌≡◌};
+ghost use Rattle.question.specs.OperatorNumber.{binary_number, ReadsBinary, ReadsUnary};
 
 use ty::UnknownNumber;
 
@@ -39,6 +40,16 @@ pub enum UnOp {
     AddrOf,
     Dereference,
     NotNull,
+}
+
+impl BinOp {
+    // The byte that stands for an operator.
+    #[tactic(auto, unfolding(crate::specs::OperatorNumber::binary_number))]
+    pub fn number(self) -> u8
+        ensures { result ≡ binary_number self }
+    {
+        self as u8
+    }
 }
 
 impl TryFrom<u8> for BinOp {
