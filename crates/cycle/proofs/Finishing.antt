@@ -1,6 +1,6 @@
 -- The slots behind a judged tree: that of every finished node holds that node's type, and what belongs to another number is as it was.
-use Prim.Native.Nat.{ℕ, zero, suc, ◌+◌, ◌≤◌, ◌<◌}
-use lib.ListN.{length, replicate}
+use Prim.Native.Nat.{ℕ, zero, suc}
+use lib.ListN.{replicate}
 use mathlib.Core.List.{List, [], Memᴰ}
 use mathlib.Core.Option.{none, some}
 use mathlib.Core.Path.{◌≡◌, refl, ap, ◌∙◌}

@@ -22,7 +22,7 @@ use Rattle.nodes.specs.declared.progress.State.{State}
 use Rattle.scoring.specs.Arg.{Arg}
 use Rattle.question.proofs.Standing.{is_nil, is_cons}
 use Rattle.question.proofs.Trees.{after_size}
-use Rattle.question.specs.Legal.{Legal, RowLegal}
+use Rattle.question.specs.Legal.{RowLegal}
 use Rattle.question.specs.Inside.Stands.{TreeStands}
 use Rattle.question.specs.Tree.{Node, Row, leaf, binary, unary, named, member, call, method, nil, cons, number_after, number_after_row, size, sizes, count, bytes, bytess, argument_name}
 use Rattle.question.specs.declared.Header.{Header}

@@ -1,5 +1,5 @@
 -- A call before its arguments are visited: laws of what it finds, and what the judge of a node needs of it.
-use Prim.Native.Nat.{ℕ, ◌+◌, ◌≤◌}
+use Prim.Native.Nat.{ℕ, ◌≤◌}
 use lib.Dec.{eqb}
 use lib.ListN.{length, length-append}
 use mathlib.Core.Bool.{Bool, true, false}

@@ -1,5 +1,5 @@
 -- What is no named argument gives no name.
-use Rattle.std.proofs.Common.{ℕ, ◌≡◌, refl, Option, None}
+use Rattle.std.proofs.Common.{ℕ, ◌≡◌, refl, None}
 use Rattle.nodes.specs.Inside.Row.{name_read}
 use Rattle.question.specs.declared.node.Node.TheVariants.{Leaf, Binary, Unary, Named, Member, Call, Method}
 use Rattle.question.specs.declared.node.Node.{Node}

@@ -1,4 +1,3 @@
-use mathlib.Core.Path.{sym, ◌∙◌}
 use Rattle.nodes.proofs.Beginning.{owner_none, owner_some}
 use Rattle.nodes.proofs.calls.begin_method.Goals as goal
 
