@@ -27,7 +27,7 @@ fn mark(late: &mut [u16], head: Option<Head>, p: Place)
 }
 
 // The records from me on come into the entries, so that each id has its last class record. The entries are those of the ids below their number.
-// What is asked of table and cursor goes by both: the check of a table looks ahead before there is a Table.
+// The clause ties the cursor to the table's bytes: this runs while the table is checked, before there is a Table.
 pub fn look_ahead(t: &[u8], me: Cursor, late: &mut [u16])
     requires { CursorAt t.now me × (length t.now ≤ 60000) }
     ensures { late.new ≡ marked_from t.now me.at late.old }

@@ -138,7 +138,8 @@ pub fn last_at(n: usize, b: usize) -> usize
     first_at(n, b) + list_count(n)
 }
 
-// Where the entry c of the record at p stands.
+// Where the entry c of the record at p stands. Before those of records stand entry 0, one for each bucket of names and of other keys, two for each bucket of
+// lists: 641 is 1 + 2 * 256 + 2 * 64.
 #[tactic(auto, using(crate::proofs::Buckets::buckets))]
 pub fn child_at(n: usize, p: usize, c: usize) -> usize
     requires { c < 8 }

@@ -37,6 +37,7 @@ pub fn enter(x: &mut [u16], n: usize, b: usize, p: Place)
 }
 
 // A place in the list of a bucket: the owner and the name that are looked for, and the function here, none at the list's end.
+// A cursor that each step hands back, as document 01 has it (docs/DECISIONS.md, "Forms that document 01 names"), and no Iterator.
 #[derive(Clone, Copy)]
 pub struct ListCursor {
     pub owner: u16,
@@ -44,7 +45,7 @@ pub struct ListCursor {
     pub here: Option<Place>,
 }
 
-// The private steps take a table's bytes and its index: a Table's value is its bytes, and the steps' clauses name entries of the index.
+// The private steps take bytes and index apart: in a clause a Table is its bytes alone, and these clauses name entries of the index.
 impl ListCursor {
     // At the first function of the bucket of an owner and a name.
     #[tactic(auto, unfolding(crate::specs::Inside::ListWalk::list_start))]
@@ -109,7 +110,7 @@ impl ListCursor {
         c
     }
 
-    // At the first function with an owner and a name.
+    // At the first function with an owner and a name. `accepted`, here and below: symbol's Functions need it in proofs and call nothing else that says it.
     pub fn first(table: &Table<'_>, owner: u16, name: u16) -> ListCursor
         ensures first { result ≡ list_first table.now owner name }
         ensures accepted { table_fault table.now ≡ 0 }

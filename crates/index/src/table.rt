@@ -13,7 +13,7 @@ use crate::tree::{Key, search, tree_of};
 use record::front::RecordKind;
 use std::marker::Model;
 
-// A table that draws no number, and its index.
+// An accepted table, and its index.
 #[derive(Drop)]
 pub struct Table<'a> {
     bytes: &'a [u8],
@@ -36,7 +36,7 @@ impl<'a> Table<'a> {
         Table { bytes, index }
     }
 
-    // The table's bytes.
+    // The table's bytes. `clean` says of the invariant what callers' measures and bounds need: it speaks of private fields itself.
     pub fn bytes(&self) -> &'a [u8]
         ensures bytes { result.now ≡ self.now }
         ensures clean { table_fault self.now ≡ 0 }

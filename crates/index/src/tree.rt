@@ -16,7 +16,8 @@ use ty::{byte_at, same_bytes};
 
 // What a search looks for: the name of the record at a place, or a kind from 2 on with its ids, `two` being 0 where the kind has one id: no search looks at it.
 // The kind is a number, as it is compared with the table's byte at each record of a search; a RecordKind would be made its number there.
-// A key goes with its table: where it is a name's place, that must lie in the table (KeyIn). An enum of its own, as neither kind of key is a none or an error.
+// A place and no bytes: with bytes a key would borrow the table, and each definition on keys would read through it. So a key goes with its table (KeyIn: a
+// name's place lies in it, a kind is from 2 on). An enum of its own, as neither kind of key is a none or an error.
 #[derive(Clone, Copy)]
 pub enum Key {
     Name(Place),
@@ -55,7 +56,7 @@ pub fn tree_of(t: &[u8], key: Key) -> usize
 {
     let n = t.len();
     match key {
-        Key::Name(at) => reduced(hash(name_at(t, at.at)), n),
+        Key::Name(place) => reduced(hash(name_at(t, place.at)), n),
         Key::Ids { kind, one, two } => bucket_count(n) + reduced(key_bucket(kind, one, two), n),
     }
 }
@@ -74,7 +75,8 @@ fn word_at(name: &[u8], i: usize) -> usize
     ]) as usize
 }
 
-// A round of the digest.
+// A round of the digest: the upper half and the word, times the lower half made odd; then the lower half is added to the product's upper half.
+// In numbers of 64 bits with / and %, as the definition has it (specs/Inside/Bucket).
 #[tactic(auto, unfolding(crate::specs::Inside::Bucket::product_of, crate::specs::Inside::Bucket::round_of))]
 fn digest_round(s: usize, w: usize) -> usize
     requires { w < 4294967296 }
@@ -91,6 +93,7 @@ fn digest(name: &[u8]) -> usize
     ensures { result ≡ digest_of 15 name.now }
 {
     let mut s: usize = 11400714819323198485;
+    // By place: the six words are read two and a half times.
     for k in 0..15usize {
         s = digest_round(s, word_at(name, 4 * k % 24));
     }
@@ -115,12 +118,12 @@ fn digits(t: &[u8], key: Key, h: usize, d: usize) -> usize
     ensures { result ≡ digits_for t.now key d }
 {
     match key {
-        Key::Name(at) => {
+        Key::Name(place) => {
             if d == 0 {
-                return hash(name_at(t, at.at)) / 8192;
+                return hash(name_at(t, place.at)) / 8192;
             }
             if d == 1 {
-                return digest(name_at(t, at.at));
+                return digest(name_at(t, place.at));
             }
             h
         }
@@ -135,11 +138,11 @@ fn digit(t: &[u8], key: Key, h: usize, d: usize) -> usize
     ensures { (result ≡ digit_for t.now key d) × (result < 8) }
 {
     match key {
-        Key::Name(at) => {
+        Key::Name(place) => {
             if d < 21 {
                 return (h >> (3 * d)) % 8;
             }
-            let b = byte_at(name_at(t, at.at), d % 24);
+            let b = byte_at(name_at(t, place.at), d % 24);
             (b as usize >> (3 * (d / 24 % 3))) % 8
         }
         Key::Ids {
@@ -150,26 +153,26 @@ fn digit(t: &[u8], key: Key, h: usize, d: usize) -> usize
     }
 }
 
-// The record at p has a key. What is asked of table and record goes by both: a search is made before there is a Table, too.
+// The record at p has a key. The clause ties the record to the table's bytes: a search runs while the table is checked, too, before there is a Table.
 #[tactic(auto, using(crate::proofs::Earlier::has_other, crate::proofs::Earlier::has_name, crate::proofs::Earlier::has_ids, crate::proofs::Earlier::has_room))]
 fn has(t: &[u8], p: usize, key: Key) -> bool
     requires { WholeRecordAt t.now p × KeyIn t.now key × (length t.now ≤ 60000) }
     ensures { result ≡ key_matches t.now key (front_record (drop p t.now)) }
 {
     match key {
-        Key::Name(at) => {
+        Key::Name(place) => {
             // A test of the byte, as has_ids makes it.
             if byte_at(t, p) != RecordKind::Name.number() {
                 return false;
             }
-            same_bytes(name_at(t, p), name_at(t, at.at))
+            same_bytes(name_at(t, p), name_at(t, place.at))
         }
         Key::Ids { kind, one, two } => has_ids(t, p, kind, one, two),
     }
 }
 
 // A place in the tree of a key: an entry of the index, the record here (none where the entry is empty), how many records are above it, and the number that the
-// last digit was taken from.
+// last digit was taken from. A cursor that each step hands back, as document 01 has it (docs/DECISIONS.md, "Forms that document 01 names"), and no Iterator.
 #[derive(Clone, Copy)]
 pub struct TreeCursor {
     pub entry: usize,

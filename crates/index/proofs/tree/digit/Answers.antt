@@ -10,7 +10,7 @@ use Rattle.index.proofs.tree.digit.Goals as goal
 
 pub returns-then-d-lt21 : goal.returns-then-d-lt21
 returns-then-d-lt21 c = (
-  digit_mixed (name_bytes_at c.args.t.now c.in-Name.at.at) c.args.h c.args.d
+  digit_mixed (name_bytes_at c.args.t.now c.in-Name.place.at) c.args.h c.args.d
       (c.requires.1 ∙ ap (λ (z : Key). digits_for c.args.t.now z c.args.d) c.in-Name.is) c.if-d-lt21.true
       ∙ sym (ap (λ (z : Key). digit_for c.args.t.now z c.args.d) c.in-Name.is),
   omega arith,
@@ -18,7 +18,7 @@ returns-then-d-lt21 c = (
 
 pub returns-else-d-lt21 : goal.returns-else-d-lt21
 returns-else-d-lt21 c = (
-  digit_own (name_bytes_at c.args.t.now c.in-Name.at.at) c.byte_at-b.result c.args.d
+  digit_own (name_bytes_at c.args.t.now c.in-Name.place.at) c.byte_at-b.result c.args.d
       (c.byte_at-b.ensures ∙ ap (λ (z : List ℕ). get_or z (c.args.d % 24) 0) c.name_at.ensures) (omega (arith, c.if-d-lt21.false))
       ∙ sym (ap (λ (z : Key). digit_for c.args.t.now z c.args.d) c.in-Name.is),
   omega arith,
