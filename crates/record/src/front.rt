@@ -5,10 +5,14 @@ ghost use Rattle.record.specs.Inside.Front.{front_at, plain_head, or_none, good_
 ghost use Rattle.record.specs.Inside.Walk.{HeadIs};
 
 use crate::params::{Reading, read_function_head, typed_record};
+use ty::read::LONGEST_TYPE;
 use ty::{UnknownNumber, byte_at, id_at, known_id};
 
-// The longest type in a table.
-pub const LONGEST: u16 = 192;
+// The longest type in a record.
+pub const LONGEST: u16 = LONGEST_TYPE;
+
+// The bytes of a name's record: kind, length, 24 bytes.
+pub const NAME_BYTES: usize = 26;
 
 // The kinds of a record.
 #[derive(Clone, Copy, PartialEq, Eq)]
@@ -89,10 +93,7 @@ fn plain(
 ) -> Option<Head>
     ensures { front_at s.now result ≡ plain_head s.now n bad (record_kind_number kind) one two top }
 {
-    if s.len() < n {
-        return None;
-    }
-    if bad {
+    if (s.len() < n) || bad {
         return None;
     }
     Some(Head {
@@ -106,7 +107,7 @@ fn plain(
     })
 }
 
-// Without a branch, so that good_bytes can take many bytes at a time: a byte inside the name is not zero, one behind it is.
+// Without a branch, so that good_bytes can take many bytes at a time (docs/history/speed.md): a byte inside the name is not zero, one behind it is.
 fn good_byte(n: usize, i: usize, b: u8) -> bool
     ensures { result ≡ good_byte n i b }
 {
@@ -128,14 +129,14 @@ fn good_bytes(s: &[u8], n: usize) -> bool
 fn read_name(s: &[u8]) -> Option<Head>
     ensures { front_at s.now result ≡ name_head s.now }
 {
-    if s.len() < 26 {
+    if s.len() < NAME_BYTES {
         return None;
     }
     let n = byte_at(s, 1);
     let good = good_bytes(s, n as usize);
     plain(
         s,
-        26,
+        NAME_BYTES,
         (n < 1) | ((24 < n) | (!good)),
         RecordKind::Name,
         0,
@@ -150,10 +151,14 @@ pub fn read_record(s: &[u8]) -> Option<Head>
     requires { 0 < length s.now }
     ensures { HeadIs s.now result }
 {
-    match RecordKind::try_from(s[0]) {
-        Ok(kind) => read_kind(s, kind),
-        Err(_) => None,
-    }
+    read_kind(s, RecordKind::try_from(s[0]).ok()?)
+}
+
+// How many bytes the record at the front of s takes, when that was read there: all of them, where it is malformed or cut.
+pub fn record_len(s: &[u8], head: Option<Head>) -> usize
+    ensures { result ≡ (front_at s.now head).len }
+{
+    head.map_or(s.len(), |head| head.len)
 }
 
 #[tactic(auto, using(crate::proofs::Bounds::short_head), unfolding(crate::specs::Inside::Front::head_by, ty::specs::Choose::choose))]

@@ -10,7 +10,7 @@ use ty::read::read_type;
 use ty::{TypeFault, byte_at, id_at};
 
 // The result and the parameters read so far: the bytes passed, the highest id (0 for none, as in a Head), whether a name was repeated, whether Error was met,
-// how many parameters there are, and their names: an array with its count, since there is no heap.
+// how many parameters there are, and their names. An array with its count: a Reading is Copy and goes on by value, which an ArrayVec is not.
 #[derive(Clone, Copy)]
 pub struct Reading {
     pub len: usize,
@@ -30,7 +30,7 @@ pub enum ReadFault {
     Endless { top: u16, repeated: bool },
 }
 
-// Inlined: a reading that is copied from function to function was measured to be 20 to 30 % slower.
+// Inlined: a Reading has 32 bytes of names, which each call would copy.
 impl Reading {
     // Before a type, in a record whose owner and name have the highest id.
     #[inline(always)]

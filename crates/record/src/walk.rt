@@ -1,9 +1,8 @@
 // The table's cursor.
 ghost use Rattle.std.specs.Prelude.{◌≡◌, ◌≤◌, ◌<◌, length};
-ghost use Rattle.record.specs.Inside.Front.{front_at};
 ghost use Rattle.record.specs.Inside.Walk.{start, StepIs};
 
-use crate::front::{Head, read_record};
+use crate::front::{Head, read_record, record_len};
 
 // A place in the table: the next record's first byte, and how many records are behind.
 #[derive(Clone, Copy)]
@@ -17,16 +16,6 @@ pub struct Cursor {
 pub struct Step {
     pub head: Option<Head>,
     pub next: Cursor,
-}
-
-// How many bytes the record at the front of s takes: all of them, where it is malformed or cut.
-fn taken(s: &[u8], head: Option<Head>) -> usize
-    ensures { result ≡ (front_at s.now head).len }
-{
-    match head {
-        Some(head) => head.len,
-        None => s.len(),
-    }
 }
 
 impl Cursor {
@@ -46,7 +35,7 @@ impl Cursor {
         let rest = &t[at..];
         let head = read_record(rest);
         let next = Cursor {
-            at: at + taken(rest, head),
+            at: at + record_len(rest, head),
             index: self.index + 1,
         };
         Step { head, next }

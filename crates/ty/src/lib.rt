@@ -42,7 +42,7 @@ pub enum Kind {
 #[derive(Clone, Copy, PartialEq, Eq)]
 pub struct UnknownNumber(pub u8);
 
-// Where a type lies in a table.
+// Where a type lies in some bytes, a table's or a question's.
 #[derive(Clone, Copy, PartialEq, Eq, Default)]
 pub struct Part {
     pub start: usize,
@@ -72,7 +72,7 @@ pub fn tail(s: &[u8], n: usize) -> &[u8]
     s.get(n..).unwrap_or(&[])
 }
 
-// The two-byte number at i, low byte first, with 0 for each byte past the end.
+// The two-byte number at i, low byte first, with 0 for each byte past the end. `tail(s, 1)` at i: i + 1 might not fit.
 pub fn id_at(s: &[u8], i: usize) -> u16
     ensures { result ≡ id_at s.now i }
 {

@@ -3,7 +3,7 @@ ghost use Rattle.std.specs.Prelude.{◌≡◌};
 ghost use Rattle.ty.specs.Name.{id_defined, known_id, id_number};
 
 // The number of a name, with the numbers of the built-in names. They are u16, since ids are compared with ids that are read from bytes; an enum would have no
-// value for a table's own names.
+// value for a table's own names. The constants belong to a name-id type, as document 01 has it; no value of it is made (docs/DECISIONS.md, 36).
 #[derive(Clone, Copy)]
 pub struct NameId(pub u16);
 
@@ -87,8 +87,10 @@ impl NameId {
     pub const UPPERCASE: u16 = 38;
 
     pub const KEYS: u16 = 39;
+
     // The first id of a table's names.
     pub const FIRST_OF_TABLE: u16 = 40;
+
     // No name, in owner, superclass and package fields.
     pub const NONE: u16 = 65535;
 }

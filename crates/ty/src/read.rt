@@ -4,6 +4,9 @@ ghost use Rattle.ty.specs.Read.{body_length, child_count, good_body, id_in, item
 
 use crate::{Kind, byte_at, id_at};
 
+// The longest type in a table or a leaf.
+pub const LONGEST_TYPE: u16 = 192;
+
 // A type that ends before byte len. `top` is the highest id that was examined, and 0 where none was: each table defines the name 0, so that no id and the id 0
 // ask the same of a table. `error` says whether Error was examined.
 #[derive(Clone, Copy)]
@@ -39,7 +42,8 @@ enum ItemFault {
     Out,
 }
 
-// Reading tests the kind's number: a match on an enum of it was measured to be 2.3 times slower.
+// Reading tests the kind's number: a match on an enum of it was measured to be 2.3 times slower in read_type, which reads each leaf's type too; without a
+// table the judge misses its bar, a fifth of the Rust's time, as it is (docs/SPEED.md).
 
 #[tactic(auto, unfolding(crate::specs::Read::body_length, crate::specs::Choose::choose))]
 fn body_length(k: u8) -> usize

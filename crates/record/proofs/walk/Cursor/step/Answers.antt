@@ -9,7 +9,7 @@ use Rattle.record.proofs.walk.Cursor.step.Goals as goal
 pub returns : goal.returns
 returns c =
     let h = rw (part-drop c.args.self.at c.args.t.now) at c.read_record-head.ensures in
-    let l = (rw (part-drop c.args.self.at c.args.t.now) at c.taken.ensures) ∙ ap (λ (f : Front). f.len) h.same in
+    let l = (rw (part-drop c.args.self.at c.args.t.now) at c.record_len.ensures) ∙ ap (λ (f : Front). f.len) h.same in
     record {
       head = h.same;
       own = h.same ∙ sym (record_own c.args.t.now c.args.self c.requires.0);
