@@ -21,8 +21,7 @@ struct Writer<'a> {
 
 impl Writer<'_> {
     fn put_byte(&mut self, b: u8)
-        ensures writes { Wrote self.old.out.now self.new.out.now self.old.at self.new.at (b ∷ []) }
-        ensures same { self.new.out.ghost_name ≡ self.old.out.ghost_name }
+        ensures { Wrote self.old self.new (b ∷ []) }
     {
         if self.at < self.out.len() {
             self.out[self.at] = b;
@@ -30,10 +29,9 @@ impl Writer<'_> {
         }
     }
 
-    // By hand: text that does not fit is cut, where `write!` would fail, and there is no heap for a String.
+    // By hand: `write!` to a writer that cuts answers a Result that is never an error, which each call would have to open.
     fn put_decimal(&mut self, n: usize)
-        ensures writes { Wrote self.old.out.now self.new.out.now self.old.at self.new.at (decimal n) }
-        ensures same { self.new.out.ghost_name ≡ self.old.out.ghost_name }
+        ensures { Wrote self.old self.new (decimal n) }
     {
         if n < 10 {
             return self.put_byte(b'0' + n as u8);
@@ -43,8 +41,7 @@ impl Writer<'_> {
     }
 
     fn put_hex(&mut self, b: u8)
-        ensures writes { Wrote self.old.out.now self.new.out.now self.old.at self.new.at (hex_byte b) }
-        ensures same { self.new.out.ghost_name ≡ self.old.out.ghost_name }
+        ensures { Wrote self.old self.new (hex_byte b) }
     {
         self.put_byte(hex_digit(b / 16));
         self.put_byte(hex_digit(b % 16));
@@ -52,8 +49,7 @@ impl Writer<'_> {
 
     // A type in hex, and a dash for none.
     fn put_type(&mut self, ty: &[u8])
-        ensures writes { Wrote self.old.out.now self.new.out.now self.old.at self.new.at (type_text ty.now) }
-        ensures same { self.new.out.ghost_name ≡ self.old.out.ghost_name }
+        ensures { Wrote self.old self.new (type_text ty.now) }
     {
         if ty.is_empty() {
             return self.put_byte(b'-');
@@ -65,16 +61,14 @@ impl Writer<'_> {
 
     // A number and the byte that ends its field.
     fn put_field(&mut self, n: usize, end: u8)
-        ensures writes { Wrote self.old.out.now self.new.out.now self.old.at self.new.at (field_text n end) }
-        ensures same { self.new.out.ghost_name ≡ self.old.out.ghost_name }
+        ensures { Wrote self.old self.new (field_text n end) }
     {
         self.put_decimal(n);
         self.put_byte(end);
     }
 
     fn put_first_line(&mut self, number: u8, pass: u8, ty: &[u8], count: usize)
-        ensures writes { Wrote self.old.out.now self.new.out.now self.old.at self.new.at (first_line number pass ty.now count) }
-        ensures same { self.new.out.ghost_name ≡ self.old.out.ghost_name }
+        ensures { Wrote self.old self.new (first_line number pass ty.now count) }
     {
         self.put_field(number as usize, BLANK);
         self.put_field(pass as usize, BLANK);
@@ -86,8 +80,7 @@ impl Writer<'_> {
 
     // The line of a diagnostic's record.
     fn put_line(&mut self, diagnostic: &[u8])
-        ensures writes { Wrote self.old.out.now self.new.out.now self.old.at self.new.at (line_at diagnostic.now 0) }
-        ensures same { self.new.out.ghost_name ≡ self.old.out.ghost_name }
+        ensures { Wrote self.old self.new (line_at diagnostic.now 0) }
     {
         self.put_field(byte_at(diagnostic, 0) as usize, BLANK);
         self.put_field(id_at(diagnostic, 1) as usize, BLANK);
@@ -96,9 +89,7 @@ impl Writer<'_> {
 
     // The lines of the first `count` records, or of those that are whole.
     fn put_lines(&mut self, diagnostics: &[u8], count: usize)
-        ensures writes { Wrote self.old.out.now self.new.out.now self.old.at self.new.at
-            (lines_of diagnostics.now (records_in (length diagnostics.now) count)) }
-        ensures same { self.new.out.ghost_name ≡ self.old.out.ghost_name }
+        ensures { Wrote self.old self.new (lines_of diagnostics.now (records_in (length diagnostics.now) count)) }
     {
         for diagnostic in diagnostics.chunks_exact(5).take(count) {
             self.put_line(diagnostic);
@@ -106,7 +97,7 @@ impl Writer<'_> {
     }
 }
 
-// By hand: `char::from_digit` answers an Option of a char, to be opened and made a byte.
+// By hand, as in put_decimal; `char::from_digit` answers an Option of a char, to be opened and made a byte.
 #[tactic(auto, unfolding(crate::specs::Text::hex_digit, ty::specs::Choose::choose))]
 fn hex_digit(d: u8) -> u8
     requires { d < 16 }

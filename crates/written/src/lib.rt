@@ -33,13 +33,12 @@ pub fn copy_in(out: &mut [u8], to: usize, s: &[u8])
     out[to..to + s.len()].copy_from_slice(s);
 }
 
-// The low two bytes of n go to `at` and behind it, low byte first. By %, since a cast that loses bits is refused; `n.to_le_bytes()[..2]` is no plainer.
+// The low two bytes of n go to `at` and behind it, low byte first.
 pub fn put_two(n: usize, out: &mut [u8], at: usize)
     requires { at + 2 ≤ length out.old }
     ensures { out.new ≡ sets out.old at (two_bytes n) }
 {
-    let low = (n % 65_536) as u16;
-    copy_in(out, at, &low.to_le_bytes());
+    copy_in(out, at, &n.to_le_bytes()[..2]);
 }
 
 // Refuses: nothing is written.

@@ -1,8 +1,11 @@
--- What a `put_` function leaves.
+-- What a `put_` method leaves.
 use Rattle.std.specs.Prelude.{ℕ, ◌+◌, ◌-◌, min, ◌≡◌, List, length}
 use Rattle.std.proofs.lemmas.List.Edits.{sets}
+use Rattle.console.specs.declared.print.Writer.{Writer}
 
--- what fits of a text was written into b from `at` on, and the rest of b left as it was: now it is b', and the next place is r
-pub record Wrote (b b' : List ℕ) (at r : ℕ) (text : List ℕ) : Type 0 where
-  pub bytes : b' ≡ sets b at text
-  pub next : r ≡ at + min (length text) (length b - at)
+-- what fits of a text was written into w's buffer from `at` on, and the rest of it left as it was: now the writer is w', which stands behind the text
+pub record Wrote (w w' : Writer) (text : List ℕ) : Type 0 where
+  pub bytes : w'.out.now ≡ sets w.out.now w.at text
+  pub next : w'.at ≡ w.at + min (length text) (length w.out.now - w.at)
+  -- it is the same buffer
+  pub same : w'.out.ghost_name ≡ w.out.ghost_name

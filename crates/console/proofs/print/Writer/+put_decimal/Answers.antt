@@ -4,9 +4,9 @@ use native.Mathlib.Omega.{arith}
 use Rattle.console.proofs.Writing.{wrote_one, wrote_more}
 use Rattle.console.proofs.print.Writer.+put_decimal.Goals as goal
 
-pub returns-then-n-lt10-clause-writes : goal.returns-then-n-lt10-clause-writes
-returns-then-n-lt10-clause-writes t c = let d : 48 + c.args.n ≡ 48 + c.args.n % 10 = omega arith in
-    wrote_one c.args.n c.if-n-lt10.true d c.put_byte.ensures.writes
+pub returns-then-n-lt10 : goal.returns-then-n-lt10
+returns-then-n-lt10 t c = let d : 48 + c.args.n ≡ 48 + c.args.n % 10 = omega arith in
+    wrote_one c.args.n c.if-n-lt10.true d c.put_byte.ensures
 
-pub returns-clause-writes : goal.returns-clause-writes
-returns-clause-writes t c = wrote_more c.args.n c.if-n-lt10.false c.put_decimal.ensures.writes refl c.put_byte-2.ensures.writes
+pub returns : goal.returns
+returns t c = wrote_more c.args.n c.if-n-lt10.false c.put_decimal.ensures refl c.put_byte-2.ensures

@@ -8,8 +8,7 @@ use Rattle.console.proofs.print.Writer.put_lines.Given as goal
 
 abbrev pub invariant-loop-diagnostic : goal.invariant-loop-diagnostic
 invariant-loop-diagnostic l =
-    Wrote l.initial.self.out.now l.self.out.now l.initial.self.at l.self.at (lines_of l.diagnostics (length l.yielded))
-    × (l.self.out.ghost_name ≡ l.initial.self.out.ghost_name)
+    Wrote l.initial.self l.self (lines_of l.diagnostics (length l.yielded))
     × (take_count l.diagnostic-iterator + length l.yielded ≡ l.count)
     × (chunks_exact_size (take_source l.diagnostic-iterator) ≡ 5)
     × (chunks_exact_rest (take_source l.diagnostic-iterator) ≡ drop (5 * length l.yielded) l.diagnostics)
