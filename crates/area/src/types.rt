@@ -1,7 +1,7 @@
 // The types of a question's nodes, each in a slot of 256 bytes.
 //
-// `node < length slots`, `Child` and `.. ≤ slot_size` are asked: a node's number is of no slots by itself, bytes have no bound by themselves, and a type of
-// both would borrow them.
+// `node < length slots`, `Child` and `.. ≤ slot_size` are asked and in no type: a node's number does not know the slots, bytes do not know their bound, and a
+// struct of number and slots would borrow the slots.
 ghost use Rattle.std.specs.Prelude.{◌≡◌, ◌++◌, ◌+◌, ◌≤◌, ◌<◌, [], length, set};
 ghost use Rattle.area.specs.Inside.Slot.{slot_size, type_at, Child};
 ghost use Rattle.area.specs.Inside.Storable.{CanStore, typed_by};
@@ -14,6 +14,7 @@ use ty::{Kind, Part};
 use written::copy_in;
 
 // A node's type, of at most 256 bytes; no bytes at first.
+// No ArrayVec<u8, 256>: its value is a record around the bytes, where a slot's is the type itself, so that a slice of slots is a list of types in each clause.
 #[derive(Drop)]
 pub struct Slot {
     bytes: [u8; 256],

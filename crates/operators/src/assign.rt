@@ -10,7 +10,7 @@ use index::table::Table;
 use ty::{Kind, NameId, is_kind};
 
 // What one look at two types says: yes, no, or it goes by the type inside the left one, inside the right one, or inside both, or by the classes of two
-// Named types. Six answers, which no Option holds: `can_assign_to` goes on with each of them in one match.
+// Named types. The definition has this step apart, too, so that the recursion is in one place (specs/Assign.antt).
 #[derive(Clone, Copy)]
 pub enum Next {
     Yes,
@@ -42,8 +42,8 @@ fn is_list_name(t: &[u8]) -> bool
     is_named(NameId::LIST, t) | is_growing(t)
 }
 
-// The checks that come first and all say yes. Both kinds are read once: tests by is_kind were measured to be a tenth slower. The bytes are compared last, which
-// takes the longest.
+// The checks that come first and all say yes: tests in order by kinds that are read once, no match, as Any and Error of one type say yes whatever the other is.
+// The bytes are compared last, which takes the longest.
 #[tactic(auto, using(crate::proofs::Assigns::either_way))]
 fn assigns_at_once(a: &[u8], b: &[u8]) -> bool
     ensures { result ≡ assigns_at_once a.now b.now }
@@ -59,7 +59,7 @@ fn assigns_at_once(a: &[u8], b: &[u8]) -> bool
     ty::same_bytes(a, b)
 }
 
-// One look at two types: the checks in their order, by kinds that are read once too. A match on both kinds would leave the names' tests between its arms.
+// One look at two types. Tests in order by kinds that are read once, no match: three of them ask for names and stand between tests of the kinds.
 #[tactic(auto, using(ty::proofs::Choice::chain), unfolding(crate::specs::Assign::assign_step))]
 fn step(a: &[u8], b: &[u8]) -> Next
     ensures { result ≡ assign_step a.now b.now }

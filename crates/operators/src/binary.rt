@@ -65,8 +65,8 @@ fn equality(table: &Table<'_>, lt: &[u8], rt: &[u8]) -> OneReport
     ensures { result ≡ equality_ruled (symbols_of table.now) lt.now rt.now }
 {
     checked(
-        (can_assign_to(table, lt, rt) | can_assign_to(table, rt, lt))
-            | (either(Kind::Any, lt, rt) | char_string(lt, rt)),
+        (can_assign_to(table, lt, rt) || can_assign_to(table, rt, lt))
+            || (either(Kind::Any, lt, rt) || char_string(lt, rt)),
         Source::Kind(Kind::Boolean),
         DiagnosticKind::Unrelated,
     )

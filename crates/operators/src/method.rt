@@ -12,11 +12,11 @@ use symbol::lookups::{first_function, operators_of, superclass_of};
 use ty::{Kind, NameId, is_kind, known_id};
 
 // An operator set's mask has the operator's bit.
-fn has_operator(mask: u16, op: u8) -> bool
-    requires { op ≤ 10 }
-    ensures { result ≡ has_operator mask op }
+fn has_operator(mask: u16, op: BinOp) -> bool
+    requires { binary_number op ≤ 10 }
+    ensures { result ≡ has_operator mask (binary_number op) }
 {
-    (mask >> op) % 2 == 1
+    (mask >> op.number()) % 2 == 1
 }
 
 // The result of the first function of a class and a name, and Any where there is none.
@@ -32,27 +32,19 @@ fn first_result(table: &Table<'_>, class: u16, name: u16) -> Source
 
 // The climb from a class, as long as there are operator sets.
 #[tactic(auto, using(crate::proofs::Climbs::climb_steps))]
-fn climb(table: &Table<'_>, op: u8, class: u16) -> Option<Source>
-    requires { op ≤ 10 }
-    ensures { result ≡ climb_place_from table.now op class }
+fn climb(table: &Table<'_>, op: BinOp, class: u16) -> Option<Source>
+    requires { binary_number op ≤ 10 }
+    ensures { result ≡ climb_place_from table.now (binary_number op) class }
 {
     let mut at = known_id(class);
     while let Some(id) = at {
         let mask = operators_of(table, id)?;
         if has_operator(mask, op) {
-            return Some(first_result(table, id, NameId::PLUS + op as u16));
+            return Some(first_result(table, id, NameId::PLUS + op.number() as u16));
         }
         at = superclass_of(table, id);
     }
     None
-}
-
-// The number of an operator: the methods' names and the bits of a mask go by it.
-#[tactic(auto, unfolding(question::specs::OperatorNumber::binary_number))]
-fn operator_number(op: BinOp) -> u8
-    ensures { result ≡ binary_number op }
-{
-    op as u8
 }
 
 // Where the type lies that an operator method gives, if there is one.
@@ -61,9 +53,8 @@ pub fn operator_overload_return(table: &Table<'_>, op: BinOp, lt: &[u8]) -> Opti
     ensures { result ≡ operator_place table.now (binary_number op) lt.now }
 {
     // An `if`, no `then` or `and_then`: with the climb in a closure it is no plainer.
-    let number = operator_number(op);
-    if (number <= operator_number(BinOp::Ge)) & is_kind(lt, Kind::Named) {
-        return climb(table, number, ty::name_of(lt));
+    if (op.number() <= BinOp::Ge.number()) & is_kind(lt, Kind::Named) {
+        return climb(table, op, ty::name_of(lt));
     }
     None
 }

@@ -1,4 +1,4 @@
-// Tests on operands' types. Each is the definition of its name, in a line: one for several, by a parameter, would leave the rules without these names.
+// Tests on operands' types. Each is the definition of its name, in a line: one function with a kind as parameter would take these names from the rules.
 // Two operands are lt and rt here and in the rules, as in checker.rs: a struct of both would be made at each call and taken apart in each test.
 ghost use Rattle.std.specs.Prelude.{◌≡◌};
 ghost use Rattle.ty.specs.KindNumber.{kind_number};
