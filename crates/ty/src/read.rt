@@ -42,8 +42,8 @@ enum ItemFault {
     Out,
 }
 
-// Reading tests the kind's number: a match on an enum of it was measured to be 2.3 times slower in read_type, which reads each leaf's type too; without a
-// table the judge misses its bar, a fifth of the Rust's time, as it is (docs/SPEED.md).
+// Reading tests the kind's number: a match on an enum of it took 2.3 times as long in read_type, and no row of the benchmark may take over 5 in 100 more
+// than before (docs/DECISIONS.md, 46).
 
 #[tactic(auto, unfolding(crate::specs::Read::body_length, crate::specs::Choose::choose))]
 fn body_length(k: u8) -> usize
