@@ -11,12 +11,16 @@ ghost use Rattle.load.specs.Inside.WritesTree.{WritesTree};
 ghost use Rattle.question.specs.NodeKind.{node_kind_number};
 ghost use Rattle.written.specs.Output.{Writes};
 
-use question::NodeKind;
+use question::node::MOST_NODES;
+use question::{HEADER_BYTES, NodeKind};
 use written::{WriteFault, copy_in, refuse};
 
-const MOST_NODES: usize = 64;
+// The kinds of a leaf's type that is one byte: Int to Unit.
+const LEAF_KINDS: u32 = 12;
 
-const HEADER_BYTES: usize = 5;
+const BINARY_OPERATORS: u32 = 23;
+
+const UNARY_OPERATORS: u32 = 7;
 
 // The draws, by the state behind the last.
 #[derive(Drop)]
@@ -65,16 +69,16 @@ fn write_tree(nodes: usize, draws: &mut Draws, at: usize, out: &mut [u8])
     ensures { WritesTree nodes draws.old.state at out.old out.new draws.new.state }
 {
     if nodes == 1 {
-        return put_node(NodeKind::Leaf, draws.draw(12), at, out);
+        return put_node(NodeKind::Leaf, draws.draw(LEAF_KINDS), at, out);
     }
     if draws.draw_binary(nodes) {
-        put_node(NodeKind::Binary, draws.draw(23), at, out);
+        put_node(NodeKind::Binary, draws.draw(BINARY_OPERATORS), at, out);
         let left = 1 + draws.draw((nodes - 2) as u32) as usize;
         let right = nodes - 1 - left;
         write_tree(left, draws, at + 2, out);
         return write_tree(right, draws, at + 2 + 2 * left, out);
     }
-    put_node(NodeKind::Unary, draws.draw(7), at, out);
+    put_node(NodeKind::Unary, draws.draw(UNARY_OPERATORS), at, out);
     write_tree(nodes - 1, draws, at + 2, out);
 }
 
@@ -93,7 +97,7 @@ pub fn write_load(start: u32, nodes: usize, out: &mut [u8]) -> Result<usize, Wri
         return refuse(out, WriteFault::TooShort);
     }
     out.fill(0);
-    copy_in(out, 0, &[255, 255, 255, 255, 0]);
+    copy_in(out, 0, &[255, 255, 255, 255, 0]); // no type, no package, not in suspend
     let mut draws = Draws { state: start };
     write_tree(nodes, &mut draws, HEADER_BYTES, out);
     Ok(len)
