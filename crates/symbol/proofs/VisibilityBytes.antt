@@ -41,4 +41,4 @@ past_last b h =
 -- a byte that was read
 pub read_so : (b : ℕ) (r : Result Visibility UnknownNumber) → ReadsVisibility b r → (v : Visibility) → v ≡ result_unwrap_or r Internal → v ≡ visibility_from b
 read_so b (Ok w) h v e = e ∙ sym (number_read w) ∙ ap visibility_from h
-read_so b (Err x) h v e = e ∙ sym (past_last b h)
+read_so b (Err x) h v e = e ∙ sym (past_last b (omega (arith, h.1 Public, h.1 Protected, h.1 Internal, h.1 Private)))

@@ -1,6 +1,6 @@
 -- The visibilities. Document 01, "Table and question": 0 Public, Protected, Internal, 3 Private (`Visibility` of ast.rs).
 -- All of the enum, though not every one is named by a rule.
-use Rattle.std.specs.Prelude.{ℕ, ◌<◌, ◌≡◌, eqb, Result, Ok, Err}
+use Rattle.std.specs.Prelude.{ℕ, ◌≡◌, ◌≢◌, eqb, Result, MatchResult}
 use Rattle.symbol.specs.declared.visibility.Visibility.TheVariants.{Public, Protected, Internal, Private}
 use Rattle.symbol.specs.declared.visibility.Visibility.{Visibility}
 use Rattle.ty.specs.Choose.{choose}
@@ -25,10 +25,9 @@ visibility_number Protected = protected_vis
 visibility_number Internal = internal_vis
 visibility_number Private = private_vis
 
--- reading a number gives the visibility that has it, or an error past the last
+-- the visibility with that number, or that number where no visibility has it
 abbrev pub ReadsVisibility : ℕ → Result Visibility UnknownNumber → Type 0
-ReadsVisibility n (Ok v) = visibility_number v ≡ n
-ReadsVisibility n (Err e) = private_vis < n
+ReadsVisibility n r = MatchResult r (λ v. visibility_number v ≡ n) (λ e. (e.0 ≡ n) × ((v : Visibility) → visibility_number v ≢ n))
 
 -- the visibility that a record's byte stands for; past the last, as no accepted table has it, Internal
 unfoldable pub visibility_from : ℕ → Visibility

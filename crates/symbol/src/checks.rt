@@ -25,6 +25,9 @@ use record::walk::Cursor;
 use ty::known_id;
 use ty::name::id_defined;
 
+// So many bytes a table has at most.
+const LONGEST_TABLE: usize = 60000;
+
 // Why a table is refused.
 #[derive(Clone, Copy, PartialEq, Eq)]
 pub enum TableFault {
@@ -51,7 +54,7 @@ impl TableFault {
     }
 }
 
-// What a record that draws no number does in the index: it fills an empty entry of its tree, or joins a list of functions. An enum, as neither is a none.
+// What a record that is not refused does in the index: it fills an empty entry of its tree, or joins a list of functions. An enum, as neither is a none.
 #[derive(Clone, Copy)]
 pub enum Entry {
     Tree(usize),
@@ -60,6 +63,7 @@ pub enum Entry {
 
 // The functions below take a table's bytes with the index that is made, and a cursor with the record read there: no Table is accepted yet. What they ask
 // (Stands, Planted, Prepared, Asked, IndexRoom) says how walk, table and index go together; that a table is not too long is asked, as check_table tests it.
+// A struct of table, cursor and record with these facts would be made for each record and taken apart in each function, since index and record take bytes.
 
 // The record h at me is a name with a built-in spelling.
 #[tactic(auto, using(crate::proofs::CheckRules::name_rules))]
@@ -82,6 +86,7 @@ fn class_before(t: &[u8], x: &[u16], me: Cursor, id: u16) -> bool
     let key = Key::Ids {
         kind: RecordKind::Class.number(),
         one: id,
+        // 0: of a class the key is the first id alone.
         two: 0,
     };
     search(t, x, key, tree_of(t, key)).is_ok()
@@ -101,7 +106,7 @@ fn super_missing(t: &[u8], x: &[u16], me: Cursor, h: Head) -> Option<u16>
 }
 
 // Looks ahead for the classes, once, where a superclass has no earlier record; answers whether that was done.
-// `looked` is a flag beside the lent entries: they are made once, and stay as they are from then on.
+// Two flags in a routine of its own: one clause says what the entries are in each case; inside check_records the loop's proof did not close.
 #[tactic(auto, using(crate::proofs::LateMakes::look_before, crate::proofs::LateMakes::look_none, crate::proofs::LateMakes::look_made))]
 fn look(t: &[u8], me: Cursor, late: &mut [u16], missing: bool, looked: bool) -> bool
     requires { CursorAt t.now me × (length t.now ≤ 60000) }
@@ -171,7 +176,7 @@ fn entry_for(t: &[u8], x: &[u16], me: Cursor, h: Head) -> Option<Entry>
     }
     let key = key_of(me, h);
     let b = tree_of(t, key);
-    // An empty root, told before any search is called, as that was measured to be faster.
+    // An empty root, told before any search is called, as that was measured to be faster (docs/history/speed.md).
     if place_at(x, 1 + b).is_none() {
         return Some(Entry::Tree(1 + b));
     }
@@ -273,10 +278,11 @@ pub fn check_table(table: &[u8], index: &mut [u16]) -> Result<u16, TableFault>
     ensures indexed_table { table_fault table.now ≡ 0 → IndexedTable table.now index.new }
     ensures index_after { index.new ≡ index_made table.now index.old }
 {
+    // An entry for each id that a table of so many bytes can define: 40 built-in names, and a name for each 26 bytes.
     if table.len() <= SHORT_TABLE {
         return check_sized::<118>(table, index);
     }
-    if 60000 < table.len() {
+    if LONGEST_TABLE < table.len() {
         return Err(TableFault::TooLong);
     }
     check_sized::<2347>(table, index)

@@ -23,7 +23,7 @@ pub struct Param {
     pub part: Part,
 }
 
-// At most 16 of them, in an array of a fixed length since the judge has no heap.
+// At most 16 of them, without a heap.
 pub type Params = ArrayVec<Param, 16>;
 
 // A function; its result type lies in the table.
@@ -39,10 +39,7 @@ pub struct Function {
 fn whole_length(read: Result<TypeRead, TypeFault>) -> usize
     ensures { result ≡ whole_length read }
 {
-    match read {
-        Ok(found) => found.len,
-        Err(_) => 0,
-    }
+    read.map_or(0, |found| found.len)
 }
 
 // The length of the type that begins at from, in the bytes before end.

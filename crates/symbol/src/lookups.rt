@@ -1,4 +1,5 @@
 // Lookups in an accepted table.
+// Owner and name are two numbers: structs were tried, and every border would convert (docs/DECISIONS.md, 36).
 ghost use Rattle.std.specs.Prelude.{◌≡◌};
 ghost use Rattle.record.specs.TableRefused.{table_fault};
 ghost use Rattle.symbol.specs.Inside.LookupAnswer.{optional, optional_level};
@@ -15,13 +16,13 @@ use index::table::Table;
 use record::front::RecordKind;
 use ty::{NameId, Part, byte_at, id_at, id_number, known_id};
 
-// The superclass of a class, if it has one.
+// The superclass of a class, if it has one. `accepted`: a climb along superclasses ends, since in an accepted table they are earlier records.
 pub fn superclass_of(table: &Table<'_>, class: u16) -> Option<u16>
     ensures superclass { result ≡ known_id ((symbols_of table.now).super_of class) }
     ensures accepted { table_fault table.now ≡ 0 }
 {
     let t = table.bytes();
-    // 0, here and below: the key is the class alone, and the second number is not looked at.
+    // 0, here and below: of a class the key is the first id alone.
     let p = table.seek(RecordKind::Class, class, 0)?;
     known_id(id_at(t, p.at + 3))
 }
@@ -47,6 +48,7 @@ pub fn in_types(table: &Table<'_>, class: u16) -> bool
 pub fn operators_of(table: &Table<'_>, class: u16) -> Option<u16>
     ensures { optional result ≡ (symbols_of table.now).operators_of class }
 {
+    // 0: of an operator set the key is the class alone.
     let p = table.seek(RecordKind::Operators, class, 0)?;
     Some(id_at(table.bytes(), p.at + 3))
 }
@@ -89,7 +91,8 @@ pub fn is_variant(table: &Table<'_>, owner: u16, name: u16) -> bool
 }
 
 // A place in the list of functions of an owner and a name: at one of them, or at the list's end. A cursor of its own over the index's: that one speaks of the
-// records with a key, this one of the functions that the definitions list.
+// records with a key, this one of the functions that the definitions list. Each step hands a cursor back, as document 01 has it (docs/DECISIONS.md, "Forms that
+// document 01 names"): no Iterator.
 #[derive(Clone, Copy)]
 pub struct Functions {
     pub list: ListCursor,
