@@ -10,7 +10,7 @@ ghost use Rattle.record.specs.Inside.Walk.{behind};
 use crate::visibility::Visibility;
 use arrayvec::ArrayVec;
 use index::index::Place;
-use record::front::{LONGEST, read_record};
+use record::front::{LONGEST, read_record, record_len};
 use ty::read::{TypeFault, read_type};
 use ty::{Part, TypeRead, byte_at, id_at};
 
@@ -98,10 +98,8 @@ pub(crate) fn end_of(t: &[u8], p: Place) -> usize
     ensures { result ≡ behind t.now p.at }
 {
     let at = p.at;
-    match read_record(&t[at..]) {
-        Some(h) => at + h.len,
-        None => t.len(),
-    }
+    let rest = &t[at..];
+    at + record_len(rest, read_record(rest))
 }
 
 // The function at a place.
