@@ -18,6 +18,7 @@ const ANSWER_SIZE: usize = 268;
 // Where the type stands in an answer.
 const TYPE_AT: usize = 12;
 
+// No number of an answer (docs/DECISIONS.md, 26).
 const TOO_SHORT: u8 = 255;
 
 // What stands before an answer's type goes to the front of `out`, its numbers low byte first.

@@ -8,10 +8,10 @@ ghost use Rattle.judge_text.specs.ProgramText.{input_text, input_buffer, Short};
 ghost use Rattle.aura_judge.specs.Run.{Answers};
 
 use console::read_full;
-use judge_text::input_text;
+use judge_text::{LONGEST_INPUT, LONGEST_TEXT, PROGRAM_BUFFER, input_text};
 use std::io::{self, Lock, Read, Write};
 
-// Writes the answer to an input; its text stays in `out`.
+// Writes the answer to an input; its text stays in `out`. The lent slices are apart, as in `judge_text`.
 fn respond<W: Write>(
     output: &mut W,
     input: &[u8],
@@ -28,14 +28,14 @@ fn respond<W: Write>(
     output.write_all(&out[..n])
 }
 
-// Reads an input and writes the answer to it. Of a longer input the first 81,922 bytes draw the
-// same answer, and no text is longer than `out`: laws of `judge_text` say so.
+// Reads an input and writes the answer to it. Of a longer input the first 81,922 bytes have the same answer, and no text is longer than `out`: laws of
+// `judge_text` say so.
 fn run<R: Read, W: Write>(source: &mut R, output: &mut W) -> io::Result<()>
     ensures written { OnOk result (Answers (R.remaining source.old) (W.contents output.old) (W.contents output.new)) }
 {
-    let mut input = [0u8; 81922];
-    let mut diagnostics = [0u8; 65535];
-    let mut out = [0u8; 210259];
+    let mut input = [0u8; LONGEST_INPUT];
+    let mut diagnostics = [0u8; PROGRAM_BUFFER];
+    let mut out = [0u8; LONGEST_TEXT];
     let n = read_full(source, &mut input)?;
     respond(output, &input[..n], &mut diagnostics, &mut out)
 }

@@ -11,7 +11,8 @@ use load::write_load;
 use std::env::{Env, FillError};
 use std::io;
 
-// 2^32, which every larger number counts as: it is no start number, and no node count of a question.
+// 2^32, which every larger number counts as: it is no start number, and no node count of a question. No None, since a node count that is too large is refused
+// with 14, and what is no number by a line on how to call the program.
 const TOO_LARGE: u64 = 4_294_967_296;
 
 // The number of which n are the digits before b, a digit.
@@ -25,7 +26,7 @@ fn more(n: u64, b: u8) -> u64
         .min(TOO_LARGE)
 }
 
-// The number that a text is in decimal.
+// The number that a text is in decimal. By hand: parse takes a sign too, and refuses a number that does not fit, where this counts it as 2^32.
 #[tactic(auto, using(crate::proofs::Arguments::number_steps))]
 fn number_in(text: &[u8]) -> Option<u64>
     ensures { result ≡ number_in text.now }
@@ -67,7 +68,7 @@ fn respond(rt: &(impl Print + Eprint), start: u32, nodes: usize, out: &mut [u8])
     }
 }
 
-// The longest question has 133 bytes, so that no number but 14 is drawn. An argument 3 is one too many.
+// The longest question has 133 bytes, so that 14 is the only number of a refusal. An argument 3 is one too many.
 fn main(rt: HostRuntime) -> io::Result<()> {
     let mut third = [0u8; 32];
     let two = matches!(rt.arg(3, &mut third), Err(FillError::NotPresent));

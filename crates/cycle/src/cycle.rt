@@ -74,8 +74,8 @@ pub fn judge_node(
     }
 }
 
-// Judges n arguments, the first of which stands at s.at, and the call at a node of an owner's functions. Apart from `judge_node`, which would clear the room
-// of a row at each node.
+// Judges n arguments, the first of which stands at s.at, and the call at a node of an owner's functions. Apart from `judge_node`, whose frame would then hold
+// a row's 16 arguments at each node.
 #[cycle(judge_node_judge_row)]
 fn judge_call(
     table: &Table<'_>,

@@ -43,7 +43,8 @@ pub fn judge(table: &[u8], question: &[u8], diagnostics: &mut [u8]) -> Answer
     with_type(outcome, ty)
 }
 
-// What an answer has beside its type, in the numbers of its fields.
+// What an answer has beside its type, in the numbers of its fields. These stand once more in Answer, which holds no Front: aura_c lends the type's bytes, and
+// docs/FORMAT.md has the fields of an answer side by side.
 #[derive(Clone, Copy)]
 pub struct Front {
     pub number: u8,
@@ -52,7 +53,7 @@ pub struct Front {
     pub count: usize,
 }
 
-// That of what the judge answers: all but the number is 0 where it refuses.
+// The front of an outcome: all but the number is 0 where the judge refuses.
 pub fn front_of(outcome: Result<Judged, Refusal>) -> Front
     ensures { front_with result [] ≡ outcome_is outcome [] }
 {
@@ -77,18 +78,13 @@ pub fn front_of(outcome: Result<Judged, Refusal>) -> Front
 fn with_type(outcome: Result<Judged, Refusal>, ty: [u8; 256]) -> Answer
     ensures { answer_is result ≡ outcome_is outcome ty }
 {
-    let Front {
-        number,
-        pass,
-        len,
-        count,
-    } = front_of(outcome);
+    let a = front_of(outcome);
     Answer {
-        number,
-        pass,
+        number: a.number,
+        pass: a.pass,
         ty,
-        len,
-        count,
+        len: a.len,
+        count: a.count,
     }
 }
 

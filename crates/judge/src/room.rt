@@ -1,6 +1,7 @@
 // Room for the index and the slots: little is cleared for a short table and a short question.
 // Table, question, diagnostics and type are parameters apart: the clauses say of each lent buffer what is in it before and behind, and would take a struct
-// of them apart. Clear, Ready, IndexRoom, the limit of 60,000 and Space are asked: each speaks of several of them, and a type for each would serve one call.
+// of them apart. Clear, Ready and IndexRoom are asked: they say that what is lent is still zero, which is no longer so behind, so that no type can have it as
+// its invariant. Space and the limit of 60,000 speak of two parameters at once, and the limits of N and SLOTS of a constant parameter, which has no invariant.
 ghost use Rattle.std.specs.Prelude.{◌≤◌, ◌≡◌, length};
 ghost use Rattle.area.specs.Inside.Slot.{slot_count};
 ghost use Rattle.cycle.specs.Inside.Contract.{Space, slots_for};
@@ -44,7 +45,7 @@ pub fn judge_sized(
         let index = [0u16; 1];
         return judge_checked(&Table::new(table, &index), 0, question, diagnostics, ty);
     }
-    // the sizes are arms, as an array's length is a constant
+    // the sizes are arms, as an array's length is a constant: each is the largest index of a table of that size (crate index)
     match TableSize::of(table.len()) {
         TableSize::Short => judge_with_room::<1461>(table, question, diagnostics, ty),
         TableSize::Middle => judge_with_room::<11163>(table, question, diagnostics, ty),
@@ -84,7 +85,8 @@ fn judge_with(
     judge_checked(&Table::new(table, index), names, question, diagnostics, ty)
 }
 
-// Judges a question against an accepted table, which has so many names.
+// Judges a question against an accepted table, which has so many names. That it is accepted is asked, here and in Ready, though Table's invariant has it: else
+// it would be known by a call of table.bytes(), whose bytes nothing reads here.
 fn judge_checked(
     table: &Table<'_>,
     names: u16,

@@ -8,7 +8,8 @@ use crate::{Judged, Refusal};
 use nodes::progress::State;
 use written::copy_in;
 
-// The answer once the tree is judged: its root has the type `root`, and so many diagnostics were reported.
+// The answer once the tree is judged: its root has the type `root`, and so many diagnostics were reported. Count and buffer are apart: a refusal clears the
+// whole buffer, which no Reports with that count would hold.
 pub fn answer_root(
     s: State,
     count: usize,
@@ -35,6 +36,7 @@ pub fn answer_root(
 }
 
 // Why a whole judgement is refused, if it is: its root type has so many bytes, there are so many diagnostics, and so many bytes are lent.
+// An Option: before a refusal the buffer is cleared, so that a Result would be opened as well.
 #[tactic(auto, using(ty::proofs::Choice::chain), unfolding(crate::specs::Inside::Root::root_refusal))]
 fn root_refusal(len: usize, count: usize, lent: usize) -> Option<Refusal>
     requires { count ≤ 4294967296 }

@@ -9,8 +9,17 @@ ghost use Rattle.judge_text.specs.ProgramText.{answer_text, input_text, input_bu
 use console::{parts, print_answer};
 use judge::judge;
 
+// The first bytes of an input that its answer goes by: two of length, a table of 65,535 bytes and a question of 16,385, which is too long.
+pub const LONGEST_INPUT: usize = 81922;
+
+// How many bytes the program lends for diagnostics.
+pub const PROGRAM_BUFFER: usize = 65535;
+
+// No text has more bytes than that, where no more is lent for diagnostics.
+pub const LONGEST_TEXT: usize = 210259;
+
 // Judges a question under a table and puts the answer's text at the front of `out`, as much of it as fits, and zeros behind it; answers how many bytes of
-// `out` it takes.
+// `out` it takes. The lent slices are apart, here and in the programs: the clauses say of each what is in it behind.
 pub fn answer_text(table: &[u8], question: &[u8], diagnostics: &mut [u8], out: &mut [u8]) -> usize
     ensures text { Filled out.old out.new result
         (answer_text table.now question.now (length diagnostics.old)) }

@@ -1,7 +1,7 @@
 // Calls and method calls, before and behind their arguments.
 //
-// Table, header, id, node, slots and reports are parameters apart: each call hands on others of them, and slots and reports are lent to the arguments in
-// between. count_limit, slot_count, `node < length slots` and CallAsked are asked: a type of all that they speak of would borrow slots and reports.
+// Table, header, id, node, slots and reports are parameters apart: each function that is called takes other ones of them, and slots and reports are lent
+// to the arguments in between. count_limit, slot_count, `node < length slots` and CallAsked are asked: a type of all of these would borrow slots and reports.
 ghost use Rattle.std.specs.Prelude.{◌+◌, ◌≤◌, ◌<◌, ◌≡◌, length};
 ghost use Rattle.area.specs.Diagnostic.{count_limit};
 ghost use Rattle.area.specs.Inside.Slot.{slot_count, type_at};
@@ -43,7 +43,8 @@ pub fn begin_call(
     requires { reports.old.count < count_limit }
     ensures { CallBegun node (callee_at table.now header id) reports.old reports.new result }
 {
-    let _ = table.bytes(); // the table is accepted
+    // called for its clause: that the table is accepted, which no clause of first_function tells
+    let _ = table.bytes();
     match first_function(table, None, id) {
         None => false,
         Some(_) => {
@@ -102,7 +103,7 @@ pub fn begin_method(
     begin_owned(table, header, owner, id, node, reports).then_some(owner)
 }
 
-// A call without a list: its arguments stay unvisited, and its type is one without body.
+// A call without a list: its arguments stay unvisited, and its type is one without body. The table's bytes alone, as nothing is looked up.
 pub fn unlisted(
     table: &[u8],
     q: &[u8],

@@ -16,7 +16,7 @@ pub struct State {
     pub fine: bool,
 }
 
-// Where the children of a node with so many bytes of its own begin. slot_count is asked, as a node's number is of no slots by itself.
+// Where the children of a node with so many bytes of its own begin. slot_count is asked, as a node's number does not know how many slots there are.
 pub fn inside(s: State, own: usize) -> State
     requires { (s.at + own ≤ 65536) × (s.node < slot_count) }
     ensures { result ≡ inside_of s own }
@@ -44,11 +44,8 @@ pub fn finished(s: State, node: usize, slots: &[Slot]) -> State
 pub fn argument_name(q: &[u8], at: usize) -> Option<u16>
     ensures { result ≡ name_at q.now at }
 {
-    let Ok(node) = node_at(q, at) else {
-        return None;
-    };
-    match node {
-        Node::Named { id } => Some(id),
+    match node_at(q, at) {
+        Ok(Node::Named { id }) => Some(id),
         _ => None,
     }
 }

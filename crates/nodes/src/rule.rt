@@ -1,6 +1,7 @@
 // Nodes whose type goes by their children's types: leaves, named arguments, operators and members.
 //
-// Node, state and slots are parameters apart: the judge writes its state while it reads the slots, and lends them to its children in between. Child, slot_size,
+// Table, header, id, node, state and slots are parameters apart: the state goes by value and is handed back, the slots are lent on to the children, and a
+// struct of them would be taken apart in each function. finish_named and finish_unary take the table's bytes alone, as they look nothing up. Child, slot_size,
 // count_limit, LeafAsked and RuleAsked are asked: they speak of a node, the slots and the reports at once, and a type of these would borrow them all.
 ghost use Rattle.std.specs.Prelude.{◌+◌, ◌<◌, ◌≤◌, ◌≡◌, length};
 ghost use Rattle.area.specs.Diagnostic.{count_limit};

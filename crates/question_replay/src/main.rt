@@ -1,5 +1,5 @@
-// Prints the numbers of generated questions, a line each; `stdout` has the oracle's (oracle/src/bin/questions.rs wrote both files). Standard input has, for
-// each question, the number of the table's names and the question's length, 2 bytes each, and the question.
+// Prints the numbers of generated questions, a line each. Standard input has, for each question, the number of the table's names and the question's length, 2
+// bytes each, and the question. The files `stdin` and `stdout` beside are made by oracle/src/bin/questions.rs.
 #![tactic(auto)]
 
 ghost use Rattle.std.specs.Prelude.{◌≡◌, false, IfOk};
@@ -18,9 +18,9 @@ fn next<R: Read>(rt: &impl Print, input: &mut R) -> io::Result<bool>
     if read_full(input, &mut head)? < 4 {
         return Ok(false);
     }
-    let count = ty::id_at(&head, 0);
-    let len = ty::id_at(&head, 2) as usize;
-    let mut space = [0u8; 65535];
+    let count = u16::from_le_bytes([head[0], head[1]]);
+    let len = u16::from_le_bytes([head[2], head[3]]) as usize;
+    let mut space = [0u8; 65535]; // the most that two bytes of length say
     let n = read_full(input, &mut space[..len])?;
     let number = match question::check_question(&space[..n], Names { count }) {
         Ok(()) => 0,

@@ -1,5 +1,5 @@
-// Prints the numbers of generated tables, a line each; `stdout` has the oracle's (oracle/src/bin/tables.rs wrote both files). Standard input has, for each
-// table, its length in 2 bytes and the table.
+// Prints the numbers of generated tables, a line each. Standard input has, for each table, its length in 2 bytes and the table. The files `stdin` and `stdout`
+// beside are made by oracle/src/bin/tables.rs.
 #![tactic(auto)]
 
 ghost use Rattle.std.specs.Prelude.{◌≡◌, false, IfOk};
@@ -8,7 +8,8 @@ ghost use Rattle.std.specs.Io.KnownBytes.{IsAtEnd};
 use console::read_full;
 use std::io::{self, Read};
 
-// Reads one table and prints its number, or answers false where the input ends.
+// Reads one table and prints its number, or answers false where the input ends. `question_replay` has the like: a common part would take the head's length
+// and a closure, and be longer than both.
 fn next<R: Read>(rt: &impl Print, input: &mut R) -> io::Result<bool>
     ensures { IfOk result (λ more. more ≡ false → IsAtEnd (R.remaining input.new)) }
 {
@@ -16,10 +17,10 @@ fn next<R: Read>(rt: &impl Print, input: &mut R) -> io::Result<bool>
     if read_full(input, &mut head)? < 2 {
         return Ok(false);
     }
-    let len = ty::id_at(&head, 0) as usize;
-    let mut space = [0u8; 65535];
+    let len = u16::from_le_bytes(head) as usize;
+    let mut space = [0u8; 65535]; // the most that two bytes of length say
     let n = read_full(input, &mut space[..len])?;
-    let mut index = [0u16; 42435];
+    let mut index = [0u16; 42435]; // the longest index that check_table asks for
     let number = match symbol::checks::check_table(&space[..n], &mut index) {
         Ok(_) => 0,
         Err(fault) => fault.number(),
