@@ -15,6 +15,7 @@ pub fn is_variable_name(table: &Table<'_>, id: u16) -> bool
     is_capital(table, id) && !in_types(table, id)
 }
 
+// Whether a type is a Named of such a name.
 pub fn is_type_variable(table: &Table<'_>, t: &[u8]) -> bool
     ensures { result ≡ is_type_variable (symbols_of table.now) t.now }
 {

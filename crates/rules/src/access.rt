@@ -26,7 +26,8 @@ fn other_package(a: Option<u16>, b: Option<u16>) -> bool
     }
 }
 
-// Whether a member of an owner, of a visibility, is blocked where the script stands. An owner that is none, NameId::NONE, blocks nothing.
+// Whether a member of an owner, of a visibility, is blocked where the script stands. An owner that is none, NameId::NONE, blocks nothing: it is a number, no
+// Option, as the callers read it off a Named type, and the definition `blocked` asks of each number whether it is none.
 // Header, visibility and owner apart, here and below: they are the Rust's parameters.
 #[tactic(auto, using(crate::proofs::Owners::owners), unfolding(crate::specs::Access::blocked))]
 pub fn check_access(table: &Table<'_>, header: Header, vis: Visibility, owner: u16) -> bool

@@ -1,4 +1,5 @@
-// Member nodes. Table, owner and id are parameters of their own, as in the Rust: each rule asks of a place of its own.
+// Member nodes. Table, owner and id are parameters apart, as in the Rust: structs of owner and name were tried here and not taken over
+// (docs/DECISIONS.md, 36).
 ghost use Rattle.std.specs.Prelude.{◌≡◌};
 ghost use Rattle.symbol.specs.Lookup.{symbols_of};
 ghost use Rattle.rules.specs.Member.{is_nullable_object};
@@ -145,16 +146,15 @@ fn named_member(table: &Table<'_>, owner: u16, id: u16) -> OneReport
     if is_variable_name(table, owner) {
         return variable_member(id);
     }
-    if owner == NameId::PAIR {
-        return pair_member(id);
+    match owner {
+        NameId::PAIR => pair_member(id),
+        NameId::LIST..=NameId::SET_CLASS => collection_member(id),
+        _ => class_member(table, owner, id),
     }
-    if (NameId::LIST <= owner) & (owner <= NameId::SET_CLASS) {
-        return collection_member(id);
-    }
-    class_member(table, owner, id)
 }
 
-// A base's, by its kind, which is read once: tests by is_kind were measured to be slower. What the elements of a List or an Array are is read off the object.
+// A base's, by its kind. By numbers, as the kind is read once; a match would need a Kind, which is read from a byte by no function, as most bytes are none.
+// What the elements of a List or an Array are is read off the object.
 #[tactic(auto, using(ty::proofs::Choice::chain), unfolding(crate::specs::Inside::MemberRule::kind_ruled))]
 fn kind_member(table: &Table<'_>, base: &[u8], id: u16) -> OneReport
     ensures { result ≡ kind_ruled table.now base.now id }
@@ -187,6 +187,7 @@ fn visibility_report(table: &Table<'_>, header: Header, owner: u16, id: u16) -> 
     access_report(table, header, vis, owner)
 }
 
+// The access check of a base's member: only a Named base has an owner.
 #[tactic(auto, using(ty::proofs::Choice::chain), unfolding(crate::specs::Inside::AccessRule::base_ruled))]
 fn member_report(table: &Table<'_>, header: Header, base: &[u8], id: u16) -> Option<Diagnostic>
     ensures { result ≡ base_ruled (symbols_of table.now) header base.now id }
