@@ -7,7 +7,6 @@ use mathlib.Core.Option.{Option, none, some}
 use mathlib.Core.Path.{◌≡◌, refl, sym, ap, ◌∙◌}
 use native.Mathlib.Omega.{arith}
 use Rattle.std.specs.Prelude.{Option as Maybe, Some, None}
-use Rattle.std.specs.Bool.{then_some}
 use Rattle.scoring.proofs.ParamsAndArgsLeft.{args_next, args_none}
 use Rattle.scoring.proofs.ParamSearch.{place_named_is, param_named_is}
 use Rattle.scoring.proofs.ScoreSums.{plus_zero, plus_assoc}
@@ -15,7 +14,7 @@ use Rattle.area.specs.Inside.Slot.{type_at}
 use Rattle.scoring.specs.Arg.{Arg as Seen}
 use Rattle.scoring.specs.Inside.Args.{args_in}
 use Rattle.scoring.specs.Inside.Params.{param_here, param_at, place_read, named_place}
-use Rattle.scoring.specs.Inside.Scored.{score_of, as_score, points_of, compared_or, named_more, named_in, positional_in, score_in}
+use Rattle.scoring.specs.Inside.Scored.{score_of, as_score, points_of, compared_or, named_more, named_in, positional_in, unmatched, score_in}
 use Rattle.scoring.specs.Score.{param_named, plus, compared, compared_with, mark_at, mark_one, marks_from, marks_of, no_marks, named_one, named_score, unnamed_one, unnamed_score, score}
 use Rattle.scoring.specs.declared.args.Arg.{Arg}
 use Rattle.scoring.specs.declared.score.NamedPass.{NamedPass}
@@ -102,7 +101,7 @@ module _ (S : Symbols) where
       go (some p) = refl
 
   -- in the positional pass; v: the last parameter is vararg
-  unnamed_is : (f : Option Param) (v : Bool) (x : Ty) → compared_or S (score_of (then_some v (record { points = 1 }))) f x ≡ unnamed_one S f v none x
+  unnamed_is : (f : Option Param) (v : Bool) (x : Ty) → compared_or S (score_of (unmatched v)) f x ≡ unnamed_one S f v none x
   unfolding unnamed_one
   unnamed_is none true x = refl
   unnamed_is none false x = refl
@@ -138,10 +137,10 @@ module _ (S : Symbols) where
   unnamed_few none true none x = omega arith
   unnamed_few none false none x = omega arith
 
-pub vararg_few : (v : Bool) (o : Maybe Score) → o ≡ then_some v (record { points = 1 }) → points_of o ≤ 2
-vararg_few v o e = let f : points_of o ≡ points_of (then_some v (record { points = 1 })) = ap (λ (z : Maybe Score). points_of z) e in omega (arith, few v)
+pub vararg_few : (v : Bool) (o : Maybe Score) → o ≡ unmatched v → points_of o ≤ 2
+vararg_few v o e = let f : points_of o ≡ points_of (unmatched v) = ap (λ (z : Maybe Score). points_of z) e in omega (arith, few v)
   where
-    few : (v : Bool) → points_of (then_some v (record { points = 1 })) ≤ 2
+    few : (v : Bool) → points_of (unmatched v) ≤ 2
     few true = omega arith
     few false = omega arith
 
@@ -228,7 +227,7 @@ module _ (S : Symbols) (f : Option Param) (v : Bool) (n : Maybe ℕ) (x : Ty) (r
   unnamed_passed id h = add_nothing r _ (ap (λ (k : Maybe ℕ). unnamed_one S f v (optional k) x) h)
 
   -- an unnamed one
-  pub unnamed_added : n ≡ None → (o one s : Maybe Score) → o ≡ then_some v (record { points = 1 }) → one ≡ as_score (compared_or S (score_of o) f x)
+  pub unnamed_added : n ≡ None → (o one s : Maybe Score) → o ≡ unmatched v → one ≡ as_score (compared_or S (score_of o) f x)
       → s ≡ as_score (plus (score_of r) (score_of one)) → s ≡ as_score (plus (score_of r) (unnamed_one S f v (optional n) x))
   unnamed_added e o one s d g k =
       k ∙ ap (λ (z : Option ℕ). as_score (plus (score_of r) z))
@@ -279,8 +278,8 @@ pub ruleset comparison = (compared_same, compared_taken, compared_not)
 
 pub ruleset named_one_more = (named_passed, named_added, none_few)
 
-pub ruleset unnamed_one_more = (unnamed_passed, unnamed_added, one_few, vararg_few)
+pub ruleset unnamed_one_more = (unnamed_passed, unnamed_added, one_few)
 
 pub ruleset named_whole = (named_start, named_done)
 
-pub ruleset unnamed_whole = (unnamed_start, unnamed_done)
+pub ruleset unnamed_whole = (unnamed_start, unnamed_done, vararg_few)

@@ -1,11 +1,11 @@
 // An overload's score for a call's arguments.
-ghost use Rattle.std.specs.Prelude.{ℕ, ◌≤◌, ◌<◌, ◌≡◌, List, IfSome, length};
+ghost use Rattle.std.specs.Prelude.{ℕ, Bool, ◌≤◌, ◌<◌, ◌≡◌, List, IfSome, length};
 ghost use Rattle.symbol.specs.Lookup.{symbols_of};
 ghost use Rattle.symbol.specs.Inside.LookupAnswer.{optional, params_in};
 ghost use Rattle.scoring.specs.Score.{plus, unmarked_from, unnamed_one, mark_at};
 ghost use Rattle.scoring.specs.Inside.Args.{args_in};
 ghost use Rattle.scoring.specs.Inside.Params.{param_here, param_at, place_read, named_place};
-ghost use Rattle.scoring.specs.Inside.Scored.{score_of, as_score, points_of, compared_or, named_more, named_in, positional_in, score_in};
+ghost use Rattle.scoring.specs.Inside.Scored.{score_of, as_score, points_of, compared_or, named_more, named_in, positional_in, unmatched, score_in};
 
 use crate::args::Args;
 use crate::arity::last_vararg;
@@ -28,17 +28,15 @@ pub struct NamedPass {
     pub marks: [bool; 16],
 }
 
+// A sum of scores, None where one of them is.
 #[tactic(auto, unfolding(crate::specs::Score::plus))]
 fn add(a: Option<Score>, b: Option<Score>) -> Option<Score>
     requires { (points_of a ≤ 64) × (points_of b ≤ 64) }
     ensures { result ≡ as_score (plus (score_of a) (score_of b)) }
 {
-    match (a, b) {
-        (Some(x), Some(y)) => Some(Score {
-            points: x.points + y.points,
-        }),
-        _ => None,
-    }
+    Some(Score {
+        points: a?.points + b?.points,
+    })
 }
 
 // The place of the first parameter of a name.
@@ -89,18 +87,14 @@ fn compare(
 
 // The marks once the parameter at a place is marked.
 #[tactic(auto, unfolding(crate::specs::Score::mark_at))]
-fn mark(marks: [bool; 16], place: Option<usize>) -> [bool; 16]
+fn mark(mut marks: [bool; 16], place: Option<usize>) -> [bool; 16]
     requires { IfSome place (λ j. j < 16) }
     ensures { result ≡ mark_at (place_read place) marks }
 {
-    match place {
-        Some(j) => {
-            let mut more = marks;
-            more[j] = true;
-            more
-        }
-        None => marks,
+    if let Some(j) = place {
+        marks[j] = true;
     }
+    marks
 }
 
 // One argument more in the named pass: a named one is compared with the parameter of its name, which it marks.
@@ -112,7 +106,7 @@ fn named_turn(
     x: &[u8],
     m: NamedPass,
 ) -> NamedPass
-    requires { points_of m.score ≤ 62 }
+    requires { points_of m.score ≤ 64 }
     ensures { result ≡ named_more table.now params.now.items (optional name) x.now m }
 {
     match name {
@@ -142,27 +136,23 @@ fn named_pass(table: &Table<'_>, params: &Params, slots: &[Slot], args: &Args) -
     m
 }
 
-// One argument more in the positional pass: an unnamed one is compared with a parameter, the first without a mark.
-// v: the last parameter is vararg.
+// One argument more in the positional pass: an unnamed one is compared with a parameter, the first without a mark, and scores `otherwise` where all have one.
 #[tactic(auto, using(crate::proofs::Scores::unnamed_one_more))]
 fn unnamed_turn(
     table: &Table<'_>,
     param: Option<Param>,
-    v: bool,
+    otherwise: Option<Score>,
     name: Option<u16>,
     x: &[u8],
     score: Option<Score>,
 ) -> Option<Score>
-    requires { points_of score ≤ 62 }
-    ensures { result ≡ as_score (plus (score_of score)
+    requires { (points_of otherwise ≤ 2) × (points_of score ≤ 64) }
+    ensures { (v : Bool) → otherwise ≡ unmatched v → result ≡ as_score (plus (score_of score)
         (unnamed_one (symbols_of table.now) (param_here table.now param) v (optional name) x.now)) }
 {
     match name {
         Some(_) => score,
-        None => {
-            let otherwise = v.then_some(Score { points: 1 });
-            add(score, compare(table, param, otherwise, x))
-        }
+        None => add(score, compare(table, param, otherwise, x)),
     }
 }
 
@@ -179,10 +169,17 @@ fn positional_pass(
     ensures few { points_of result ≤ 64 }
 {
     let param = free_param(params, marks);
-    let v = last_vararg(params);
+    let otherwise = last_vararg(params).then_some(Score { points: 1 });
     let mut score = Some(Score { points: 0 });
     for a in args.iter() {
-        score = unnamed_turn(table, param, v, a.name, type_of(slots, a.node), score);
+        score = unnamed_turn(
+            table,
+            param,
+            otherwise,
+            a.name,
+            type_of(slots, a.node),
+            score,
+        );
     }
     score
 }

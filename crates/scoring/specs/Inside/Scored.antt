@@ -1,5 +1,6 @@
 -- Scores as the code has them, and what the two passes of scoring hand on.
 use Rattle.std.specs.Prelude.{ℕ, Bool, List, Option as Maybe, Some, None}
+use Rattle.std.specs.Bool.{then_some}
 use Rattle.std.proofs.Math.Option.{Option, none, some}
 use Rattle.ty.specs.Bytes.{Ty}
 use Rattle.symbol.specs.Lookup.{symbols_of}
@@ -40,6 +41,10 @@ named_more t p n x m =
 -- what the named pass hands on, for the arguments xs
 abbrev pub named_in : List ℕ → List Read → List Arg → NamedPass
 named_in t p xs = record { score = as_score (named_score (symbols_of t) (params_in t p) xs); marks = marks_of (params_in t p) xs }
+
+-- what an unnamed argument scores where every parameter is named; v: the last parameter is vararg
+abbrev pub unmatched : Bool → Maybe Score
+unmatched v = then_some v (record { points = 1 })
 
 -- the score of the positional pass, with the named pass's marks
 abbrev pub positional_in : List ℕ → List Read → List Bool → List Arg → Option ℕ
