@@ -118,12 +118,11 @@ fn take_one(
     }
 }
 
-// One more function of the list, with n arguments. own: builtins drop out.
+// One more function of the list. own: builtins drop out; a flag, as walk says below.
 #[tactic(auto, using(crate::proofs::Tallies::turned))]
 fn turn(
     table: &Table<'_>,
     own: bool,
-    n: usize,
     p: Place,
     f: &Function,
     slots: &[Slot],
@@ -132,19 +131,18 @@ fn turn(
     reports: &mut Reports<'_>,
 ) -> Tally
     requires { FunctionAt table.now p × (f.now ≡ function_at table.now p) × Room w reports.old }
-    ensures tally { result ≡ tally_more table.now (args_in slots.now args.now.items) w (taken table.now own n p) }
-    ensures reports { reports.new ≡ reported reports.old (all_unknown_at table.now (taken table.now own n p) (args_in slots.now args.now.items)) }
+    ensures tally { result ≡ tally_more table.now (args_in slots.now args.now.items) w (taken table.now own (array_vec_len args.now) p) }
+    ensures reports { reports.new ≡ reported reports.old
+        (all_unknown_at table.now (taken table.now own (array_vec_len args.now) p) (args_in slots.now args.now.items)) }
 {
-    if own & f.builtin {
+    if (own & f.builtin) || !viable(f, args.len()) {
         return w;
     }
-    if viable(f, n) {
-        return take_one(table, p, f, slots, args, w, reports);
-    }
-    w
+    take_one(table, p, f, slots, args, w, reports)
 }
 
 // The walk over the list. own goes down the walk as a flag: a test handed on as a closure would hold it too.
+// That there are at most 16 arguments is asked, as only a call of `len` tells it. clean: Table's own invariant, which the caller knows by no other call.
 #[tactic(auto, using(crate::proofs::FunctionListWalk::walk_start, crate::proofs::FunctionListWalk::walk_on))]
 fn walk(
     table: &Table<'_>,
@@ -155,7 +153,7 @@ fn walk(
     args: &Args,
     reports: &mut Reports<'_>,
 ) -> Tally
-    requires { reports.old.count + most_diagnostics ≤ count_limit }
+    requires { (array_vec_len args.now ≤ 16) × (reports.old.count + most_diagnostics ≤ count_limit) }
     ensures tally { result ≡ tally_of table.now (args_in slots.now args.now.items) (picked_in table.now own (array_vec_len args.now) (id_number owner) id) }
     ensures reports { reports.new ≡ reported reports.old
         (all_unknown_at table.now (picked_in table.now own (array_vec_len args.now) (id_number owner) id) (args_in slots.now args.now.items)) }
@@ -163,7 +161,6 @@ fn walk(
     ensures clean { table_fault table.now ≡ 0 }
 {
     let bytes = table.bytes();
-    let n = args.len();
     let mut c = Functions::first(table, owner, id);
     let mut w = Tally {
         first: None,
@@ -172,7 +169,7 @@ fn walk(
     };
     while let Some(p) = c.found() {
         let f = read_function(bytes, p);
-        w = turn(table, own, n, p, &f, slots, args, w, reports);
+        w = turn(table, own, p, &f, slots, args, w, reports);
         c = c.next(table);
     }
     w
@@ -234,9 +231,10 @@ pub fn check_call_args(
     ensures reports { reports.new ≡ reported reports.old (call_at table.now (id_number owner) id node slots.now args.now.items).diags }
 {
     let own = any_own(table, owner, id);
+    let n = args.len();
     let w = walk(table, own, owner, id, slots, args, reports);
     match w.first {
-        None => none_fits(own, node, args.len(), reports),
+        None => none_fits(own, node, n, reports),
         Some(p) => settle(table, p, node, slots, args, w, reports),
     }
 }

@@ -18,7 +18,7 @@ returns-in-None-clause-source c =
 pub returns-in-None-clause-reports : goal.returns-in-None-clause-reports
 returns-in-None-clause-reports c =
     told_of_none _ c.walk-w.ensures.clean _ _ _ _ _ _ c.any_own-own.ensures (sym (args_length c.args.slots.now c.args.args.now.items)) _ c.walk-w.ensures.tally c.in-None.is _
-    c.walk-w.ensures.reports (rw c.len.ensures.value at c.none_fits.ensures.reports)
+    c.walk-w.ensures.reports (rw c.len-n.ensures.value at c.none_fits.ensures.reports)
 
 pub returns-in-Some-clause-source : goal.returns-in-Some-clause-source
 returns-in-Some-clause-source c =

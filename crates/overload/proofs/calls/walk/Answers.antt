@@ -8,7 +8,7 @@ turn-w-requires c = (
   walk_place _ c.bytes-bytes.ensures.clean _ _ _ _ _ _ _ _ _ c.loop-p.invariant _ c.found.ensures _ c.in-Some.is,
   rw c.bytes-bytes.ensures.bytes at c.read_function-f.ensures,
   walk_room _ c.bytes-bytes.ensures.clean _ _ _ _ _ _ _ _ _ c.loop-p.invariant
-      (omega (arith, args_length c.args.slots.now c.args.args.now.items, c.len-n.ensures.value, c.len-n.ensures.fits)) c.requires,
+      (omega (arith, args_length c.args.slots.now c.args.args.now.items, c.requires.0)) c.requires.1,
 )
 
 pub next-c-requires : goal.next-c-requires
@@ -19,4 +19,4 @@ loop-p-smaller c = walk_less _ c.bytes-bytes.ensures.clean _ _ _ _ _ _ _ _ _ c.l
 
 pub returns-clause-room : goal.returns-clause-room
 returns-clause-room c = walk_room _ c.bytes-bytes.ensures.clean _ _ _ _ _ _ _ _ _ c.loop-p.invariant
-    (omega (arith, args_length c.args.slots.now c.args.args.now.items, c.len-n.ensures.value, c.len-n.ensures.fits)) c.requires
+    (omega (arith, args_length c.args.slots.now c.args.args.now.items, c.requires.0)) c.requires.1
