@@ -211,10 +211,6 @@ class Lines(Case):
             self.assertEqual((code, printed.removeprefix(TABLE)), (1, f"{name}:{4 if name == LIB else 1}: 161 characters\n"))
             self.assertEqual(self.run_on(root, "--lines", "--width", "161"), (0, TABLE))
 
-    def test_hints_may_be_long(self):
-        hint = f"#[tactic(auto, using({'a' * 160}))]\n"
-        self.assertEqual(self.run_on(self.tree((LIB, "pub fn", f"{hint}pub fn")), "--lines"), (0, TABLE))
-
 
 if __name__ == "__main__":
     unittest.main()

@@ -4,8 +4,7 @@
     tools/believed.py [ROOT]                   prints the table of counts and, as FILE:LINE: WHAT, each finding
     tools/believed.py --write docs/FILE.md     also puts the table between the two marker lines of that file
     tools/believed.py --check docs/FILE.md     also finds a table there that is not this one
-    tools/believed.py --lines [--width N]      also finds lines of code and definitions with more than N (160) characters, but for a function's hints to
-                                               the check (`#[tactic(..)]`), which the layout keeps on one line and which state nothing
+    tools/believed.py --lines [--width N]      also finds lines of code and definitions with more than N (160) characters
 
 The exit status is 1 where something was found. A file of specs/ is to be believed unless it stands in specs/Inside, which
 holds what routines hand each other. Found are:
@@ -31,7 +30,7 @@ WORD = re.compile(rf"(?:{NAME}|\.)+")
 FUNCTION = re.compile(r'^([ \t]*)pub (?:\w+ |"C" )*fn (\w+)', re.M)
 IMPL = re.compile(r"^impl\b[^{]*?(\w+)(?:<[^{]*>)?\s*\{", re.M)
 # The toolchain's own libraries; a crate here has none of these names.
-LIBRARY = re.compile(r"core|io|libc|os|std(?:_\w+)?")
+LIBRARY = re.compile(r"arrayvec|core|io|libc|os|std(?:_\w+)?")
 
 
 def blanked(pattern, text):
@@ -219,7 +218,7 @@ def inside_contracts(root):
 def long_lines(root, width):
     for path in sorted([*root.glob("crates/*/src/**/*.rt"), *root.glob("crates/*/specs/**/*.antt")]):
         for number, line in enumerate(path.read_text(encoding="utf-8").splitlines(), 1):
-            if len(line) > width and not line.lstrip().startswith("#[tactic("):
+            if len(line) > width:
                 yield f"{path.relative_to(root)}:{number}: {len(line)} characters"
 
 
