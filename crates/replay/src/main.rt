@@ -12,11 +12,11 @@ ghost use Rattle.replay.specs.Told.{told};
 ghost use Rattle.replay.specs.Inside.CaseRead.{LengthRead, PartFrom, ReadTo, CaseRead};
 ghost use Rattle.typing.specs.Answer.{buffer_of};
 
-use judge_text::answer_text;
+use judge_text::{LONGEST_TEXT, PROGRAM_BUFFER, answer_text};
 use std::io::{self, Lock, Read, Write};
-use ty::{id_at, same_bytes};
+use ty::same_bytes;
 
-// What reading a case comes to.
+// What reading a case comes to: four outcomes, which no Option or Result of a bool names.
 #[derive(Clone, Copy, PartialEq, Eq)]
 enum Case {
     // The input ends before a case.
@@ -27,7 +27,7 @@ enum Case {
     Broken,
 }
 
-// The judge's text is the expected one.
+// The judge's text is the expected one. The lent slices are apart, here and below, as in `judge_text`.
 #[tactic(auto, using(crate::proofs::Agreeing::agreeing))]
 fn agrees(
     table: &[u8],
@@ -53,7 +53,7 @@ fn read_length<R: Read>(input: &mut R) -> Option<u16>
 {
     let mut head = [0u8; 2];
     input.read_exact(&mut head).ok()?;
-    Some(id_at(&head, 0))
+    Some(u16::from_le_bytes(head))
 }
 
 // Reads a length and as many bytes to the front of `space`; none where they are not all there or
@@ -117,15 +117,15 @@ fn tell<W: Write>(output: &mut W, agree: u64, last: Case) -> io::Result<()>
     }
 }
 
-// The same in slices of its own.
+// `read_case` in slices of its own: a length of two bytes is at most 65,535.
 fn next<R: Read>(input: &mut R) -> Case
     ensures { CaseOf (R.remaining input.old) (R.remaining input.new) WholeText result }
 {
     let mut table = [0u8; 65535];
     let mut question = [0u8; 65535];
     let mut expected = [0u8; 65535];
-    let mut diagnostics = [0u8; 65535];
-    let mut out = [0u8; 210259];
+    let mut diagnostics = [0u8; PROGRAM_BUFFER];
+    let mut out = [0u8; LONGEST_TEXT];
     read_case(
         input,
         &mut table,
