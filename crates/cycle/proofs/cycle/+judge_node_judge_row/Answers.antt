@@ -195,9 +195,6 @@ pub judge_row-loop-k-init : goal.judge_row-loop-k-init
 judge_row-loop-k-init t c =
     (row_fits c.requires.1, ap length c.new-args.ensures, λ x. turn_first x)
 
-pub judge_row-push-requires : goal.judge_row-push-requires
-judge_row-push-requires t c = omega (arith, c.loop-k.invariant.0, c.loop-k.invariant.1, c.loop-k-test.true)
-
 pub judge_row-judge_node-e-requires : goal.judge_row-judge_node-e-requires
 judge_row-judge_node-e-requires t c =
     let turn = c.loop-k.invariant.2 c.requires.1 in
@@ -214,18 +211,5 @@ pub judge_row-returns : goal.judge_row-returns
 judge_row-returns t c =
     λ x. rw c.new-args.ensures at (turn_last (c.loop-k.invariant.2 x) c.loop-k-test.false)
 
-pub judge_call-judge_row-row-requires : goal.judge_call-judge_row-row-requires
-judge_call-judge_row-row-requires t c = (below c.decreases (omega arith), (c.requires.0, c.requires.1))
-
 pub judge_call-finish_call-requires : goal.judge_call-finish_call-requires
 judge_call-finish_call-requires t c = c.requires.2 _ _ _ (space_still c.judge_row-row.auto.slots c.requires.0) c.judge_row-row.ensures
-
-pub judge_call-returns : goal.judge_call-returns
-judge_call-returns t c = record {
-  row = c.judge_row-row.result;
-  held = c.judge_row-row.new.slots;
-  told = c.judge_row-row.new.reports;
-  lent = space_still c.judge_row-row.auto.slots c.requires.0;
-  judged = c.judge_row-row.ensures;
-  finished = c.finish_call.ensures;
-}
