@@ -1,6 +1,6 @@
-//! Every sentence of document 01's "Corners in ..", and of document 02's order 2, as a test that fails if the sentence is
-//! false. Tests made by `sentences!` run the named examples of that sentence, whose answers were written by hand, through
-//! the Rust inside its domain and through the second reading elsewhere.
+//! Every sentence of document 01's "Corners in ..", and of document 02's orders 2 and 3, as a test that fails if the
+//! sentence is false. Tests made by `sentences!` run the named examples of that sentence, whose answers were written by
+//! hand, through the Rust inside its domain and through the second reading elsewhere.
 
 use oracle::rust::{Checker, Ty, Visibility, TY_KINDS, VISIBILITIES};
 use oracle::types::{decode, encode};
@@ -100,6 +100,12 @@ sentences! {
     calls_of_one_overload_take_the_new_rule
     comparisons_take_the_new_rule_in_both_directions
     protected_access_and_operator_methods_climb_as_before
+    an_id_that_only_a_later_name_record_would_define_is_undefined
+    the_last_name_before_a_record_is_defined_and_the_next_id_is_not
+    no_other_record_counts_as_a_name
+    a_question_has_all_names_of_its_table
+    a_faulty_name_first_in_the_middle_and_last
+    a_name_behind_a_record_of_another_kind
     limits_of_tables
     lengths_and_letters_of_names
     every_built_in_name_is_a_key

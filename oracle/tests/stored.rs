@@ -27,7 +27,7 @@ fn the_stored_files_are_what_the_oracle_says() {
     assert!(stored_text == *text, "the text has another length");
     assert!(std::fs::read(place(BINARY)).expect(BINARY) == *binary);
     assert_eq!(std::fs::read_to_string(place(REPLAYED)).expect(REPLAYED), replayed(text));
-    assert!(text.len() + binary.len() < 2_850_000);
+    assert!(text.len() + binary.len() < 3_000_000);
 }
 
 #[test]
@@ -65,7 +65,15 @@ fn the_second_part_is_what_is_outside_the_rusts_domain() {
         assert!(!in_domain(table, question), "{}", name);
     }
     let of = |cases: &[(&str, Vec<u8>, Vec<u8>)], front: &str| cases.iter().filter(|c| c.0.starts_with(front)).count();
-    for (front, least) in [("order2.", 1), ("classes.", 60), ("below.", 40), ("calls.", 30), ("outside.", 30)] {
+    for (front, least) in [
+        ("order2.", 1),
+        ("order3.", 200),
+        ("names.", 100),
+        ("classes.", 60),
+        ("below.", 40),
+        ("calls.", 30),
+        ("outside.", 30),
+    ] {
         assert!(of(&by_rust, front) >= least, "{}{}", front, of(&by_rust, front));
     }
     for (front, least) in [("order2.", 200), ("classes.", 60), ("below.", 40), ("calls.", 200), ("outside.", 20)] {

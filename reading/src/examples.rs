@@ -1,6 +1,7 @@
 //! Document 01's examples, its marked cases and its corners as cases, and those of the orders of document 02, each with
 //! the answer that the documents have for it, written by hand. The stored sample begins with them.
 
+mod name_counts;
 mod question_edges;
 mod subclasses;
 mod table_edges;
@@ -125,6 +126,7 @@ pub fn all() -> Vec<Example> {
     orders_of_refusal(&mut list);
     unsaid(&mut list);
     subclasses::add(&mut list);
+    name_counts::add(&mut list);
     table_edges::add(&mut list);
     question_edges::add(&mut list);
     list.all

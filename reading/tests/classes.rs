@@ -111,7 +111,7 @@ fn the_second_round_of_a_sweep_is_without_superclasses() {
             assert_eq!((without_superclasses(&first.table), first.question), (second.table, second.question));
         }
     }
-    assert_eq!(PROFILES.iter().filter(|(p, _)| p.count().is_some()).count(), 7);
+    assert_eq!(PROFILES.iter().filter(|(p, _)| p.count().is_some()).count(), 8);
 }
 
 /// The sweep over wrappings: how many of its first round's answers are others without superclasses.

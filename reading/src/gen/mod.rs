@@ -5,6 +5,7 @@ pub mod classes;
 pub mod damage;
 pub mod load;
 pub mod model;
+pub mod names;
 pub mod sweep;
 pub mod typed;
 
@@ -59,9 +60,11 @@ pub enum Profile {
     Classes,
     /// Every wrapping of a class where every wrapping of another is expected.
     Below,
+    /// Every id at both ends of what the names before it define; every fault of a name among names.
+    Names,
 }
 
-pub const PROFILES: [(Profile, &str); 19] = [
+pub const PROFILES: [(Profile, &str); 20] = [
     (Profile::Rich, "rich"),
     (Profile::Calls, "calls"),
     (Profile::Wide, "wide"),
@@ -81,6 +84,7 @@ pub const PROFILES: [(Profile, &str); 19] = [
     (Profile::Load, "load"),
     (Profile::Classes, "classes"),
     (Profile::Below, "below"),
+    (Profile::Names, "names"),
 ];
 
 impl Profile {
@@ -102,6 +106,7 @@ impl Profile {
             Profile::Assign => Some(sweep::assign_count()),
             Profile::Flips => Some(sweep::flips_count()),
             Profile::Below => Some(sweep::below_count()),
+            Profile::Names => Some(names::names_count()),
             _ => None,
         }
     }
@@ -147,6 +152,7 @@ pub fn case(profile: Profile, seed: u64, index: u64) -> Case {
         Profile::Load => load::load(&mut rng, index),
         Profile::Classes => classes::classes(&mut rng, index),
         Profile::Below => sweep::below(at),
+        Profile::Names => names::names(at),
     };
     Case { table, question, buffer: buffer_length(&mut rng) }
 }

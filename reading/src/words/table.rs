@@ -219,7 +219,8 @@ pub fn table_number(table: &[u8]) -> u8 {
 /// What stands before a record.
 struct Before {
     kind: u8,
-    /// How many names there are, the built-in ones included.
+    /// How many names there are, the built-in ones included. Document 02, order 3: "keep the number of names as a running
+    /// value from record to record".
     names: usize,
     keys: HashSet<Key>,
 }
@@ -248,7 +249,7 @@ pub fn check(table: &[u8]) -> Result<usize, u8> {
 
 /// "2 malformed or cut record; 3 kind falls; 4 undefined id; 5 key repeated (..; a parameter's name within one
 /// function; ..); 6 a superclass with a record, but not an earlier one; 7 Error in a type, or no end within 192
-/// bytes."
+/// bytes." Document 02, order 3: "An id that only a later name record would define is undefined".
 fn record_number(record: &Record, before: &mut Before, super_late: bool) -> Result<(), u8> {
     if record.broken {
         return Err(2);
