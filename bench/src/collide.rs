@@ -15,27 +15,19 @@ pub const SAME: usize = 6;
 /// The most names that a table has room for.
 const MOST: usize = 2307;
 
-/// What each letter counts in the hash of a name.
-const WEIGHTS: [usize; NAME] = weights();
+/// What each eight bytes of a name, as a number, are multiplied by for its hash.
+const FACTORS: [u64; 3] = [15_837_372_998_040_177_803, 15_377_906_377_925_924_563, 17_415_691_914_075_052_159];
 
-const fn weights() -> [usize; NAME] {
-    let mut weights = [173; NAME];
-    let mut i = 1;
-    while i < NAME {
-        weights[i] = (weights[i - 1] * 463 + 7) % 32_749;
-        i += 1;
-    }
-    weights
+/// The 64 bits that the hash of a name is taken from. What each letter adds to them depends on no other letter.
+fn sum(name: &[u8; NAME]) -> u64 {
+    let words = name.chunks_exact(8).map(|w| u64::from_le_bytes([w[0], w[1], w[2], w[3], w[4], w[5], w[6], w[7]]));
+    words.zip(FACTORS).fold(0, |sum, (word, factor)| word.wrapping_mul(factor).wrapping_add(sum))
 }
 
-/// The letters times their weights.
-fn sum(letters: &[u8], weights: &[usize]) -> usize {
-    letters.iter().zip(weights).map(|(letter, weight)| *letter as usize * weight).sum()
-}
-
-/// The hash of a name that has all its letters.
+/// The upper 16 of these bits, and the upper 8 once more.
 fn hash(name: &[u8; NAME]) -> usize {
-    sum(name, &WEIGHTS) % 65_536
+    let sum = sum(name);
+    ((sum >> 48) + (sum >> 56)) as usize % 65_536
 }
 
 /// The 64 bits that digits 1 to 20 of a name are taken from.
@@ -87,23 +79,22 @@ pub fn deep_names(count: usize) -> Vec<String> {
 /// What the search for such names uses.
 struct Deep {
     letters: Vec<u8>,
-    /// The three letters that give a name bucket 0 and digit 0, by the sum of the letters before them.
-    ends: Vec<Vec<[u8; 3]>>,
+    /// All last three letters, sorted by what they add to the sum of a name.
+    ends: Vec<(u64, [u8; 3])>,
 }
 
 impl Deep {
-    /// A name has bucket 0 and digit 0 where this divides its sum.
-    const PERIOD: usize = 8 * TREES;
+    /// A name has bucket 0 and digit 0 where its sum is below this: its upper 16 bits are 0.
+    const BOUND: u64 = 1 << 48;
 
     fn new() -> Deep {
         let letters: Vec<u8> = (33..=126).filter(|letter| *letter != b'.').collect();
-        let mut ends = vec![Vec::new(); Deep::PERIOD];
+        let mut ends = Vec::new();
         for a in &letters {
-            for end in letters.iter().flat_map(|b| letters.iter().map(move |c| [*a, *b, *c])) {
-                let before = sum(&end, &WEIGHTS[NAME - 3..]) % Deep::PERIOD;
-                ends[(Deep::PERIOD - before) % Deep::PERIOD].push(end);
-            }
+            let with_a = letters.iter().flat_map(|b| letters.iter().map(move |c| [*a, *b, *c]));
+            ends.extend(with_a.map(|end| (sum(&ended([0; NAME], end)), end)));
         }
+        ends.sort_unstable();
         Deep { letters, ends }
     }
 
@@ -117,14 +108,24 @@ impl Deep {
 
     /// The names of bucket 0 and digit 0 with the same random letters but for the last three.
     fn names(&self, rng: &mut Rng) -> impl Iterator<Item = [u8; NAME]> + '_ {
-        let name = [0; NAME].map(|_| *rng.pick(&self.letters));
-        let ends = &self.ends[sum(&name[..NAME - 3], &WEIGHTS) % Deep::PERIOD];
-        ends.iter().map(move |end| {
-            let mut name = name;
-            name[NAME - 3..].copy_from_slice(end);
-            name
-        })
+        let name = ended([0; NAME].map(|_| *rng.pick(&self.letters)), [0; 3]);
+        let ends = self.ends_from(sum(&name));
+        ends.map(move |end| ended(name, end))
     }
+
+    /// The ends that take a sum to one below the bound: from the first that takes it to 2^64 or more, and behind the last
+    /// end from the first one, the sums modulo 2^64 increase.
+    fn ends_from(&self, base: u64) -> impl Iterator<Item = [u8; 3]> + '_ {
+        let first = self.ends.partition_point(|(more, _)| *more < base.wrapping_neg());
+        let ends = self.ends[first..].iter().chain(&self.ends);
+        ends.take_while(move |(more, _)| base.wrapping_add(*more) < Deep::BOUND).map(|(_, end)| *end)
+    }
+}
+
+/// The name with these last three letters.
+fn ended(mut name: [u8; NAME], end: [u8; 3]) -> [u8; NAME] {
+    name[NAME - 3..].copy_from_slice(&end);
+    name
 }
 
 fn number(owner: u16, name: u16) -> usize {
@@ -184,9 +185,9 @@ mod tests {
         let words = [*b"abcd", *b"efgh", *b"ijkl", *b"mnop", *b"qrst", *b"uvwx"].map(u32::from_le_bytes);
         let by_halves = (0..15).fold(0x9e37_79b9_7f4a_7c15, |s, k| round_by_halves(s, words[k % 6]));
         assert_eq!(digest(&one), by_halves);
-        assert_eq!((hash(&one), digest(&one)), (16_362, 0xc96a_804d_95c2_6dcd));
+        assert_eq!((hash(&one), digest(&one)), (21_807, 0xc96a_804d_95c2_6dcd));
         let found = [0, 1, 20, 21, 23, 24, 47, 48, 71, 72].map(|behind| digit(&one, behind));
-        assert_eq!(found, [1, 1, 4, 6, 0, 4, 7, 1, 1, 1]);
+        assert_eq!(found, [2, 1, 4, 6, 0, 4, 7, 1, 1, 1]);
     }
 
     #[test]

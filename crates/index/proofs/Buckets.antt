@@ -7,7 +7,8 @@ use mathlib.Core.Bool.{Bool, true, false, true≢false}
 use mathlib.Core.List.{List}
 use mathlib.Core.Path.{◌≡◌, refl, sym, ◌∙◌, subst}
 use native.Mathlib.Omega.{arith}
-use Rattle.index.specs.Inside.Bucket.{hash_of, digest_of, bucket_of, name_digits, name_digit, key_digit, digit_of}
+use Rattle.record.specs.Inside.NameHash.{hash_of}
+use Rattle.index.specs.Inside.Bucket.{digest_of, bucket_of, name_digits, name_digit, key_digit, digit_of}
 use Rattle.record.specs.Inside.Front.{front_of}
 use Rattle.record.specs.Inside.HeadFault.{name_bytes}
 use Rattle.record.specs.Table.{Record}
@@ -165,7 +166,7 @@ ways_tree n r = go (eqb (front_of r).kind 1)
     go false = sym (ways_other n _ (omega arith))
 
 -- the numbers that a name's digits are taken from
-pub digits-first : (name : List ℕ) (h d : ℕ) → h ≡ hash_of 24 name → d ≡ 0 → h / 8192 ≡ name_digits name d
+pub digits-first : (name : List ℕ) (h d : ℕ) → h ≡ hash_of name → d ≡ 0 → h / 8192 ≡ name_digits name d
 unfolding name_digits choose
 digits-first name h d e z = rw (eq-eqb d 0 z, e)
 

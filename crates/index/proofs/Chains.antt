@@ -15,7 +15,7 @@ use Rattle.index.proofs.ListSearch.{Reached, reach, list_kind_lem, sits_cons, si
 use Rattle.record.proofs.Records.{at_start, records-joined, at_more}
 use Rattle.record.proofs.RecordSizes.{head_long, head_ways}
 use Rattle.index.specs.Inside.Bucket.{bucket_of}
-use Rattle.index.specs.Inside.Entered.{clipped, Entered, EntryAsked, link_at, entered}
+use Rattle.index.specs.Inside.Entered.{clipped, Entered, EntryAsked, link_at, entered, Lasts}
 use Rattle.index.specs.Inside.Found.{found_at, place_at}
 use Rattle.record.specs.Inside.Front.{front_of}
 use Rattle.record.specs.Inside.FrontRecord.{front_record}
@@ -161,15 +161,6 @@ met-before t b q v s o (suc m) p h w l =
         let f = next_past t b p w (omega arith) (λ z. true≢false (sym (eq-eqb _ _ z) ∙ u)) in
         let r = ih (behind-before t p q w v d) (omega arith) in
         (omega (arith, r.0), omega (arith, r.1))
-
--- ---- the last record of each bucket before byte e
-pub record Lasts (t x : List ℕ) (e : ℕ) : Type 0 where
-  pub none : (b : ℕ) → b < list_count (length t) → get_or x (last_at (length t) b) 0 ≡ 0 → clipped e (next_from t b 0) ≡ 0
-  pub sits : (b q : ℕ) → b < list_count (length t) → get_or x (last_at (length t) b) 0 ≡ suc q → Sits t q
-  pub here : (b q : ℕ) → b < list_count (length t) → get_or x (last_at (length t) b) 0 ≡ suc q
-      → (q < e) × (list_in (length t) (front_record (drop q t)) ≡ b) × (clipped e (next_from t b (behind t q)) ≡ 0)
-  pub blank : (j : ℕ) → next_at (length t) e ≤ j → get_or x j 0 ≡ 0
-  pub long : index_size (length t) ≤ length x
 
 -- ---- one record more
 entered-length : (n b p : ℕ) (x : List ℕ) → length (entered n b p x) ≡ length x

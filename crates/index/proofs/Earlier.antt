@@ -16,9 +16,9 @@ use Rattle.record.proofs.RecordSizes.{head_kind}
 use Rattle.record.specs.Inside.Front.{front_of}
 use Rattle.record.specs.Inside.HeadFault.{name_bytes, same_key, has_key, is_class, has_class}
 use Rattle.record.specs.Inside.FrontRecord.{front_record}
-use Rattle.record.specs.Table.{Record, records_of}
+use Rattle.record.specs.Table.{Record, records_of, before}
 use Rattle.index.specs.Inside.SearchKey.{name_bytes_at, key_matches}
-use Rattle.record.specs.Inside.Walk.{CursorAt, Sits, WholeRecordAt, behind, before}
+use Rattle.record.specs.Inside.Walk.{CursorAt, Sits, WholeRecordAt, behind}
 use Rattle.index.proofs.StandingFront.{Standing, standing_room, standing_bytes}
 use Rattle.index.specs.declared.index.Place.{Place}
 use Rattle.index.specs.declared.tree.Key.{Key}

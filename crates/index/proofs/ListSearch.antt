@@ -28,8 +28,8 @@ use Rattle.record.proofs.Records.{at_start, records-here, records-end, record_by
 use Rattle.record.specs.Inside.Front.{front_of}
 use Rattle.record.specs.Inside.FrontRecord.{front_record}
 use Rattle.record.specs.Inside.Keyed.{is_of, records_with}
-use Rattle.record.specs.Inside.Walk.{CursorAt, Sits, behind, before}
-use Rattle.record.specs.Table.{Record, first_record, records_of, key_of}
+use Rattle.record.specs.Inside.Walk.{CursorAt, Sits, behind}
+use Rattle.record.specs.Table.{Record, first_record, records_of, key_of, before}
 use Rattle.record.specs.TableRefused.{table_fault}
 use Rattle.record.specs.Inside.Front.{Front}
 use Rattle.record.specs.declared.walk.Cursor.{Cursor}

@@ -14,7 +14,8 @@ use Rattle.ty.specs.Choose.{choose}
 use Rattle.index.proofs.Buckets.{bucket-below, tree_name, tree_other, ways_name, ways_other, name_digit_low, key_digit_low}
 use Rattle.index.proofs.ListSearch.{key_bucket_lem}
 use Rattle.record.proofs.RecordSizes.{head_known}
-use Rattle.index.specs.Inside.Bucket.{hash_of, name_digit, key_bucket, key_digits, key_digit, bucket_of, digit_of}
+use Rattle.record.specs.Inside.NameHash.{hash_of}
+use Rattle.index.specs.Inside.Bucket.{name_digit, key_bucket, key_digits, key_digit, bucket_of, digit_of}
 use Rattle.record.specs.Inside.Front.{front_of}
 use Rattle.record.specs.Inside.Keyed.{is_of}
 use Rattle.record.specs.Inside.HeadFault.{name_bytes, same_key}
@@ -38,13 +39,13 @@ and_true false = refl
 -- ---- digits
 pub digit_for_low : (t : List ℕ) (k : Key) (d : ℕ) → digit_for t k d < ways_in (length t) (tree_for t k)
 digit_for_low t (Name p) d =
-    subst (λ (w : ℕ). name_digit (name_bytes_at t p.at) d < w) (sym (ways_name (length t) _ (bucket-below (hash_of 24 (name_bytes_at t p.at)) (length t))))
+    subst (λ (w : ℕ). name_digit (name_bytes_at t p.at) d < w) (sym (ways_name (length t) _ (bucket-below (hash_of (name_bytes_at t p.at)) (length t))))
     (name_digit_low (name_bytes_at t p.at) d)
 digit_for_low t (Ids k a b) d =
     subst (λ (w : ℕ). key_digit k a b d < w) (sym (ways_other (length t) (bucket_count (length t) + key_bucket k a b % bucket_count (length t)) (omega arith))) (key_digit_low k a b d)
 
 pub tree_for_low : (t : List ℕ) (k : Key) → tree_for t k < 2 * bucket_count (length t)
-tree_for_low t (Name p) = omega (arith, bucket-below (hash_of 24 (name_bytes_at t p.at)) (length t))
+tree_for_low t (Name p) = omega (arith, bucket-below (hash_of (name_bytes_at t p.at)) (length t))
 tree_for_low t (Ids k a b) = omega (arith, bucket-below (key_bucket k a b) (length t))
 
 -- ---- records with a key have its tree and its digits
@@ -52,7 +53,7 @@ named-digits : (r : Record) → (front_of r).kind ≡ 1 → digit_of r ≡ name_
 unfolding digit_of
 named-digits r k = choose_yes _ _ _ (eq-eqb _ _ k)
 
-named-bucket : (r : Record) → (front_of r).kind ≡ 1 → bucket_of r ≡ hash_of 24 (name_bytes r)
+named-bucket : (r : Record) → (front_of r).kind ≡ 1 → bucket_of r ≡ hash_of (name_bytes r)
 unfolding bucket_of
 named-bucket r k = choose_yes _ _ _ (eq-eqb _ _ k)
 
@@ -95,7 +96,7 @@ pub key_path : (t : List ℕ) (k : Key) (r : Record) → KeyIn t k → key_match
 key_path t (Name p) r l e =
     let k : (front_of r).kind ≡ 1 = eqb-true _ _ (and_left (eqb (front_of r).kind 1) (same_bytes (name_bytes r) (name_bytes_at t p.at)) e) in
     let n = same_eq (name_bytes r) (name_bytes_at t p.at) (and_right (eqb (front_of r).kind 1) (same_bytes (name_bytes r) (name_bytes_at t p.at)) e) in
-    (tree_name (length t) r k ∙ ap (λ (z : ℕ). z % bucket_count (length t)) (named-bucket r k ∙ ap (hash_of 24) n), named-digits r k ∙ ap name_digit n)
+    (tree_name (length t) r k ∙ ap (λ (z : ℕ). z % bucket_count (length t)) (named-bucket r k ∙ ap (hash_of) n), named-digits r k ∙ ap name_digit n)
 key_path t (Ids k a b) r l e =
     (tree_other (length t) r (λ z. omega (arith, of_kind_lem k a b r e, l, z)) ∙ ap (λ (z : ℕ). bucket_count (length t) + z % bucket_count (length t)) (key_bucket_lem k a b r l e), key_digits_lem k a b r e l)
 
@@ -218,7 +219,7 @@ module _ (t : List ℕ) (c : Cursor) (h : Front) (s : Standing t c h) where
       go true q =
           let k : h.kind ≡ 1 = eqb-true _ _ q in
           let m : (front_of (record_at t c)).kind ≡ 1 = sym (ap (λ (z : Front). z.kind) own) ∙ k in
-          (ap (tree_for t) (key_name k) ∙ ap (λ (z : ℕ). z % bucket_count (length t)) (ap (hash_of 24) (bytes k) ∙ sym (named-bucket _ m)) ∙ sym (tree_name (length t) _ m), ap (digit_for t) (key_name k) ∙ ap name_digit (bytes k) ∙ sym (named-digits _ m))
+          (ap (tree_for t) (key_name k) ∙ ap (λ (z : ℕ). z % bucket_count (length t)) (ap (hash_of) (bytes k) ∙ sym (named-bucket _ m)) ∙ sym (tree_name (length t) _ m), ap (digit_for t) (key_name k) ∙ ap name_digit (bytes k) ∙ sym (named-digits _ m))
       go false q =
           let k : h.kind ≡ 1 → ⊥ = λ z. true≢false (sym (eq-eqb _ _ z) ∙ q) in
           let m : (front_of (record_at t c)).kind ≡ 1 → ⊥ = λ z. k (ap (λ (z : Front). z.kind) own ∙ z) in (

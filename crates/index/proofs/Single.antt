@@ -29,8 +29,8 @@ use Rattle.record.specs.Inside.Front.{front_of}
 use Rattle.record.specs.Inside.FrontRecord.{front_record}
 use Rattle.record.specs.Inside.HeadFault.{same_key, has_key}
 use Rattle.record.specs.Inside.Keyed.{is_of}
-use Rattle.record.specs.Inside.Walk.{Sits, behind, before}
-use Rattle.record.specs.Table.{records_of}
+use Rattle.record.specs.Inside.Walk.{Sits, behind}
+use Rattle.record.specs.Table.{records_of, before}
 use Rattle.record.specs.Inside.Front.{Front}
 
 -- records that are passed over

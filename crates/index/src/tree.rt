@@ -1,7 +1,7 @@
 // The search trees of the index.
 ghost use Rattle.std.specs.Prelude.{◌≡◌, ℕ, ◌+◌, ◌-◌, ◌≤◌, ◌<◌, ltb, length, drop, take};
 ghost use Rattle.ty.specs.Choose.{choose};
-ghost use Rattle.index.specs.Inside.Bucket.{hash_of, word_at, round_of, digest_of};
+ghost use Rattle.index.specs.Inside.Bucket.{word_at, round_of, digest_of};
 ghost use Rattle.record.specs.Inside.Walk.{WholeRecordAt};
 ghost use Rattle.index.specs.Inside.SearchKey.{tree_for, digits_for, digit_for, key_matches, KeyIn};
 ghost use Rattle.record.specs.Inside.FrontRecord.{front_record};
@@ -12,6 +12,7 @@ use crate::index::{
     Place, bucket_count, child_at, has_ids, has_one_id, key_bucket, place_at, reduced,
 };
 use record::front::RecordKind;
+use record::spelling::name_hash;
 use ty::{byte_at, same_bytes};
 
 // What a search looks for: the name of the record at a place, or a kind from 2 on with its ids, `two` being 0 where the kind has one id: no search looks at it.
@@ -34,21 +35,6 @@ pub fn name_at(t: &[u8], p: usize) -> &[u8]
     &t[from..to]
 }
 
-// A number for 24 bytes of a name: the bytes times weights that depend on the place alone, so that no product waits for another.
-#[tactic(auto, unfolding(crate::specs::Inside::Bucket::weight_of, crate::specs::Inside::Bucket::weighed_of, crate::specs::Inside::Bucket::hash_of))]
-fn hash(name: &[u8]) -> usize
-    requires { length name.now ≡ 24 }
-    ensures { (result ≡ hash_of 24 name.now) × (result < 65536) }
-{
-    let mut sum: usize = 0;
-    let mut weight: usize = 173;
-    for &b in name {
-        sum += b as usize * weight;
-        weight = (weight * 463 + 7) % 32749;
-    }
-    sum % 65536
-}
-
 // The tree of a key.
 pub fn tree_of(t: &[u8], key: Key) -> usize
     requires { KeyIn t.now key }
@@ -56,7 +42,7 @@ pub fn tree_of(t: &[u8], key: Key) -> usize
 {
     let n = t.len();
     match key {
-        Key::Name(place) => reduced(hash(name_at(t, place.at)), n),
+        Key::Name(place) => reduced(name_hash(name_at(t, place.at)), n),
         Key::Ids { kind, one, two } => bucket_count(n) + reduced(key_bucket(kind, one, two), n),
     }
 }
@@ -120,7 +106,7 @@ fn digits(t: &[u8], key: Key, h: usize, d: usize) -> usize
     match key {
         Key::Name(place) => {
             if d == 0 {
-                return hash(name_at(t, place.at)) / 8192;
+                return name_hash(name_at(t, place.at)) / 8192;
             }
             if d == 1 {
                 return digest(name_at(t, place.at));

@@ -14,8 +14,8 @@ use Rattle.record.specs.Inside.Front.{front_of}
 use Rattle.record.specs.Inside.Keyed.{is_of, records_with}
 use Rattle.record.specs.Inside.HeadFault.{last_kind, head_fault, found_from}
 use Rattle.record.specs.TableRefused.{table_fault}
-use Rattle.record.specs.Table.{Record, records_of}
-use Rattle.record.specs.Inside.Walk.{CursorAt, before}
+use Rattle.record.specs.Table.{Record, records_of, before}
+use Rattle.record.specs.Inside.Walk.{CursorAt}
 use Rattle.record.specs.Inside.Front.{Front}
 use Rattle.record.specs.declared.walk.Cursor.{Cursor}
 

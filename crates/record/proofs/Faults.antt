@@ -60,6 +60,12 @@ module _ (earlier : List Record) (r : Record) (rest : List Record) where
       let c = not_taken (not (id_defined (front_of r).top (count_of 1 earlier))) 3 _ b.1 in
       (a.0, not-false (id_defined (front_of r).top (count_of 1 earlier)) c.0)
 
+  pub own_rises : own_fault earlier r ≡ 0 → ltb (front_of r).kind (last_kind earlier) ≡ false
+  unfolding own_fault
+  own_rises e =
+      let a = not_taken (front_of r).malformed 1 _ e in
+      (not_taken (ltb (front_of r).kind (last_kind earlier)) 2 _ a.1).0
+
   pub key_clean : key_fault earlier r rest ≡ 0 → has_key r earlier ≡ false
   unfolding key_fault
   key_clean e = (not_taken (has_key r earlier) 4 _ e).0

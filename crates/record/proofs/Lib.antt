@@ -1,10 +1,14 @@
 pub mod Types
 pub mod ParamSteps
 pub mod Bounds
+pub mod GoodNames
+pub mod NameHashes
+pub mod NameRecords
 pub mod Own
 pub mod Runs
 pub mod Agree
 pub mod Records
+pub mod NamesCounted
 pub mod RecordSizes
 pub mod SpellingRows
 pub mod SameKeys
@@ -15,3 +19,4 @@ pub mod Faults
 pub mod Accepts
 pub mod EveryRecord
 pub mod RecordParts
+pub mod Order3

@@ -12,8 +12,8 @@ use Rattle.record.proofs.Bounds.{head_bounded}
 use Rattle.record.proofs.Own.{head_own, drop-take}
 use Rattle.record.specs.Inside.Front.{front_of}
 use Rattle.record.specs.Inside.FrontRecord.{front_record}
-use Rattle.record.specs.Table.{Record, records_from, records_of, joined}
-use Rattle.record.specs.Inside.Walk.{start, CursorAt, record_at, StepIs, before}
+use Rattle.record.specs.Table.{Record, records_from, records_of, joined, before}
+use Rattle.record.specs.Inside.Walk.{start, CursorAt, record_at, StepIs}
 use Rattle.record.specs.declared.walk.Cursor.{Cursor}
 use Rattle.record.specs.declared.walk.Step.{Step}
 

@@ -2,5 +2,8 @@ pub mod Keyed
 pub mod Front
 pub mod FrontRecord
 pub mod HeadFault
+pub mod NameHash
+pub mod NamesBefore
+pub mod NamesWalked
 pub mod Sieve
 pub mod Walk

@@ -4,3 +4,4 @@ pub mod Layout
 pub mod Table
 pub mod Spelling
 pub mod TableRefused
+pub mod Order3

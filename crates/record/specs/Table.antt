@@ -1,5 +1,5 @@
 -- A table as the list of its records, each its own bytes (document 01, "Table and question").
-use Rattle.std.specs.Prelude.{ℕ, zero, suc, ◌-◌, ltb, eqb, length, take, drop, Bool, true, false, ◌&&◌, List, [], ◌∷◌, ◌++◌}
+use Rattle.std.specs.Prelude.{ℕ, zero, suc, ◌-◌, ltb, eqb, length, get_or, take, drop, Bool, true, false, ◌&&◌, List, [], ◌∷◌, ◌++◌}
 use Rattle.record.specs.Layout.{record_kind, record_size, class_field, owner_field, name_field}
 use Rattle.ty.specs.Bytes.{same_bytes}
 use Rattle.ty.specs.Choose.{choose}
@@ -33,6 +33,11 @@ of_kind kind (r ∷ rs) = choose (eqb (record_kind r) kind) (r ∷ of_kind kind 
 -- how many names there are
 abbrev pub name_count : List Record → ℕ
 name_count rs = length (of_kind 1 rs)
+
+-- the first k records, the latest first
+unfoldable pub before : ℕ → List Record → List Record
+before zero rs = []
+before (suc k) rs = get_or rs k [] ∷ before k rs
 
 -- ---- keys
 

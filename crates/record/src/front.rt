@@ -1,7 +1,7 @@
 // Reading one record from the front of a slice.
-ghost use Rattle.std.specs.Prelude.{◌≡◌, ◌<◌, length};
+ghost use Rattle.std.specs.Prelude.{◌≡◌, ◌≤◌, ◌<◌, length};
 ghost use Rattle.record.specs.RecordKind.{record_kind_number, RecordKindIs};
-ghost use Rattle.record.specs.Inside.Front.{front_at, plain_head, or_none, good_byte, good_bytes, name_head, head_by};
+ghost use Rattle.record.specs.Inside.Front.{front_at, plain_head, or_none, good_byte, good_part, name_head, head_by};
 ghost use Rattle.record.specs.Inside.Walk.{HeadIs};
 
 use crate::params::{Reading, read_function_head, typed_record};
@@ -107,33 +107,37 @@ fn plain(
     })
 }
 
-// Without a branch, so that good_bytes can take many bytes at a time (docs/history/speed.md): a byte inside the name is not zero, one behind it is.
-fn good_byte(n: usize, i: usize, b: u8) -> bool
+// Without a branch, so that good_part can take many bytes at a time (docs/history/speed.md): a byte inside the name is not zero, one behind it is.
+fn good_byte(n: u8, i: u8, b: u8) -> bool
     ensures { result ≡ good_byte n i b }
 {
     ((i < n) ^ (b == 0)) & ((b == 0) | ((33 <= b) & ((b <= 126) & (!(b == 46)))))
 }
 
-#[tactic(auto, unfolding(crate::specs::Inside::Front::good_bytes))]
-fn good_bytes(s: &[u8], n: usize) -> bool
-    ensures { result ≡ good_bytes 24 s.now n }
+// Sixteen bytes of a name of n bytes, the first being byte `from` of it: so many bytes fill a register (docs/history/order-3-speed.md).
+#[tactic(auto, unfolding(crate::specs::Inside::Front::good_part))]
+fn good_part(part: &[u8], from: u8, n: u8) -> bool
+    requires { from ≤ 8 }
+    ensures { result ≡ good_part 16 from part.now n }
 {
     let mut good = true;
-    for i in 0..24 {
-        good = good_byte(n, i, byte_at(s, i + 2)) & good;
+    for i in 0..16 {
+        good = good_byte(n, i as u8 + from, byte_at(part, i)) & good;
     }
     good
 }
 
-#[tactic(auto, unfolding(crate::specs::Inside::Front::name_head, crate::specs::Inside::Front::plain_head, ty::specs::Choose::choose))]
-fn read_name(s: &[u8]) -> Option<Head>
+// The name record at the front of s, and none where it is malformed or cut.
+#[tactic(auto, using(crate::proofs::GoodNames::name_rules), unfolding(crate::specs::Inside::Front::name_head))]
+pub fn read_name(s: &[u8]) -> Option<Head>
     ensures { front_at s.now result ≡ name_head s.now }
 {
     if s.len() < NAME_BYTES {
         return None;
     }
     let n = byte_at(s, 1);
-    let good = good_bytes(s, n as usize);
+    // the 24 bytes as two parts, eight of them in both
+    let good = good_part(&s[2..18], 0, n) & good_part(&s[10..26], 8, n);
     plain(
         s,
         NAME_BYTES,

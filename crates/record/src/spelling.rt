@@ -1,6 +1,7 @@
-// The spellings of the built-in names.
-ghost use Rattle.std.specs.Prelude.{◌≡◌, ◌<◌};
-ghost use Rattle.record.specs.Inside.Sieve.{mix_of, bit_of, may_be_builtin};
+// The spellings of the built-in names, and a number for a name.
+ghost use Rattle.std.specs.Prelude.{◌≡◌, ◌≤◌, ◌<◌};
+ghost use Rattle.record.specs.Inside.NameHash.{eight_at, weighed_of, hash_of};
+ghost use Rattle.record.specs.Inside.Sieve.{may_be_builtin};
 ghost use Rattle.record.specs.Spelling.{builtin_names, spelled};
 
 use ty::{byte_at, same_bytes};
@@ -56,43 +57,79 @@ fn in_rows(name: &[u8], rows: &[[u8; 24]]) -> bool
     rows.iter().any(|row| same_bytes(name, row))
 }
 
-// A number for six of a name's bytes.
-#[tactic(auto, unfolding(crate::specs::Inside::Sieve::mix_of))]
-fn mix(name: &[u8]) -> u64
-    ensures { result ≡ mix_of name.now }
+// Eight bytes of a name from byte i on as a number, low byte first, with 0 past the end.
+#[tactic(auto, unfolding(crate::specs::Inside::NameHash::eight_at))]
+fn eight_at(name: &[u8], i: usize) -> u64
+    requires { i ≤ 16 }
+    ensures { result ≡ eight_at name.now i }
 {
-    let one = 9947 * (byte_at(name, 0) as u64) + 29707 * (byte_at(name, 1) as u64);
-    let two = 19595 * (byte_at(name, 2) as u64) + 31359 * (byte_at(name, 3) as u64);
-    let three = 39627 * (byte_at(name, 5) as u64) + 48515 * (byte_at(name, 8) as u64);
-    one + two + three
+    u64::from_le_bytes([
+        byte_at(name, i),
+        byte_at(name, i + 1),
+        byte_at(name, i + 2),
+        byte_at(name, i + 3),
+        byte_at(name, i + 4),
+        byte_at(name, i + 5),
+        byte_at(name, i + 6),
+        byte_at(name, i + 7),
+    ])
 }
 
-// The bit n modulo 64 of a mask.
-#[tactic(auto, unfolding(crate::specs::Inside::Sieve::bit_of))]
-fn bit(mask: u64, n: u64) -> u64
-    ensures { (result ≡ bit_of mask n) × (result < 2) }
+// The three parts of a name, each of eight bytes, times an odd number of its own, so that no product waits for another.
+#[tactic(auto, using(crate::proofs::NameHashes::three_sum), unfolding(crate::specs::Inside::NameHash::weighed_of))]
+fn weighed(name: &[u8]) -> u64
+    ensures { result ≡ weighed_of name.now }
 {
-    (mask >> (n % 64)) % 2
+    let one = eight_at(name, 0).wrapping_mul(15837372998040177803);
+    let two = eight_at(name, 8).wrapping_mul(15377906377925924563);
+    let three = eight_at(name, 16).wrapping_mul(17415691914075052159);
+    one.wrapping_add(two).wrapping_add(three)
 }
 
-// Each built-in spelling has four bits by the number of its bytes; few other names do, so that few are compared with the spellings. The bits are counted, so
-// that there is no branch.
-#[tactic(auto, unfolding(crate::specs::Inside::Sieve::may_be_builtin))]
-fn may_be_builtin(name: &[u8]) -> bool
-    ensures { result ≡ may_be_builtin name.now }
+// A number for a name.
+#[tactic(auto, unfolding(crate::specs::Inside::NameHash::hash_of))]
+pub fn name_hash(name: &[u8]) -> usize
+    ensures { (result ≡ hash_of name.now) × (result < 65536) }
 {
-    let n = mix(name);
-    let low = bit(12183240034444089300, n) + bit(1956214469538365958, n / 64);
-    let high = bit(10955430332744839178, n / 4096) + bit(24911053012042128, n / 262144);
-    low + high == 4
+    let sum = weighed(name);
+    (((sum >> 48) + (sum >> 56)) % 65536) as usize
 }
 
-// A name's 24 bytes are a built-in spelling. Few names need the rows.
+// A bit for each number modulo 1,024 that a built-in spelling has, 64 to a word.
+static SIEVE: [u64; 16] = [
+    8796093022464,
+    18300271801139200,
+    0,
+    144132780261900356,
+    9359043042738176,
+    288230376151711746,
+    9216,
+    290271069733124,
+    36028797023166472,
+    0,
+    32896,
+    8192,
+    10995116277760,
+    4295033088,
+    139264,
+    18014398543036432,
+];
+
+// A name's number has its bit: so has each built-in spelling's, and few other names', so that few are compared with the spellings.
+#[tactic(auto, unfolding(crate::specs::Inside::Sieve::may_be_builtin, crate::specs::Inside::Sieve::sieve_words))]
+fn may_be_builtin(h: usize) -> bool
+    ensures { result ≡ may_be_builtin h }
+{
+    (SIEVE[h / 64 % 16] >> (h % 64)) % 2 == 1
+}
+
+// A name's 24 bytes, whose number is h, are a built-in spelling. The number is asked, as a name's is found once. Few names need the rows.
 #[tactic(auto, using(crate::proofs::SpellingRows::not_spelled), unfolding(crate::specs::Spelling::builtin_names))]
-pub fn is_builtin(name: &[u8]) -> bool
+pub fn is_builtin(name: &[u8], h: usize) -> bool
+    requires { h ≡ hash_of name.now }
     ensures { result ≡ spelled name.now builtin_names }
 {
-    if !may_be_builtin(name) {
+    if !may_be_builtin(h) {
         return false;
     }
     in_rows(name, &BUILTINS)

@@ -26,7 +26,7 @@ use Rattle.record.proofs.Bounds.{head_bounded}
 use Rattle.record.proofs.EveryRecord.{Every, Own, records-own, with_every}
 use Rattle.record.proofs.Laid.{same_count, highest_defined}
 use Rattle.symbol.proofs.LaidLookups.{overloads_told, field_told, visibility_told}
-use Rattle.symbol.proofs.Names.{Distinct, names_distinct}
+use Rattle.symbol.proofs.ParamNames.{Distinct, names_distinct}
 use Rattle.record.proofs.Records.{records-here, records-end}
 use Rattle.record.proofs.RecordSizes.{head_by_lem}
 use Rattle.symbol.proofs.Wholes.{function-whole, field_whole}

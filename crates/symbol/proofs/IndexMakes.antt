@@ -12,17 +12,17 @@ use Rattle.ty.specs.Choose.{choose}
 use Rattle.index.proofs.Paths.{own_path}
 use Rattle.record.proofs.Records.{here_cons, before_next, records-end}
 use Rattle.record.proofs.RecordSizes.{stands_own}
-use Rattle.record.specs.Inside.Walk.{start, CursorAt, StepIs, Stands, record_at, before}
+use Rattle.record.specs.Inside.Walk.{start, CursorAt, StepIs, Stands, record_at}
 use Rattle.index.specs.Inside.Entered.{entered}
 use Rattle.record.specs.Inside.Front.{front_of}
 use Rattle.record.specs.Inside.HeadFault.{head_fault}
 use Rattle.record.specs.Inside.FrontRecord.{count_of}
-use Rattle.record.specs.Table.{Record, records_of}
+use Rattle.record.specs.Table.{Record, records_of, before}
 use Rattle.index.specs.Inside.Index.{tree_in, root_at, child_at}
 use Rattle.symbol.specs.Inside.Join.{taken_of, EntryTreeIs, PlaceIs, index_joined}
 use Rattle.index.specs.Inside.Bucket.{digit_of}
 use Rattle.index.specs.Inside.SearchKey.{tree_for, digit_for, key_at}
-use Rattle.symbol.specs.Inside.IndexMade.{end_from, entry_of, placed, made_from, index_made}
+use Rattle.symbol.specs.Inside.IndexMade.{end_from, entry_of, placed, made_from, index_made, Making}
 use Rattle.index.specs.Inside.Spot.{FreeIs}
 use Rattle.index.specs.Inside.SearchTree.{place_of, Led}
 use Rattle.std.specs.Prelude.{Option, Some, None}
@@ -82,10 +82,7 @@ module _ (t x : List ℕ) (c : Cursor) (h : Head) (st : Stands t c h) where
   placed-joined (Some (entry.List b)) k i =
       ap (λ (j : ℕ). entered (length t) j c.at x) i.bucket ∙ sym (choose_yes _ _ _ (eq-eqb _ _ (own_kind ∙ i.function)))
 
--- ---- the pass: what is left to be done with x comes to the same as all of it with x₀
-abbrev pub Making : List ℕ → List ℕ → List ℕ → Cursor → Type 0
-Making t x₀ x c = made_from (length t) c.at (before c.index (records_of t)) (records_of (drop c.at t)) x ≡ index_made t x₀
-
+-- ---- the pass
 pub making_start : (t x : List ℕ) (c : Cursor) → length t ≤ 60000 → c ≡ start → Making t x x c
 unfolding before index_made
 making_start t x c h e =

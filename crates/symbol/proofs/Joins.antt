@@ -7,11 +7,11 @@ use mathlib.Core.Logic.{◌⊎◌, ⊎_elim}
 use mathlib.Core.Path.{◌≡◌, refl, sym, ap, ◌∙◌, subst}
 use native.Mathlib.Omega.{arith}
 use Rattle.index.proofs.Buckets.{tree_low}
-use Rattle.index.proofs.Chains.{Lasts, apart_of, entered_next, lasts_next, entered_past, lasts_past, entered-kept}
+use Rattle.index.proofs.Chains.{apart_of, entered_next, lasts_next, entered_past, lasts_past, entered-kept}
 use Rattle.index.proofs.Paths.{own_path}
 use Rattle.index.proofs.SearchTrees.{Below, tree-function, tree-joined, spot, front, inside}
 use Rattle.index.specs.Inside.Bucket.{digit_of}
-use Rattle.index.specs.Inside.Entered.{Entered, entered}
+use Rattle.index.specs.Inside.Entered.{Entered, Lasts, entered}
 use Rattle.record.specs.Inside.Front.{front_of}
 use Rattle.record.specs.Inside.FrontRecord.{front_record}
 use Rattle.index.specs.Inside.Index.{bucket_count, list_count, tree_in, list_in, root_at, first_at, last_at, child_at, next_at, ways_in}

@@ -11,8 +11,8 @@ use Rattle.index.specs.Inside.Ahead.{marked_from, Looked}
 use Rattle.record.proofs.Records.{here_cons, before_next, records-end}
 use Rattle.record.specs.Inside.Front.{front_of}
 use Rattle.record.specs.Inside.HeadFault.{super_missing, own_fault, key_fault}
-use Rattle.record.specs.Inside.Walk.{start, Sits, CursorAt, StepIs, record_at, before}
-use Rattle.record.specs.Table.{Record, records_of}
+use Rattle.record.specs.Inside.Walk.{start, Sits, CursorAt, StepIs, record_at}
+use Rattle.record.specs.Table.{Record, records_of, before}
 use Rattle.record.specs.Inside.Front.{Front}
 use Rattle.record.specs.declared.walk.Cursor.{Cursor}
 use Rattle.record.specs.declared.walk.Step.{Step}

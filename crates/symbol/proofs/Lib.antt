@@ -5,12 +5,13 @@ pub mod PlacesFound
 pub mod SuperLate
 pub mod Wholes
 pub mod ParamsLaid
-pub mod Names
+pub mod ParamNames
 pub mod NamesFirst
 pub mod NamesFit
 pub mod Joins
 pub mod LateMakes
 pub mod Passes
+pub mod NamePasses
 pub mod Ranks
 pub mod Subclasses
 pub mod RecordCases
@@ -25,3 +26,6 @@ pub mod SearchMeetsKey
 pub mod IndexMakes
 pub mod LookedUp
 pub mod VisibilityBytes
+pub mod OwnFaults
+pub mod EntriesFound
+pub mod NameFaults

@@ -22,8 +22,8 @@ use Rattle.record.proofs.RecordSizes.{head_fits, head_by_lem}
 use Rattle.index.specs.Inside.Ahead.{late_size}
 use Rattle.record.specs.Inside.Front.{broken_head, plain_head, or_none, class_head, head_by, front_of}
 use Rattle.record.specs.Inside.FrontRecord.{front_record, count_of}
-use Rattle.record.specs.Table.{Record, records_of, joined}
-use Rattle.record.specs.Inside.Walk.{CursorAt, Stands, before}
+use Rattle.record.specs.Table.{Record, records_of, joined, before}
+use Rattle.record.specs.Inside.Walk.{CursorAt, Stands}
 use Rattle.record.specs.Inside.Front.{Front}
 use Rattle.record.specs.declared.walk.Cursor.{Cursor}
 

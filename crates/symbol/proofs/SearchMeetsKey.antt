@@ -13,16 +13,14 @@ use Rattle.index.proofs.Earlier.{any_of, any_key, any-class, passed_before, fail
 use Rattle.index.proofs.ListSearch.{sits-own}
 use Rattle.index.proofs.Paths.{and_true, id_bucket, not-met, passes_key, own_key_in}
 use Rattle.record.proofs.SameKeys.{same_kind, function_fresh}
-use Rattle.record.proofs.RecordSizes.{stands_own}
-use Rattle.record.specs.declared.front.Head.{Head}
 use Rattle.index.proofs.TreeWalks.{search_spot}
 use Rattle.index.specs.Inside.TreeWalk.{search_of}
-use Rattle.index.proofs.StandingFront.{Standing, standing}
-use Rattle.symbol.specs.Inside.Asked.{Planted, Prepared}
-use Rattle.record.specs.Inside.Front.{front_of, front_of_head}
+use Rattle.index.proofs.StandingFront.{Standing, standing_own}
+use Rattle.symbol.specs.Inside.Asked.{Planted}
+use Rattle.record.specs.Inside.Front.{front_of}
 use Rattle.record.specs.Inside.HeadFault.{same_key, has_key, is_class, has_class}
 use Rattle.record.specs.Inside.FrontRecord.{front_record}
-use Rattle.record.specs.Table.{Record, records_of}
+use Rattle.record.specs.Table.{Record, records_of, before}
 use Rattle.index.specs.Inside.Index.{list_count, list_in}
 use Rattle.index.specs.Inside.Bucket.{key_bucket}
 use Rattle.index.specs.Inside.SearchKey.{key_matches, KeyIn, key_at}
@@ -31,7 +29,7 @@ use Rattle.index.proofs.Counted.{counted, counted_found}
 use Rattle.index.specs.Inside.Found.{Found, found_at}
 use Rattle.std.specs.Prelude.{Result, Ok, Err, is_ok, Some, None, is_some}
 use Rattle.index.specs.Inside.SearchTree.{TreeMember}
-use Rattle.record.specs.Inside.Walk.{CursorAt, Sits, record_at, before}
+use Rattle.record.specs.Inside.Walk.{CursorAt, Sits, record_at}
 use Rattle.record.specs.Inside.Front.{Front}
 use Rattle.index.specs.declared.index.Place.{Place}
 use Rattle.index.specs.declared.tree.Key.{Key}
@@ -103,21 +101,15 @@ module _ (t x : List ℕ) (c : Cursor) (a : CursorAt t c) (g : Planted t x c.at)
         (search_spot t x (Ids 2 id 0) planted_open r (e ∙ ap (λ (i : ℕ). search_of t x (Ids i id 0)) n) c.at g.tree)
 
 -- ---- the key of a record
-module _ (t x : List ℕ) (c : Cursor) (h : Head) (p : Prepared t x c h) where
-  abbrev f : Front
-  f = front_of_head h
-
-  stands : Standing t c f
-  stands = standing t c h p.stands
-
+module _ (t x : List ℕ) (c : Cursor) (f : Front) (stands : Standing t c f) (whole : f.malformed ≡ false) (planted : Planted t x c.at) where
   own : f ≡ front_of (record_at t c)
-  own = stands_own t c h p.stands
+  own = standing_own t c f stands
 
   pub own_in : KeyIn t (key_at c f)
-  own_in = own_key_in t c f stands refl
+  own_in = own_key_in t c f stands whole
 
   pub own_open : Open t x
-  own_open = planted_open t x c p.stands.at p.planted
+  own_open = planted_open t x c stands.at planted
 
   -- a function
   module _ (k : f.kind ≡ 4) where
@@ -127,7 +119,7 @@ module _ (t x : List ℕ) (c : Cursor) (h : Head) (p : Prepared t x c h) where
     pub list_fresh : false ≡ has_key (record_at t c) (before c.index (records_of t))
     list_fresh = sym (function_fresh (record_at t c) (before c.index (records_of t)) is_function)
 
-    pub list-bucket : key_bucket 4 h.one h.two % list_count (length t) ≡ list_in (length t) (record_at t c)
+    pub list-bucket : key_bucket 4 f.one f.two % list_count (length t) ≡ list_in (length t) (record_at t c)
     list-bucket =
         ap (λ (z : Front). key_bucket 4 z.one z.two % list_count (length t)) own
         ∙ ap (λ (z : ℕ). z % list_count (length t)) (sym (ap (λ (z : ℕ). key_bucket z (front_of (record_at t c)).one (front_of (record_at t c)).two) is_function) ∙ sym (id_bucket (record_at t c) (λ z. omega (arith, is_function, z))))
@@ -140,10 +132,10 @@ module _ (t x : List ℕ) (c : Cursor) (h : Head) (p : Prepared t x c h) where
 
     pub key_taken : (q : Place) → TakenIs t c.at (key_at c f) q → true ≡ has_key (record_at t c) (before c.index (records_of t))
     key_taken q e =
-        sym (taken-before t x c p.stands.at p.planted (key_at c f) own_in (λ r. same_key r (record_at t c)) (passes_key t c f stands k) not-function q e)
+        sym (taken-before t x c stands.at planted (key_at c f) own_in (λ r. same_key r (record_at t c)) (passes_key t c f stands k) not-function q e)
         ∙ any_key (record_at t c) (before c.index (records_of t))
 
     pub key_free : (s : ℕ) → FreeIs t x (key_at c f) s → false ≡ has_key (record_at t c) (before c.index (records_of t))
     key_free s e =
-        sym (free-before t x c p.stands.at p.planted (key_at c f) own_in (λ r. same_key r (record_at t c)) (passes_key t c f stands k) not-function s e)
+        sym (free-before t x c stands.at planted (key_at c f) own_in (λ r. same_key r (record_at t c)) (passes_key t c f stands k) not-function s e)
         ∙ any_key (record_at t c) (before c.index (records_of t))

@@ -11,10 +11,10 @@ use Rattle.record.proofs.RecordSizes.{stands_own}
 use Rattle.record.specs.RecordKind.{record_kind_number}
 use Rattle.record.specs.Inside.HeadFault.{has_class, super_late, super_missing}
 use Rattle.record.specs.Inside.Front.{front_of}
-use Rattle.record.specs.Table.{Record, records_of}
+use Rattle.record.specs.Table.{Record, records_of, before}
 use Rattle.symbol.specs.Inside.Asked.{super_missing_at}
 use Rattle.symbol.specs.Inside.Join.{KeyAsked}
-use Rattle.record.specs.Inside.Walk.{Stands, record_at, before}
+use Rattle.record.specs.Inside.Walk.{Stands, record_at}
 use Rattle.std.specs.Prelude.{Option, None, Some, is_some, MatchOption}
 use Rattle.std.specs.Bool.{then_some}
 use Rattle.ty.proofs.Choice.{choose_no}

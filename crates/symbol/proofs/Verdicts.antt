@@ -1,19 +1,9 @@
 -- What the answer of `check_table` says.
-use Prim.Native.Nat.{ℕ, ◌≤◌}
-use denote.Enum.Bare.{sameb}
-use lib.Dec.{eqb}
-use mathlib.Core.Bool.{Bool, true, false}
-use mir.Val.{bool_byte}
+use Prim.Native.Nat.{ℕ}
 use mathlib.Core.List.{List}
-use mathlib.Core.Path.{◌≡◌, refl, sym, ap, ◌∙◌, subst}
+use mathlib.Core.Path.{◌≡◌, sym, ap, ◌∙◌, subst}
 use native.Mathlib.Omega.{arith}
 use Rattle.std.specs.Prelude.{Result, Ok, Err, IfOk, IsErr, IsErrAnd}
-use Rattle.index.proofs.KindTests.{kinds_tested}
-use Rattle.record.specs.RecordKind.{record_kind_number}
-use Rattle.record.specs.contracts.front.RecordKind.{the_type}
-use Rattle.record.specs.declared.front.RecordKind.TheVariants.{Name}
-use Rattle.record.specs.declared.front.RecordKind.{RecordKind}
-use Rattle.ty.specs.Choose.{choose}
 use Rattle.record.specs.TableRefused.{table_fault}
 use Rattle.record.specs.Table.{records_of, name_count}
 use Rattle.symbol.specs.Inside.Checked.{checked_number}
@@ -49,16 +39,3 @@ module _ (t : List ℕ) (r : Result ℕ TableFault) (e : checked_number r ≡ ta
 pub passed_on : (r : Result ℕ TableFault) (f : TableFault) → IsErr r → IsErrAnd r (λ (g : TableFault). g ≡ f) → checked_number r ≡ table_fault_number f
 passed_on (Ok n) f i h = absurd h
 passed_on (Err g) f i h = ap table_fault_number h
-
--- a name counts one
-pub counted : (k : RecordKind) (v : Bool) → v ≡ sameb the_type k Name → bool_byte v ≡ choose (eqb (record_kind_number k) 1) 1 0
-unfolding choose
-counted k v e = ap bool_byte (e ∙ kinds_tested k Name) ∙ go (eqb (record_kind_number k) 1)
-  where
-    go : (u : Bool) → bool_byte u ≡ choose u 1 0
-    go true = refl
-    go false = refl
-
-pub counted_few : (v : Bool) → bool_byte v ≤ 1
-counted_few true = omega arith
-counted_few false = omega arith

@@ -8,4 +8,5 @@ pub mod FoundSymbols
 pub mod Places
 pub mod FunctionFields
 pub mod LateMade
+pub mod NamesChecked
 pub mod FunctionCursor

@@ -1,27 +1,26 @@
 // The table's refusals.
-ghost use Rattle.std.specs.Prelude.{◌≡◌, ◌||◌, ◌≤◌, length, IfOk};
+ghost use Rattle.std.specs.Prelude.{ℕ, List, ◌≡◌, ◌||◌, ◌≤◌, length, IfOk};
 ghost use Rattle.index.specs.Inside.Ahead.{late_size, LateRoom};
 ghost use Rattle.symbol.specs.Inside.Asked.{Asked, Prepared, Planted, super_missing_at, own_fault_at, key_fault_at};
 ghost use Rattle.symbol.specs.Inside.Join.{EntryIs, KeyAsked, JoinAsked, index_joined};
-ghost use Rattle.index.specs.Inside.SearchKey.{key_at};
 ghost use Rattle.symbol.specs.Inside.IndexMade.{index_made};
 ghost use Rattle.symbol.specs.Inside.LateMade.{late_looked, late_made};
-ghost use Rattle.record.specs.Inside.Front.{front_of_head};
-ghost use Rattle.record.specs.Inside.HeadFault.{is_builtin_name, has_class};
+ghost use Rattle.record.specs.Inside.HeadFault.{has_class};
+ghost use Rattle.record.specs.RecordKind.{record_kind_number};
 ghost use Rattle.record.specs.TableRefused.{table_fault};
-ghost use Rattle.record.specs.Table.{records_of, name_count};
+ghost use Rattle.record.specs.Table.{records_of, name_count, before};
 ghost use Rattle.symbol.specs.TableFault.{table_fault_number};
 ghost use Rattle.symbol.specs.Inside.Checked.{checked_number};
 ghost use Rattle.index.specs.Inside.IndexedTable.{IndexRoom, IndexedTable};
-ghost use Rattle.record.specs.Inside.Walk.{CursorAt, Stands, record_at, before};
+ghost use Rattle.record.specs.Inside.Walk.{CursorAt, Stands, record_at};
 
+use crate::names::check_names;
 use index::ahead::{class_ahead, look_ahead};
 use index::index::{Place, SHORT_TABLE, key_bucket, list_reduced, place_at, put};
 use index::list::enter;
-use index::tree::{Key, name_at, search, tree_of};
+use index::tree::{Key, search, tree_of};
 use record::front::{Head, RecordKind};
-use record::spelling::is_builtin;
-use record::walk::Cursor;
+use record::walk::{Cursor, TableWalk};
 use ty::known_id;
 use ty::name::id_defined;
 
@@ -64,18 +63,6 @@ pub enum Entry {
 // The functions below take a table's bytes with the index that is made, and a cursor with the record read there: no Table is accepted yet. What they ask
 // (Stands, Planted, Prepared, Asked, IndexRoom) says how walk, table and index go together; that a table is not too long is asked, as check_table tests it.
 // A struct of table, cursor and record with these facts would be made for each record and taken apart in each function, since index and record take bytes.
-
-// The record h at me is a name with a built-in spelling.
-#[tactic(auto, using(crate::proofs::CheckRules::name_rules))]
-fn builtin_name(t: &[u8], me: Cursor, h: Head) -> bool
-    requires { Stands t.now me h }
-    ensures { result ≡ is_builtin_name (record_at t.now me) }
-{
-    if h.kind != RecordKind::Name {
-        return false;
-    }
-    is_builtin(name_at(t, me.at))
-}
 
 // An earlier record is the class id.
 #[tactic(auto, using(crate::proofs::SearchMeetsKey::class_searched))]
@@ -123,58 +110,38 @@ fn look(t: &[u8], me: Cursor, late: &mut [u16], missing: bool, looked: bool) -> 
     true
 }
 
-// The record h at me by itself; `before` is the kind before it, none where it is the first, and `names` how many names are before it.
-#[tactic(auto, using(record::proofs::RecordSizes::stands_own), unfolding(record::specs::Inside::HeadFault::own_fault, ty::specs::Choose::choose))]
-fn check_own(
-    t: &[u8],
-    me: Cursor,
-    h: Head,
-    before: Option<RecordKind>,
-    names: u16,
-) -> Result<(), TableFault>
-    requires { Asked t.now me h before names }
-    ensures { checked_number result ≡ own_fault_at t.now me }
+// The record h where the walk w is, by itself: no name, as those are behind; `before` is the kind before it, or Class where that is none or a name.
+// The id check gets the highest id and the number of names, and no table: each clause is for every table in which the record stands so.
+#[tactic(auto, using(crate::proofs::OwnFaults::own_rules))]
+fn check_own(w: TableWalk, h: Head, before: RecordKind) -> Result<(), TableFault>
+    ensures { (t : List ℕ) → Asked t w h before → checked_number result ≡ own_fault_at t w.here }
 {
-    if before.is_some_and(|kind| h.kind.number() < kind.number()) {
+    if h.kind.number() < before.number() {
         return Err(TableFault::KindFalls);
     }
-    if !id_defined(h.top, names) {
+    if !id_defined(h.top, w.names) {
         return Err(TableFault::UndefinedId);
     }
     if h.repeated {
         return Err(TableFault::KeyRepeated);
     }
-    if builtin_name(t, me, h) {
-        return Err(TableFault::KeyRepeated);
-    }
     Ok(())
 }
 
-// The key of the record h at me.
-#[tactic(auto, using(crate::proofs::CheckRules::kind_rules), unfolding(index::specs::Inside::SearchKey::key_at, ty::specs::Choose::choose))]
-fn key_of(me: Cursor, h: Head) -> Key
-    ensures { result ≡ key_at me (front_of_head h) }
-{
-    if h.kind == RecordKind::Name {
-        return Key::Name(Place { at: me.at });
-    }
-    Key::Ids {
-        kind: h.kind.number(),
-        one: h.one,
-        two: h.two,
-    }
-}
-
-// What the record h at me does in the index of the records before it; nothing where an earlier one has its key.
+// What the record h at me, which is no name, does in the index of the records before it; nothing where an earlier one has its key.
 fn entry_for(t: &[u8], x: &[u16], me: Cursor, h: Head) -> Option<Entry>
-    requires { Prepared t.now x.now me h }
+    requires { Prepared t.now x.now me h × (record_kind_number h.kind ≡ 1 → ⊥) }
     ensures { EntryIs t.now x.now me result }
 {
     if h.kind == RecordKind::Function {
         let b = key_bucket(RecordKind::Function.number(), h.one, h.two);
         return Some(Entry::List(list_reduced(b, t.len())));
     }
-    let key = key_of(me, h);
+    let key = Key::Ids {
+        kind: h.kind.number(),
+        one: h.one,
+        two: h.two,
+    };
     let b = tree_of(t, key);
     // An empty root, told before any search is called, as that was measured to be faster (docs/history/speed.md).
     if place_at(x, 1 + b).is_none() {
@@ -232,28 +199,28 @@ fn check_records(t: &[u8], x: &mut [u16], late: &mut [u16]) -> Result<u16, Table
     ensures x_after { x.new ≡ index_made t.now x.old }
     ensures late_after { late.new ≡ late_made t.now late.old }
 {
-    let mut c = Cursor::new();
-    let mut kind = None;
-    let mut names: u16 = 0;
+    let mut w = check_names(t, x)?;
+    // no record behind the names has a lower kind
+    let mut kind = RecordKind::Class;
     let mut looked = false;
     // no range to go over: where the next record begins is known once this one is read
-    while c.at < t.len() {
-        let s = c.step(t);
+    while w.here.at < t.len() {
+        let s = w.step(t);
         let Some(h) = s.head else {
             return Err(TableFault::Malformed);
         };
-        check_own(t, c, h, kind, names)?;
-        let entry = entry_for(t, x, c, h);
-        let missing = super_missing(t, x, c, h);
-        looked = look(t, c, late, missing.is_some(), looked);
-        check_key(t, late, c, h, entry, missing)?;
-        join(x, t.len(), Place { at: c.at }, entry);
-        names += u16::from(h.kind == RecordKind::Name);
-        kind = Some(h.kind);
-        c = s.next;
+        check_own(w, h, kind)?;
+        let me = w.here;
+        let entry = entry_for(t, x, me, h);
+        let missing = super_missing(t, x, me, h);
+        looked = look(t, me, late, missing.is_some(), looked);
+        check_key(t, late, me, h, entry, missing)?;
+        join(x, t.len(), Place { at: me.at }, entry);
+        kind = h.kind;
+        w = s.next;
     }
-    put(x, 0, names);
-    Ok(names)
+    put(x, 0, w.names);
+    Ok(w.names)
 }
 
 // The same with as many entries for the classes ahead as the table's length asks.

@@ -4,5 +4,6 @@
 pub mod checks;
 pub mod functions;
 pub mod lookups;
+pub mod names;
 pub mod subclass;
 pub mod visibility;

@@ -13,7 +13,7 @@ use Rattle.scoring.specs.Score.{param_named, free}
 use Rattle.scoring.specs.Unnamed.{first_unnamed, NamesDiffer}
 use Rattle.record.proofs.EveryRecord.{Every}
 use Rattle.symbol.proofs.AcceptedTable.{FunctionGood, functions_good}
-use Rattle.symbol.proofs.Names.{Absent, Distinct}
+use Rattle.symbol.proofs.ParamNames.{Absent, Distinct}
 use Rattle.symbol.specs.Lookup.{symbols_of}
 use Rattle.record.specs.TableRefused.{table_fault}
 use Rattle.symbol.specs.Symbols.{Param, Overload}

@@ -4,28 +4,15 @@ use Rattle.std.specs.Prelude.{ℕ, zero, suc, ◌+◌, ◌*◌, ◌/◌, ◌%◌
 use Rattle.ty.specs.Choose.{choose}
 use Rattle.record.specs.Inside.Front.{front_of}
 use Rattle.record.specs.Inside.HeadFault.{name_bytes}
+use Rattle.record.specs.Inside.NameHash.{hash_of}
 use Rattle.record.specs.Table.{Record}
-
--- the weight of byte k of a name
-unfoldable pub weight_of : ℕ → ℕ
-weight_of zero = 173
-weight_of (suc k) = (weight_of k * 463 + 7) % 32749
-
--- the first k bytes of a name, each times its weight
-unfoldable pub weighed_of : ℕ → List ℕ → ℕ
-weighed_of zero name = 0
-weighed_of (suc k) name = weighed_of k name + get_or name k 0 * weight_of k
-
--- of the first k bytes of a name
-unfoldable pub hash_of : ℕ → List ℕ → ℕ
-hash_of k name = weighed_of k name % 65536
 
 -- of the key of a record of kind 2 or more; of kinds 2 and 3 the key is the first id alone
 unfoldable pub key_bucket : ℕ → ℕ → ℕ → ℕ
 key_bucket kind one two = choose (ltb kind 4) one ((one * 509 + two) % 65536)
 
 unfoldable pub bucket_of : Record → ℕ
-bucket_of r = choose (eqb (front_of r).kind 1) (hash_of 24 (name_bytes r)) (key_bucket (front_of r).kind (front_of r).one (front_of r).two)
+bucket_of r = choose (eqb (front_of r).kind 1) (hash_of (name_bytes r)) (key_bucket (front_of r).kind (front_of r).one (front_of r).two)
 
 -- four bytes of a name from byte i on as a number, low byte first
 unfoldable pub word_at : List ℕ → ℕ → ℕ
@@ -46,7 +33,7 @@ digest_of (suc k) name = round_of (digest_of k name) (word_at name (4 * k % 24))
 
 -- the number that a digit is taken from: a name's first digit from its hash, the others from its digest; those of other records from the ids
 unfoldable pub name_digits : List ℕ → ℕ → ℕ
-name_digits name d = choose (eqb d 0) (hash_of 24 name / 8192) (digest_of 15 name)
+name_digits name d = choose (eqb d 0) (hash_of name / 8192) (digest_of 15 name)
 
 unfoldable pub key_digits : ℕ → ℕ → ℕ → ℕ
 key_digits kind one two = one + 65536 * choose (ltb kind 4) 0 two

@@ -19,6 +19,15 @@ pub record Entered (t x : List ℕ) (e : ℕ) : Type 0 where
       → get_or x (next_at (length t) p) 0 ≡ clipped e (next_from t (list_in (length t) (front_record (drop p t))) (behind t p))
   pub whole : (p : ℕ) → Sits t p → p < e → (front_of (drop p t)).malformed ≡ false
 
+-- the entry of the last function of each bucket before byte e; what is behind the entries of the records before e is empty
+pub record Lasts (t x : List ℕ) (e : ℕ) : Type 0 where
+  pub none : (b : ℕ) → b < list_count (length t) → get_or x (last_at (length t) b) 0 ≡ 0 → clipped e (next_from t b 0) ≡ 0
+  pub sits : (b q : ℕ) → b < list_count (length t) → get_or x (last_at (length t) b) 0 ≡ suc q → Sits t q
+  pub here : (b q : ℕ) → b < list_count (length t) → get_or x (last_at (length t) b) 0 ≡ suc q
+      → (q < e) × (list_in (length t) (front_record (drop q t)) ≡ b) × (clipped e (next_from t b (behind t q)) ≡ 0)
+  pub blank : (j : ℕ) → next_at (length t) e ≤ j → get_or x j 0 ≡ 0
+  pub long : index_size (length t) ≤ length x
+
 -- a function at byte p comes into bucket b: behind the bucket's last function, or as its first
 abbrev pub link_at : ℕ → ℕ → Found → ℕ
 link_at n b None = first_at n b

@@ -2,7 +2,8 @@
 use Rattle.std.specs.Prelude.{ℕ, ◌+◌, ◌%◌, ◌≤◌, Bool, ◌&&◌, ◌||◌, ◌≡◌, List, eqb, ltb, length, get_or, drop, take}
 use Rattle.ty.specs.Bytes.{same_bytes, id_at}
 use Rattle.ty.specs.Choose.{choose}
-use Rattle.index.specs.Inside.Bucket.{hash_of, name_digits, name_digit, key_bucket, key_digits, key_digit}
+use Rattle.record.specs.Inside.NameHash.{hash_of}
+use Rattle.index.specs.Inside.Bucket.{name_digits, name_digit, key_bucket, key_digits, key_digit}
 use Rattle.record.specs.Inside.Front.{front_of}
 use Rattle.record.specs.Inside.Keyed.{is_of}
 use Rattle.record.specs.Inside.HeadFault.{name_bytes}
@@ -19,7 +20,7 @@ name_bytes_at t p = take 24 (drop (p + 2) t)
 
 -- its tree, the number that its digit behind d records is taken from, and its digits
 abbrev pub tree_for : List ℕ → Key → ℕ
-tree_for t (Name p) = hash_of 24 (name_bytes_at t p.at) % bucket_count (length t)
+tree_for t (Name p) = hash_of (name_bytes_at t p.at) % bucket_count (length t)
 tree_for t (Ids k a b) = bucket_count (length t) + key_bucket k a b % bucket_count (length t)
 
 abbrev pub digits_for : List ℕ → Key → ℕ → ℕ

@@ -71,6 +71,15 @@ unfoldable pub good_bytes : ℕ → List ℕ → ℕ → Bool
 good_bytes zero s n = true
 good_bytes (suc k) s n = good_byte n k (get_or s (k + 2) 0) && good_bytes k s n
 
+-- the first k bytes of a part, of which the first is byte `from` of the name
+unfoldable pub good_part : ℕ → ℕ → List ℕ → ℕ → Bool
+good_part zero from p n = true
+good_part (suc k) from p n = good_byte n (k + from) (get_or p k 0) && good_part k from p n
+
+-- what the code keeps of every name that is not malformed
+abbrev pub name_front : Front
+name_front = record { kind = 1; one = 0; two = 0; len = 26; top = 0; malformed = false; repeated = false; error = false }
+
 unfoldable pub name_head : List ℕ → Front
 name_head s = plain_head s 26 (ltb (get_or s 1 0) 1 || (ltb 24 (get_or s 1 0) || not (good_bytes 24 s (get_or s 1 0)))) 1 0 0 0
 

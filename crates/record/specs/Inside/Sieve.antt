@@ -1,22 +1,13 @@
--- A test that each built-in spelling passes and few other names do: nothing but the speed of the search for a spelling depends on it. Law `not_spelled` (proofs
--- SpellingRows) ties it to `builtin_names`.
-use Rattle.std.specs.Prelude.{ℕ, ◌+◌, ◌*◌, ◌/◌, ◌%◌, ◌^◌, Bool, List, get_or, eqb}
+-- A test of a name's number that each built-in spelling passes and few other names do: nothing but the speed of the search for a spelling depends on it. Law
+-- `not_spelled` (proofs SpellingRows) ties it to `builtin_names`.
+use Rattle.std.specs.Prelude.{ℕ, ◌/◌, ◌%◌, ◌^◌, Bool, List, [], ◌∷◌, get_or, eqb}
 
--- a number for six of a name's bytes
-unfoldable pub mix_of : List ℕ → ℕ
-mix_of name =
-    9947 * get_or name 0 0 + 29707 * get_or name 1 0
-    + (19595 * get_or name 2 0 + 31359 * get_or name 3 0)
-    + (39627 * get_or name 5 0 + 48515 * get_or name 8 0)
+-- a bit for each number modulo 1,024 that a built-in spelling has, 64 to a word
+unfoldable pub sieve_words : List ℕ
+sieve_words =
+    8796093022464 ∷ 18300271801139200 ∷ 0 ∷ 144132780261900356 ∷ 9359043042738176 ∷ 288230376151711746 ∷ 9216 ∷ 290271069733124
+    ∷ 36028797023166472 ∷ 0 ∷ 32896 ∷ 8192 ∷ 10995116277760 ∷ 4295033088 ∷ 139264 ∷ 18014398543036432 ∷ []
 
--- the bit n modulo 64 of a mask
-unfoldable pub bit_of : ℕ → ℕ → ℕ
-bit_of mask n = mask / 2 ^ (n % 64) % 2
-
--- four masks have the bits of that number
-unfoldable pub may_be_builtin : List ℕ → Bool
-may_be_builtin name =
-    eqb
-    (bit_of 12183240034444089300 (mix_of name) + bit_of 1956214469538365958 (mix_of name / 64)
-    + (bit_of 10955430332744839178 (mix_of name / 4096) + bit_of 24911053012042128 (mix_of name / 262144)))
-    4
+-- a name's number has its bit
+unfoldable pub may_be_builtin : ℕ → Bool
+may_be_builtin h = eqb (get_or sieve_words (h / 64 % 16) 0 / 2 ^ (h % 64) % 2) 1

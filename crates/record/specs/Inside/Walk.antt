@@ -1,5 +1,5 @@
 -- The table's cursor.
-use Rattle.std.specs.Prelude.{ℕ, zero, suc, ◌+◌, ◌≤◌, ◌<◌, false, ◌≡◌, List, [], ◌∷◌, length, get_or, drop, eqb, Option, Result, Ok, Err}
+use Rattle.std.specs.Prelude.{ℕ, ◌+◌, ◌≤◌, ◌<◌, false, ◌≡◌, List, length, drop, eqb, Option, Result, Ok, Err}
 use Rattle.ty.specs.declared.read.TypeFault.{TypeFault}
 use Rattle.ty.specs.declared.read.TypeRead.{TypeRead}
 use Rattle.record.specs.declared.front.Head.{Head}
@@ -55,11 +55,6 @@ pub record StepIs (t : List ℕ) (c : Cursor) (r : Step) : Type 0 where
   pub index : r.next.index ≡ c.index + 1
   pub low : c.at < r.next.at
   pub high : r.next.at ≤ length t
-
--- the first k records, the latest first
-unfoldable pub before : ℕ → List Record → List Record
-before zero rs = []
-before (suc k) rs = get_or rs k [] ∷ before k rs
 
 -- the record at the cursor has that front
 pub record Stands (t : List ℕ) (c : Cursor) (h : Head) : Type 0 where

@@ -1,28 +1,32 @@
 -- What the check of one record is told, and its number in two parts.
-use Rattle.std.specs.Prelude.{ℕ, ◌≤◌, Option, None, Some, List, ◌≡◌, length, drop}
+use Rattle.std.specs.Prelude.{ℕ, ◌≤◌, ltb, Option, None, Some, false, List, ◌≡◌, length, get_or, drop}
 use Rattle.index.specs.Inside.Entered.{Entered}
-use Rattle.record.specs.Inside.Front.{front_of}
-use Rattle.record.specs.Inside.HeadFault.{last_kind, super_missing, own_fault, key_fault}
-use Rattle.record.specs.Inside.FrontRecord.{count_of}
+use Rattle.index.specs.Inside.SearchKey.{name_bytes_at}
+use Rattle.record.specs.Inside.Front.{front_of, name_front}
+use Rattle.record.specs.Inside.NameHash.{hash_of}
+use Rattle.record.specs.Inside.HeadFault.{last_kind, head_fault, super_missing, own_fault, key_fault}
 use Rattle.record.specs.RecordKind.{record_kind_number}
-use Rattle.record.specs.Table.{records_of}
+use Rattle.record.specs.Table.{records_of, before}
 use Rattle.index.specs.Inside.SearchTree.{Tree}
-use Rattle.record.specs.Inside.Walk.{Stands, record_at, before}
+use Rattle.record.specs.Inside.Walk.{CursorAt, Stands, record_at}
+use Rattle.record.specs.Inside.NamesBefore.{WalkAt}
 use Rattle.record.specs.declared.front.Head.{Head}
 use Rattle.record.specs.declared.front.RecordKind.{RecordKind}
 use Rattle.record.specs.declared.walk.Cursor.{Cursor}
+use Rattle.record.specs.declared.walk.TableWalk.{TableWalk}
 use Rattle.ty.specs.Choose.{choose}
 
--- the number of the kind before a record; 0 before the first
-abbrev pub number_before : Option RecordKind → ℕ
-number_before None = 0
-number_before (Some k) = record_kind_number k
+-- The kind of the record at c falls below the kind before it exactly where it is less than k, and no name has a kind from k on.
+pub record KindLimit (t : List ℕ) (c : Cursor) (k : RecordKind) : Type 0 where
+  pub low : 2 ≤ record_kind_number k
+  pub same : (front_of (record_at t c)).malformed ≡ false
+      → ltb (front_of (record_at t c)).kind (record_kind_number k) ≡ ltb (front_of (record_at t c)).kind (last_kind (before c.index (records_of t)))
 
--- The whole record h stands at c; k is the kind before it, and n how many names are before it.
-pub record Asked (t : List ℕ) (c : Cursor) (h : Head) (k : Option RecordKind) (n : ℕ) : Type 0 where
-  pub stands : Stands t c h
-  pub kind : number_before k ≡ last_kind (before c.index (records_of t))
-  pub names : n ≡ count_of 1 (before c.index (records_of t))
+-- The whole record h stands where the walk w is, behind the names; its kind is not to be less than k.
+pub record Asked (t : List ℕ) (w : TableWalk) (h : Head) (k : RecordKind) : Type 0 where
+  pub stands : Stands t w.here h
+  pub walk : WalkAt t w
+  pub kind : KindLimit t w.here k
 
 -- The index has the records before byte e.
 pub record Planted (t x : List ℕ) (e : ℕ) : Type 0 where
@@ -35,11 +39,28 @@ pub record Prepared (t x : List ℕ) (c : Cursor) (h : Head) : Type 0 where
   pub stands : Stands t c h
   pub planted : Planted t x c.at
 
+-- A record of kind 1 stands at c, behind names that the index has.
+pub record NameAsked (t x : List ℕ) (c : Cursor) : Type 0 where
+  pub at : CursorAt t c
+  pub byte : get_or t c.at 0 ≡ 1
+  pub kind : last_kind (before c.index (records_of t)) ≤ 1
+  pub planted : Planted t x c.at
+
+-- The whole name stands at c, and h is its number.
+pub record NameEntryAsked (t x : List ℕ) (c : Cursor) (h : ℕ) : Type 0 where
+  pub name : NameAsked t x c
+  pub front : front_of (drop c.at t) ≡ name_front
+  pub number : h ≡ hash_of (name_bytes_at t c.at)
+
 -- the superclass of the record at c where none of those before it has that
 abbrev pub super_missing_at : List ℕ → Cursor → Option ℕ
 super_missing_at t c = choose (super_missing (before c.index (records_of t)) (record_at t c)) (Some (front_of (record_at t c)).two) None
 
--- the numbers of the record at c, beside those before it
+-- the number of the record at c
+abbrev pub fault_at : List ℕ → Cursor → ℕ
+fault_at t c = head_fault (before c.index (records_of t)) (record_at t c) (records_of (drop c.at t))
+
+-- the numbers of the record at c by itself, and beside the others
 abbrev pub own_fault_at : List ℕ → Cursor → ℕ
 own_fault_at t c = own_fault (before c.index (records_of t)) (record_at t c)
 

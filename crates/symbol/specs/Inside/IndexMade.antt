@@ -1,13 +1,14 @@
 -- The index that the check of a table leaves: the records before the first one that draws a number have come into the lent one, each by itself, and at the end
 -- of an accepted table the number of names.
-use Rattle.std.specs.Prelude.{ℕ, zero, suc, ◌+◌, ◌-◌, ltb, eqb, length, get_or, set, List, [], ◌∷◌}
+use Rattle.std.specs.Prelude.{ℕ, zero, suc, ◌+◌, ◌-◌, ltb, eqb, length, get_or, set, drop, List, [], ◌∷◌, ◌≡◌}
 use Rattle.ty.specs.Choose.{choose}
 use Rattle.index.specs.Inside.Bucket.{digit_of}
 use Rattle.index.specs.Inside.Entered.{entered}
 use Rattle.record.specs.Inside.Front.{front_of}
 use Rattle.record.specs.Inside.HeadFault.{head_fault}
 use Rattle.record.specs.Inside.FrontRecord.{count_of}
-use Rattle.record.specs.Table.{Record, records_of}
+use Rattle.record.specs.Table.{Record, records_of, before}
+use Rattle.record.specs.declared.walk.Cursor.{Cursor}
 use Rattle.index.specs.Inside.Index.{tree_in, list_in, root_at, child_at}
 
 -- where a search by the digits f that stands at entry a behind d records ends, within k records
@@ -32,3 +33,7 @@ made_from n p earlier (r ∷ rs) x =
 -- a table that is too long changes nothing
 unfoldable pub index_made : List ℕ → List ℕ → List ℕ
 index_made t x = choose (ltb 60000 (length t)) x (made_from (length t) 0 [] (records_of t) x)
+
+-- What is left to be done with x, from the record at c on, comes to the same as all of it with x₀.
+abbrev pub Making : List ℕ → List ℕ → List ℕ → Cursor → Type 0
+Making t x₀ x c = made_from (length t) c.at (before c.index (records_of t)) (records_of (drop c.at t)) x ≡ index_made t x₀

@@ -3,11 +3,11 @@ use Rattle.std.specs.Prelude.{Option, Some, None, ℕ, suc, ◌<◌, Bool, true,
 use Rattle.index.specs.Inside.Entered.{EntryAsked, entered}
 use Rattle.record.specs.Inside.Front.{front_of}
 use Rattle.record.specs.Inside.HeadFault.{has_key}
-use Rattle.record.specs.Table.{records_of}
+use Rattle.record.specs.Table.{records_of, before}
 use Rattle.index.specs.Inside.Index.{list_count, list_in}
 use Rattle.index.specs.Inside.SearchKey.{key_at}
 use Rattle.index.specs.Inside.Spot.{FreeIs}
-use Rattle.record.specs.Inside.Walk.{Stands, record_at, before}
+use Rattle.record.specs.Inside.Walk.{Stands, record_at}
 use Rattle.index.specs.Inside.Ahead.{AheadOf}
 use Rattle.record.specs.declared.front.Head.{Head}
 use Rattle.symbol.specs.Inside.Asked.{super_missing_at}
@@ -39,6 +39,14 @@ PlaceIs t x c (Some (entry.List b)) = EntryListIs t c b
 pub record EntryIs (t x : List ℕ) (c : Cursor) (e : Option Entry) : Type 0 where
   pub key : taken_of e ≡ has_key (record_at t c) (before c.index (records_of t))
   pub place : PlaceIs t x c e
+
+-- those of a name: an empty entry, or none
+abbrev pub name_entry : Option ℕ → Option Entry
+name_entry None = None
+name_entry (Some a) = Some (entry.Tree a)
+
+abbrev pub NameEntryIs : List ℕ → List ℕ → Cursor → Option ℕ → Type 0
+NameEntryIs t x c e = EntryIs t x c (name_entry e)
 
 -- what its number beside the others asks: its superclass where that has no earlier record, and then the classes ahead
 pub record KeyAsked (t late : List ℕ) (c : Cursor) (h : Head) (e : Option Entry) (missing : Option ℕ) : Type 0 where
