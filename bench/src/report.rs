@@ -155,6 +155,11 @@ fn bars(report: &Report) -> String {
     let worst = bare().map(|row| row.times.judgement() / row.times.run).fold(0.0, f64::max);
     let bar = "the judgement alone, at most 3 times the Rust's methods where the table is empty";
     verdict(&mut out, bar, format!("at most {worst:.2}"), worst <= 3.0);
+    let names = report.rows.iter().filter(|row| row.make == Make::Names);
+    if let Some(worst) = names.map(|row| row.times.check / row.times.fill).max_by(f64::total_cmp) {
+        let bar = "the check of names, at most half of the Rust's filling";
+        verdict(&mut out, bar, format!("at most {worst:.2}"), worst <= 0.5);
+    }
     for growth in &report.growth {
         let factors = growth.factors();
         let worst = factors.iter().copied().fold(0.0, f64::max);
@@ -397,6 +402,18 @@ mod tests {
         assert!(slow.contains("time | 1.50 | **not met** |"));
         assert!(!lines(&report()).contains("load"));
         assert!(!page(&Report { writing: vec![], ..report() }).contains("a load of"));
+    }
+
+    #[test]
+    fn names_have_their_bar() {
+        let names = |check| {
+            let times = Times { check, whole: 1100.0, fill: 2000.0, build: 1.0, run: 100.0 };
+            vec![Row { make: Make::Names, bytes: 26, asked: "1 node".to_string(), times }]
+        };
+        let bar = "| the check of names, at most half of the Rust's filling | at most ";
+        assert!(bars(&Report { rows: names(1000.0), ..report() }).contains(&format!("{bar}0.50 | met |")));
+        assert!(bars(&Report { rows: names(1001.0), ..report() }).contains(&format!("{bar}0.50 | **not met** |")));
+        assert!(!bars(&report()).contains("check of names"));
     }
 
     /// 20.79 µs for 7 calls, 27 classes and 55 functions.
