@@ -1,4 +1,5 @@
-//! Keys chosen against the index of a table (crates/index/specs/Inside/Bucket.antt): they share a bucket, and names also the
+//! Keys chosen against the index of a table (crates/index/specs/Inside/Bucket.antt; a name's hash:
+//! crates/record/specs/Inside/NameHash.antt): they share a bucket, and names also the
 //! first digits by which a search in the bucket's tree goes one of eight ways.
 
 use reading::rng::Rng;
@@ -113,8 +114,8 @@ impl Deep {
         ends.map(move |end| ended(name, end))
     }
 
-    /// The ends that take a sum to one below the bound: from the first that takes it to 2^64 or more, and behind the last
-    /// end from the first one, the sums modulo 2^64 increase.
+    /// The ends that take a sum below the bound. Sorted by what they add, the sums modulo 2^64 rise from the first end that
+    /// carries past 2^64 to the last one, and go on rising from the first end.
     fn ends_from(&self, base: u64) -> impl Iterator<Item = [u8; 3]> + '_ {
         let first = self.ends.partition_point(|(more, _)| *more < base.wrapping_neg());
         let ends = self.ends[first..].iter().chain(&self.ends);

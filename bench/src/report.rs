@@ -282,7 +282,8 @@ pub fn page(report: &Report) -> String {
 The judge beside the Rust's own methods (`oracle/`), both built for release, in one process on the
 same inputs. The program stops where an answer differs from the second reading's (`reading/`), or
 from the Rust's, which has no answer to compare where a class has a superclass
-(`docs/DIFFERENCES.md`). `docs/history/speed.md` has what was tried and what is left.
+(`docs/DIFFERENCES.md`). `docs/history/speed.md` has what was tried and what is left,
+`docs/history/order-3-speed.md` what was tried for names.
 
     {}
 

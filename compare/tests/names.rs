@@ -7,7 +7,7 @@ use wrong_words::{Wrong, WRONG};
 
 /// The wrong versions of the rules about names and ids.
 const OF_NAMES: [&str; 12] = [
-    "every_record_a_name",
+    "every_record_counted",
     "header_id_one_more",
     "last_built_in_name_taken",
     "later_names_defined",

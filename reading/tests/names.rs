@@ -22,7 +22,7 @@ fn front(table: &[u8]) -> usize {
     at
 }
 
-/// Every number from 0 to 11 is drawn, and those that the order is about in a thousandth of the cases and more.
+/// Every number from 0 to 11 is drawn, and those that the order is about in at least 1,000 cases.
 #[test]
 fn every_number_is_drawn() {
     let mut drawn = [0; 12];

@@ -9,12 +9,13 @@ use mathlib.Core.Path.{◌≡◌, refl, sym, ap, ◌∙◌, subst}
 use native.Mathlib.Omega.{arith}
 use Rattle.std.proofs.Common.{Fits, w16}
 use Rattle.record.proofs.Laid.{same_kind, same_count}
-use Rattle.record.proofs.Records.{at_new, at_next, before_next}
+use Rattle.record.proofs.NameRecords.{name_some, named_step, name_step}
+use Rattle.record.proofs.Records.{record_own, at_new, at_next, before_next}
 use Rattle.record.specs.Inside.Front.{Front, front_of, front_at}
 use Rattle.record.specs.Inside.FrontRecord.{count_of}
 use Rattle.record.specs.Inside.Walk.{CursorAt, StepIs, record_at}
 use Rattle.record.specs.Layout.{record_kind}
-use Rattle.record.specs.Inside.NamesBefore.{WalkAt, WalkOn, walk_start}
+use Rattle.record.specs.Inside.NamesBefore.{WalkAt, WalkOn, NameHere, walk_start, behind_name}
 use Rattle.record.specs.Table.{Record, records_of, name_count, before}
 use Rattle.record.specs.declared.walk.Cursor.{Cursor}
 use Rattle.record.specs.declared.walk.Step.{Step}
@@ -102,3 +103,13 @@ module _ (t : List ℕ) (w : TableWalk) (on : WalkOn t w) (s : Step) (r : StepIs
 
   pub stepped : WalkAt t (record { here = s.next; names = w.names + n })
   stepped = walk_next t w on.walk s r (record { here = s.next; names = w.names + n }) refl (ap (λ (z : ℕ). w.names + z) one)
+
+-- behind a whole name
+pub behind_counted : (t : List ℕ) (w v : TableWalk) → v ≡ behind_name w → WalkAt t w → NameHere t w.here → WalkAt t v
+unfolding choose
+behind_counted t w v e a n =
+    let one : ℕ = 1 in
+    let k : choose (eqb (front_of (record_at t w.here)).kind 1) 1 0 ≡ one
+    = ap (λ (z : Front). choose (eqb z.kind 1) 1 0) (record_own t w.here (name_some t w.here n.byte) ∙ n.front) in
+    let c : suc w.names ≡ w.names + choose (eqb (front_of (record_at t w.here)).kind 1) 1 0 = omega (arith, k) in
+    subst (WalkAt t) (sym e) (walk_next t w a (named_step t w.here n.byte) (name_step t w.here n.byte n.front) (behind_name w) refl c)

@@ -9,6 +9,7 @@ use mathlib.Core.List.{List, [], ◌∷◌}
 use mathlib.Core.Path.{◌≡◌, refl, sym, ap, ◌∙◌}
 use native.Mathlib.Numerals.{add-one}
 use native.Mathlib.Omega.{arith}
+use Rattle.std.proofs.Math.Seq.{take-length}
 use Rattle.record.proofs.Agree.{same_size}
 use Rattle.record.proofs.Bounds.{head_bounded}
 use Rattle.record.proofs.Faults.{fault_stop, fault_on, short_fault}
@@ -175,7 +176,7 @@ module _ (t : List ℕ) where
 
 pub names_shown : (t : List ℕ) → NamesShown t
 names_shown t =
-    record { value = λ i h. (shown t i h).names; undefined = λ i id h l. ap (id_defined id) (shown t i h).names ∙ l.not_before; late = late t }
+    record { value = λ i h. (shown t i h).names; all = (shown t (length (records_of t)) (omega arith)).names ∙ ap name_count (take-length (records_of t)); undefined = λ i id h l. ap (id_defined id) (shown t i h).names ∙ l.not_before; late = late t }
 
 pub names_walked : (t : List ℕ) → NamesWalked t
 names_walked t = record { stands = stands t; only = only t; step = step t; name = name t }

@@ -45,6 +45,8 @@ pub record NamesShown (t : List ℕ) : Type 0 where
   -- "shown at each record to equal the number of name records before it", and at the table's end that of all; law `names_walked` (proofs Order3) says that the
   -- walks of the check are these
   pub value : (i : ℕ) → i ≤ length (records_of t) → (walked t i).names ≡ names_before t i
+  -- "An id check, in table or question, gets the id and that value and no table": it is `id_defined` (ty), and a question's check gets the value at the end
+  pub all : (walked t (length (records_of t))).names ≡ name_count (records_of t)
   -- "An id that only a later name record would define is undefined": by the running value,
   pub undefined : (i id : ℕ) → i ≤ length (records_of t) → OnlyLater t i id → id_defined id (walked t i).names ≡ false
   -- and the table draws number 4 by it where its check reaches the record, which is not malformed and whose kind does not fall

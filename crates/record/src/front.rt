@@ -127,7 +127,7 @@ fn good_part(part: &[u8], from: u8, n: u8) -> bool
     good
 }
 
-// The name record at the front of s, and none where it is malformed or cut.
+// The name record at the front of s, whose first byte the caller has found to be a name's; none where it is malformed or cut.
 #[tactic(auto, using(crate::proofs::GoodNames::name_rules), unfolding(crate::specs::Inside::Front::name_head))]
 pub fn read_name(s: &[u8]) -> Option<Head>
     ensures { front_at s.now result ≡ name_head s.now }

@@ -1,4 +1,4 @@
-// The spellings of the built-in names, and a number for a name.
+// The spellings of the built-in names, and the hash of a name.
 ghost use Rattle.std.specs.Prelude.{◌≡◌, ◌≤◌, ◌<◌};
 ghost use Rattle.record.specs.Inside.NameHash.{eight_at, weighed_of, hash_of};
 ghost use Rattle.record.specs.Inside.Sieve.{may_be_builtin};
@@ -86,7 +86,7 @@ fn weighed(name: &[u8]) -> u64
     one.wrapping_add(two).wrapping_add(three)
 }
 
-// A number for a name.
+// The hash of a name.
 #[tactic(auto, unfolding(crate::specs::Inside::NameHash::hash_of))]
 pub fn name_hash(name: &[u8]) -> usize
     ensures { (result ≡ hash_of name.now) × (result < 65536) }
@@ -95,7 +95,7 @@ pub fn name_hash(name: &[u8]) -> usize
     (((sum >> 48) + (sum >> 56)) % 65536) as usize
 }
 
-// A bit for each number modulo 1,024 that a built-in spelling has, 64 to a word.
+// A bit for each hash modulo 1,024 that a built-in spelling has, 64 to a word.
 static SIEVE: [u64; 16] = [
     8796093022464,
     18300271801139200,
@@ -115,7 +115,7 @@ static SIEVE: [u64; 16] = [
     18014398543036432,
 ];
 
-// A name's number has its bit: so has each built-in spelling's, and few other names', so that few are compared with the spellings.
+// A name's hash has its bit: so has each built-in spelling's, and few other names', so that few are compared with the spellings.
 #[tactic(auto, unfolding(crate::specs::Inside::Sieve::may_be_builtin, crate::specs::Inside::Sieve::sieve_words))]
 fn may_be_builtin(h: usize) -> bool
     ensures { result ≡ may_be_builtin h }
@@ -123,7 +123,7 @@ fn may_be_builtin(h: usize) -> bool
     (SIEVE[h / 64 % 16] >> (h % 64)) % 2 == 1
 }
 
-// A name's 24 bytes, whose number is h, are a built-in spelling. The number is asked, as a name's is found once. Few names need the rows.
+// A name's 24 bytes, whose hash is h, are a built-in spelling. The hash is asked, as a name's is found once. Few names need the rows.
 #[tactic(auto, using(crate::proofs::SpellingRows::not_spelled), unfolding(crate::specs::Spelling::builtin_names))]
 pub fn is_builtin(name: &[u8], h: usize) -> bool
     requires { h ≡ hash_of name.now }

@@ -2,7 +2,7 @@
 ghost use Rattle.std.specs.Prelude.{◌≡◌, ◌≤◌, ◌<◌, ℕ, eqb, length, List};
 ghost use Rattle.record.specs.Inside.Front.{front_at};
 ghost use Rattle.record.specs.Inside.Walk.{start, StepIs};
-ghost use Rattle.record.specs.Inside.NamesBefore.{walk_start, WalkOn, TableStepIs, behind_name};
+ghost use Rattle.record.specs.Inside.NamesBefore.{walk_start, WalkAt, WalkOn, TableStepIs, NameHere, behind_name};
 
 use crate::front::{Head, NAME_BYTES, RecordKind, read_record, record_len};
 
@@ -92,10 +92,11 @@ impl TableWalk {
         }
     }
 
-    // The walk behind a name that stands here and is not malformed. A step of its own: a name's length is known, and it needs no front.
+    // The walk behind a name that stands here and is not malformed, which it counts. A step of its own: a name's length is known, and it needs no front.
     pub fn behind_name(self) -> TableWalk
         requires { (self.names < 65535) × (self.here.index ≤ self.here.at) × (self.here.at ≤ 60000) }
-        ensures { result ≡ behind_name self }
+        ensures walk { result ≡ behind_name self }
+        ensures counted { (t : List ℕ) → WalkAt t self → NameHere t self.here → WalkAt t result }
     {
         TableWalk {
             here: Cursor {

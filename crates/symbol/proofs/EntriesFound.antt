@@ -29,7 +29,7 @@ use Rattle.std.specs.Prelude.{Option, Some, None, is_some, Result, Ok, Err}
 use Rattle.std.specs.Result.{result_err}
 use Rattle.symbol.proofs.SearchMeetsKey.{none_found, own_in, own_open, list_fresh, list-bucket, key_taken, key_free}
 use Rattle.symbol.specs.Inside.Asked.{Planted, Prepared, NameEntryAsked}
-use Rattle.symbol.specs.Inside.Join.{EntryIs, name_entry, NameEntryIs}
+use Rattle.symbol.specs.Inside.Join.{EntryIs, tree_entry, NameEntryIs}
 use Rattle.symbol.specs.declared.checks.Entry.TheVariants as entry
 
 -- ---- a record of any kind with a key, by its front
@@ -57,11 +57,11 @@ module _ (t x : List ℕ) (c : Cursor) (f : Front) (st : Standing t c f) (whole 
   pub search_open : Open t x × KeyIn t k
   search_open = (own_open t x c f st whole p, subst (KeyIn t) (sym own) (own_in t x c f st whole p))
 
-  pub spot_entry : (r : Result Place ℕ) → r ≡ search_of t x k → EntryIs t x c (name_entry (result_err r))
+  pub spot_entry : (r : Result Place ℕ) → r ≡ search_of t x k → EntryIs t x c (tree_entry (result_err r))
   spot_entry r e =
       go r (search_spot t x (key_at c f) (own_open t x c f st whole p) r (e ∙ ap (search_of t x) own) c.at p.tree)
     where
-      go : (s : Result Place ℕ) → SpotIs t x c.at (key_at c f) s → EntryIs t x c (name_entry (result_err s))
+      go : (s : Result Place ℕ) → SpotIs t x c.at (key_at c f) s → EntryIs t x c (tree_entry (result_err s))
       go (Ok q) h = meets q h
       go (Err a) h = ends a h
 
@@ -81,7 +81,7 @@ module _ (t x : List ℕ) (c : Cursor) (h : Head) (p : Prepared t x c h) (n : �
   pub ids_open : Open t x × KeyIn t ids
   ids_open = search_open t x c (front_of_head h) (standing t c h p.stands) refl p.planted other ids own_ids
 
-  pub ids_met : (r : Result Place ℕ) → r ≡ search_of t x ids → EntryIs t x c (name_entry (result_err r))
+  pub ids_met : (r : Result Place ℕ) → r ≡ search_of t x ids → EntryIs t x c (tree_entry (result_err r))
   ids_met = spot_entry t x c (front_of_head h) (standing t c h p.stands) refl p.planted other ids own_ids
 
 -- ---- a function
@@ -120,7 +120,7 @@ module _ (t x : List ℕ) (c : Cursor) (n : ℕ) (a : NameEntryAsked t x c n) wh
 
   module _ (b : ℕ) (e : b ≡ n % bucket_count (length t)) where
     name_tree : b ≡ tree_for t name
-    name_tree = e ∙ ap (λ (z : ℕ). z % bucket_count (length t)) a.number
+    name_tree = e ∙ ap (λ (z : ℕ). z % bucket_count (length t)) a.hash
 
     pub name_root : (r : Found) → r ≡ place_at x (1 + b) → is_some r ≡ false → NameEntryIs t x c (Some (1 + b))
     name_root = root_entry t x c name_front name_stands refl a.name.planted not-function name own_name b name_tree

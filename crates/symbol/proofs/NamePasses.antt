@@ -1,5 +1,5 @@
 -- The check of the names, one after the other.
-use Prim.Native.Nat.{ℕ, suc, ◌+◌, ◌≤◌, ◌<◌}
+use Prim.Native.Nat.{ℕ, suc, ◌≤◌, ◌<◌}
 use borrow.Author.Tests.{eqb-true, eqb-false}
 use lib.Dec.{eqb}
 use lib.ListN.{length, get_or, drop, set}
@@ -12,7 +12,7 @@ use Rattle.std.specs.Prelude.{Some, Result, Ok, Err, IsErr, IsErrAnd, MatchResul
 use Rattle.index.specs.Inside.IndexedTable.{IndexRoom}
 use Rattle.record.proofs.Faults.{own-clean, key_number, key_clean}
 use Rattle.record.proofs.NameRecords.{named, named_step, broken_step, name_by, name_cases, whole_name, name_some, name_byte, name_step, broken_is}
-use Rattle.record.proofs.NamesCounted.{walk_names, walk_next}
+use Rattle.record.proofs.NamesCounted.{walk_names, behind_counted}
 use Rattle.record.proofs.Records.{record_own, before_next}
 use Rattle.record.specs.Inside.Front.{Front, front_of, name_front, name_head, broken_head}
 use Rattle.record.specs.Inside.HeadFault.{last_kind, has_class, super_missing}
@@ -138,15 +138,8 @@ module _ (t x₀ x : List ℕ) (w : TableWalk) (g : NamesPassed t x₀ x w) (byt
       pub name_room : length t ≤ 60000 → TreeAsked x c.at a
       name_room l = passed_join t x w g.passed p st (name_some t c byte) f fault zero named stands (Some (entry.Tree a)) fills l
 
-      counted : suc w.names ≡ w.names + choose (eqb (front_of (record_at t c)).kind 1) 1 0
-      unfolding choose
-      counted =
-          let one : ℕ = 1 in
-          let e : choose (eqb (front_of (record_at t c)).kind 1) 1 0 ≡ one = ap (λ (z : Front). choose (eqb z.kind 1) 1 0) is_name in
-          omega (arith, e)
-
       walk : WalkAt t (behind_name w)
-      walk = walk_next t w g.passed.walk p st (behind_name w) refl counted
+      walk = behind_counted t w (behind_name w) refl g.passed.walk (record { byte = byte; front = front })
 
       last : last_kind (before (suc c.index) (records_of t)) ≤ 1
       last =

@@ -12,7 +12,7 @@ ghost use Rattle.record.specs.Table.{records_of, name_count, before};
 ghost use Rattle.symbol.specs.TableFault.{table_fault_number};
 ghost use Rattle.symbol.specs.Inside.Checked.{checked_number};
 ghost use Rattle.index.specs.Inside.IndexedTable.{IndexRoom, IndexedTable};
-ghost use Rattle.record.specs.Inside.Walk.{CursorAt, Stands, record_at};
+ghost use Rattle.record.specs.Inside.Walk.{CursorAt};
 
 use crate::names::check_names;
 use index::ahead::{class_ahead, look_ahead};
@@ -110,7 +110,7 @@ fn look(t: &[u8], me: Cursor, late: &mut [u16], missing: bool, looked: bool) -> 
     true
 }
 
-// The record h where the walk w is, by itself: no name, as those are behind; `before` is the kind before it, or Class where that is none or a name.
+// The record h where the walk w is, by itself, behind the names; `before` is the kind before it, or Class where that is none or a name, so that a name falls.
 // The id check gets the highest id and the number of names, and no table: each clause is for every table in which the record stands so.
 #[tactic(auto, using(crate::proofs::OwnFaults::own_rules))]
 fn check_own(w: TableWalk, h: Head, before: RecordKind) -> Result<(), TableFault>
@@ -200,7 +200,7 @@ fn check_records(t: &[u8], x: &mut [u16], late: &mut [u16]) -> Result<u16, Table
     ensures late_after { late.new ≡ late_made t.now late.old }
 {
     let mut w = check_names(t, x)?;
-    // no record behind the names has a lower kind
+    // the lowest kind that may stand behind the names: a name there falls below it
     let mut kind = RecordKind::Class;
     let mut looked = false;
     // no range to go over: where the next record begins is known once this one is read

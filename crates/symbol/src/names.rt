@@ -14,7 +14,7 @@ use record::spelling::{is_builtin, name_hash};
 use record::walk::{Cursor, TableWalk};
 use ty::byte_at;
 
-// The empty entry for the name at me, whose number is h; none where an earlier name is spelled so.
+// The empty entry for the name at me, whose hash is h; none where an earlier name is spelled so.
 fn name_entry(t: &[u8], x: &[u16], me: Cursor, h: usize) -> Option<usize>
     requires { NameEntryAsked t.now x.now me h }
     ensures { NameEntryIs t.now x.now me result }
@@ -27,7 +27,7 @@ fn name_entry(t: &[u8], x: &[u16], me: Cursor, h: usize) -> Option<usize>
     search(t, x, Key::Name(Place { at: me.at }), b).err()
 }
 
-// The name at me: the entry that it fills in the index, or its number.
+// The name at me: the entry that it fills in the index, or why the table is refused.
 fn check_name(t: &[u8], x: &[u16], me: Cursor) -> Result<usize, TableFault>
     requires { NameAsked t.now x.now me }
     ensures number { checked_number result ≡ fault_at t.now me }

@@ -97,7 +97,7 @@ fn bytes_of(put: impl Fn(&mut Table)) -> Bytes {
 /// A record with the id in one of its fields; all other ids are built in.
 type Site = fn(u16) -> Bytes;
 
-/// Every field of a record that is an id or has one in its type. The last but two are types of 192 bytes and more.
+/// Every field of a record that is an id or has one in its type. The last three are types of 192 bytes and more.
 const SITES: [Site; 32] = [
     |id| bytes_of(|t| t.class(id, NONE, NONE, true)),
     |id| bytes_of(|t| t.class(8, id, NONE, true)),

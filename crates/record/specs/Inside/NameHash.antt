@@ -1,4 +1,4 @@
--- A number for a name, by which the check of a table tells names apart quickly; nothing but speed depends on it.
+-- The hash of a name, by which the check of a table tells names apart quickly; nothing but speed depends on it.
 use Rattle.std.specs.Prelude.{ℕ, ◌+◌, ◌*◌, ◌/◌, ◌%◌, List, [], ◌∷◌, get_or}
 use Rattle.std.specs.Int.{from_le_bytes}
 use mir.Syntax.{w64}

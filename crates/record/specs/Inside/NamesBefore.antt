@@ -1,8 +1,10 @@
 -- The number of names that the check of a table carries from record to record. Document 02, order 3: "keep the number of names as a running value from record
 -- to record, shown at each record to equal the number of name records before it".
-use Rattle.std.specs.Prelude.{ℕ, suc, ◌+◌, ◌≤◌, ◌<◌, ◌≡◌, List, length, take}
+use Rattle.std.specs.Prelude.{ℕ, suc, ◌+◌, ◌≤◌, ◌<◌, ◌≡◌, List, length, get_or, take, drop}
+use Rattle.record.specs.Inside.Front.{front_of, name_front}
 use Rattle.record.specs.Inside.Walk.{start, CursorAt, StepIs}
 use Rattle.record.specs.Table.{records_of, name_count}
+use Rattle.record.specs.declared.walk.Cursor.{Cursor}
 use Rattle.record.specs.declared.walk.TableStep.{TableStep}
 use Rattle.record.specs.declared.walk.TableWalk.{TableWalk}
 
@@ -25,6 +27,11 @@ pub record TableStepIs (t : List ℕ) (w : TableWalk) (r : TableStep) : Type 0 w
 -- the walk at the table's first record
 abbrev pub walk_start : TableWalk
 walk_start = record { here = start; names = 0 }
+
+-- a name that is not malformed stands at the cursor
+pub record NameHere (t : List ℕ) (c : Cursor) : Type 0 where
+  pub byte : get_or t c.at 0 ≡ 1
+  pub front : front_of (drop c.at t) ≡ name_front
 
 -- the walk behind a name, which has 26 bytes
 abbrev pub behind_name : TableWalk → TableWalk

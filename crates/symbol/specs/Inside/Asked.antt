@@ -46,11 +46,11 @@ pub record NameAsked (t x : List ℕ) (c : Cursor) : Type 0 where
   pub kind : last_kind (before c.index (records_of t)) ≤ 1
   pub planted : Planted t x c.at
 
--- The whole name stands at c, and h is its number.
+-- The whole name stands at c, and h is its hash.
 pub record NameEntryAsked (t x : List ℕ) (c : Cursor) (h : ℕ) : Type 0 where
   pub name : NameAsked t x c
   pub front : front_of (drop c.at t) ≡ name_front
-  pub number : h ≡ hash_of (name_bytes_at t c.at)
+  pub hash : h ≡ hash_of (name_bytes_at t c.at)
 
 -- the superclass of the record at c where none of those before it has that
 abbrev pub super_missing_at : List ℕ → Cursor → Option ℕ

@@ -40,13 +40,13 @@ pub record EntryIs (t x : List ℕ) (c : Cursor) (e : Option Entry) : Type 0 whe
   pub key : taken_of e ≡ has_key (record_at t c) (before c.index (records_of t))
   pub place : PlaceIs t x c e
 
--- those of a name: an empty entry, or none
-abbrev pub name_entry : Option ℕ → Option Entry
-name_entry None = None
-name_entry (Some a) = Some (entry.Tree a)
+-- an empty entry of a tree, or none
+abbrev pub tree_entry : Option ℕ → Option Entry
+tree_entry None = None
+tree_entry (Some a) = Some (entry.Tree a)
 
 abbrev pub NameEntryIs : List ℕ → List ℕ → Cursor → Option ℕ → Type 0
-NameEntryIs t x c e = EntryIs t x c (name_entry e)
+NameEntryIs t x c e = EntryIs t x c (tree_entry e)
 
 -- what its number beside the others asks: its superclass where that has no earlier record, and then the classes ahead
 pub record KeyAsked (t late : List ℕ) (c : Cursor) (h : Head) (e : Option Entry) (missing : Option ℕ) : Type 0 where

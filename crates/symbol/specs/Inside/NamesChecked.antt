@@ -12,7 +12,7 @@ use Rattle.symbol.specs.Inside.LateMade.{late_from, late_made}
 use Rattle.symbol.specs.TableFault.{table_fault_number}
 use Rattle.symbol.specs.declared.checks.TableFault.{TableFault}
 
--- the records before the walk draw no number, and the index x has them
+-- the table's number is that of the records from the walk on, and the index x has those before it
 pub record RecordsPassed (t x : List ℕ) (w : TableWalk) : Type 0 where
   pub walk : WalkAt t w
   pub fault : table_fault t ≡ found_from (before w.here.index (records_of t)) (records_of (drop w.here.at t))
@@ -27,7 +27,7 @@ pub record NamesPassed (t x₀ x : List ℕ) (w : TableWalk) : Type 0 where
   pub made : Making t x₀ x w.here
   pub late : (late : List ℕ) → late_from t w.here.at (before w.here.index (records_of t)) (records_of (drop w.here.at t)) late ≡ late_made t late
 
--- no name is behind them
+-- the next record, where there is one, is of another kind
 pub record NamesDone (t x₀ x : List ℕ) (w : TableWalk) : Type 0 where
   pub names : NamesPassed t x₀ x w
   pub other : get_or t w.here.at 0 ≡ 1 → ⊥

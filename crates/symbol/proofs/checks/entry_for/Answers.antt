@@ -10,7 +10,7 @@ use Rattle.record.specs.declared.front.RecordKind.TheVariants.{Function}
 use Rattle.std.specs.Prelude.{Result}
 use Rattle.std.specs.Result.{result_err}
 use Rattle.symbol.proofs.EntriesFound.{list_entry, ids_root, ids_open, ids_met}
-use Rattle.symbol.specs.Inside.Join.{EntryIs, name_entry}
+use Rattle.symbol.specs.Inside.Join.{EntryIs, tree_entry}
 use Rattle.symbol.proofs.checks.entry_for.Goals as goal
 
 pub returns-then-eq : goal.returns-then-eq
@@ -39,12 +39,12 @@ search-requires c =
 
 pub returns-in-Ok : goal.returns-in-Ok
 returns-in-Ok c =
-    subst (λ (r : Result Place ℕ). EntryIs c.args.t.now c.args.x.now c.args.me (name_entry (result_err r))) c.in-Ok.is
+    subst (λ (r : Result Place ℕ). EntryIs c.args.t.now c.args.x.now c.args.me (tree_entry (result_err r))) c.in-Ok.is
     (ids_met c.args.t.now c.args.x.now c.args.me c.args.h c.requires.0 c.number-2.result c.number-2.ensures c.requires.1
     (kinds_apart c.args.h.kind Function c.eq.result c.eq.ensures c.if-eq.false) c.search.result c.search.ensures)
 
 pub returns-in-Err : goal.returns-in-Err
 returns-in-Err c =
-    subst (λ (r : Result Place ℕ). EntryIs c.args.t.now c.args.x.now c.args.me (name_entry (result_err r))) c.in-Err.is
+    subst (λ (r : Result Place ℕ). EntryIs c.args.t.now c.args.x.now c.args.me (tree_entry (result_err r))) c.in-Err.is
     (ids_met c.args.t.now c.args.x.now c.args.me c.args.h c.requires.0 c.number-2.result c.number-2.ensures c.requires.1
     (kinds_apart c.args.h.kind Function c.eq.result c.eq.ensures c.if-eq.false) c.search.result c.search.ensures)

@@ -30,7 +30,7 @@ name_entry-requires c =
       front =
           name_whole c.args.t.now c.args.x.now c.args.me c.requires _ (rw (part-drop c.args.me.at c.args.t.now) at c.read_name.ensures)
           (c.is_none.ensures ∙ ap not c.if-is_none.false);
-      number = c.name_hash-h.ensures.0 ∙ ap hash_of c.name_at-name.ensures;
+      hash = c.name_hash-h.ensures.0 ∙ ap hash_of c.name_at-name.ensures;
     }
 
 pub returns-clause-number : goal.returns-clause-number

@@ -32,10 +32,10 @@ behind_name-w-requires c = names_few c.args.t.now c.args.x.now c.loop-x.x c.loop
 pub loop-x-smaller : goal.loop-x-smaller
 loop-x-smaller c =
     let s = name_some c.args.t.now c.loop-x.w.here (sym c.byte_at.ensures ∙ c.loop-x-test.true ∙ c.number.ensures) in
-    omega (arith, s, ap (λ (w : TableWalk). w.here.at) c.behind_name-w.ensures)
+    omega (arith, s, ap (λ (w : TableWalk). w.here.at) c.behind_name-w.ensures.walk)
 
 pub loop-x-preserved : goal.loop-x-preserved
-loop-x-preserved c = subst (NamesPassed c.args.t.now c.args.x.now c.put.new.x) (sym c.behind_name-w.ensures)
+loop-x-preserved c = subst (NamesPassed c.args.t.now c.args.x.now c.put.new.x) (sym c.behind_name-w.ensures.walk)
     (names_next c.args.t.now c.args.x.now c.loop-x.x c.loop-x.w c.loop-x.invariant (sym c.byte_at.ensures ∙ c.loop-x-test.true ∙ c.number.ensures)
     0 (c.in_ok-at.ensures).number refl c.in_ok-at.at (c.in_ok-at.ensures).entry c.put.new.x (c.put.ensures ∙ ap (set c.loop-x.x c.in_ok-at.at) c.entry.ensures))
 
