@@ -33,7 +33,7 @@ def question(text):
 
 class Samples(unittest.TestCase):
     def test_the_bytes_are_what_the_text_says(self):
-        self.assertEqual([sample.stem for sample in SAMPLES], ["repair", "words"])
+        self.assertEqual([sample.stem for sample in SAMPLES], ["repair", "stamp", "words"])
         files = set()
         for sample in SAMPLES:
             text = aura_text.Text(sample.read_text(encoding="ascii"))

@@ -1,14 +1,17 @@
-//! Types the three overloads of `words` (by gaps, by fonts, by tags) and one call that fits none. The result type tells
-//! which overload a call chose. samples/words.txt has the table and the questions in words.
+//! Types calls of the three overloads of `words` (by gaps, by fonts, by tags), one whose arguments stand at each other's
+//! parameters, and one that fits none. The result type tells which overload a call chose. samples/words.txt has the table
+//! and the questions in words.
 //!
 //!     cargo run --example words
 
 use aura_judge::{judge, Answer, Names, Type};
 
-const CALLS: [(&str, &[u8]); 4] = [
+const CALLS: [(&str, &[u8]); 6] = [
     ("page.words(page.gap * 1.5)", include_bytes!("../../samples/words.gaps.bin")),
     ("page.words(page.fonts)", include_bytes!("../../samples/words.fonts.bin")),
     ("page.words(tags = document.tags, depth = 2)", include_bytes!("../../samples/words.tags.bin")),
+    ("page.words(document.tags, 2)", include_bytes!("../../samples/words.plain.bin")),
+    ("page.words(depth = document.tags, 2)", include_bytes!("../../samples/words.swapped.bin")),
     ("page.words(\"Heading\")", include_bytes!("../../samples/words.heading.bin")),
 ];
 

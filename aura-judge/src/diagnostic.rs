@@ -83,8 +83,8 @@ pub struct Diagnostic {
     pub node: u16,
     /// 0 where none is given: of [`Logical`](DiagnosticKind::Logical) 1 for the left side and 2 for the right, of
     /// [`ArgumentCount`](DiagnosticKind::ArgumentCount) the arguments, of [`UnknownName`](DiagnosticKind::UnknownName)
-    /// and [`Mismatch`](DiagnosticKind::Mismatch) the position from 1, of [`Tie`](DiagnosticKind::Tie) how many, of
-    /// [`Access`](DiagnosticKind::Access) the visibility.
+    /// and [`Mismatch`](DiagnosticKind::Mismatch) the argument's position from 1 among all arguments, of
+    /// [`Tie`](DiagnosticKind::Tie) how many, of [`Access`](DiagnosticKind::Access) the visibility.
     pub number: u16,
 }
 

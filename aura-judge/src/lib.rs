@@ -72,6 +72,48 @@
 //! assert_eq!((all.len(), all[0].kind, all[0].number), (1, DiagnosticKind::Mismatch, 1));
 //! ```
 //!
+//! Each argument of a call is compared with a parameter of its own: a named argument with the parameter of its name, and the
+//! arguments without a name, in turn, with the parameters that no argument names. So the second argument tells overloads
+//! apart that differ in the second parameter. Where only one overload fits in number, each mismatch has the node and the
+//! position of its argument:
+//!
+//! ```
+//! use aura_judge::{judge, Type};
+//!
+//! let name = |name: &str| {
+//!     let mut record = [&[1, name.len() as u8], name.as_bytes()].concat();
+//!     record.resize(26, 0);
+//!     record
+//! };
+//! let table = [
+//!     name("f"),                                                               // 40
+//!     name("g"),                                                               // 41
+//!     name("p"),                                                               // 42
+//!     name("q"),                                                               // 43
+//!     vec![4, 255, 255, 40, 0, 0, 0, 2, 11, 42, 0, 0, 0, 43, 0, 0, 8],         // f(p: Int, q: String) -> Unit
+//!     vec![4, 255, 255, 40, 0, 0, 0, 2, 6, 42, 0, 0, 0, 43, 0, 0, 0],          // f(p: Int, q: Int) -> Boolean
+//!     vec![4, 255, 255, 41, 0, 0, 0, 2, 11, 42, 0, 0, 0, 43, 0, 0, 8],         // g(p: Int, q: String) -> Unit
+//! ]
+//! .concat();
+//! // A call with two arguments.
+//! let question = |function: u8, arguments: &[u8]| [&[255, 255, 255, 255, 0, 5, function, 0, 2], arguments].concat();
+//! let mut buffer = [0; 320];
+//!
+//! let answer = judge(&table, &question(40, &[0, 0, 0, 8]), &mut buffer); // f(Int, String)
+//! assert_eq!((answer.passed(), answer.ty()), (true, Some(&Type::Unit)));
+//! let answer = judge(&table, &question(40, &[0, 0, 0, 0]), &mut buffer); // f(Int, Int)
+//! assert_eq!((answer.passed(), answer.ty()), (true, Some(&Type::Boolean)));
+//!
+//! let mismatches = |arguments: &[u8]| -> Vec<String> {
+//!     let mut buffer = [0; 320];
+//!     judge(&table, &question(41, arguments), &mut buffer).diagnostics().map(|d| d.to_string()).collect()
+//! };
+//! assert_eq!(mismatches(&[0, 0, 0, 0]), ["node 2: mismatch (2)"]); // g(Int, Int)
+//! assert!(mismatches(&[3, 43, 0, 0, 8, 0, 0]).is_empty()); // g(q = String, Int)
+//! // g(q = Int, String): q does not take the Int, and p, which is left for the String, does not take that.
+//! assert_eq!(mismatches(&[3, 43, 0, 0, 0, 0, 8]), ["node 1: mismatch (1)", "node 3: mismatch (2)"]);
+//! ```
+//!
 //! [`load`] writes questions to test with, the same ones on every machine.
 //!
 //! The judge uses the caller's stack and no heap; what this crate allocates is the [`Type`]. [`raw::judge`] allocates

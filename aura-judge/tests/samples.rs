@@ -16,8 +16,9 @@ fn passes(input: &[u8], ty: &str) {
     assert_eq!(answer(input), (true, ty.to_string(), vec![]));
 }
 
-fn reports(input: &[u8], ty: &str, diagnostic: &str) {
-    assert_eq!(answer(input), (false, ty.to_string(), vec![diagnostic.to_string()]));
+fn reports(input: &[u8], ty: &str, diagnostics: &[&str]) {
+    let diagnostics = diagnostics.iter().map(|d| d.to_string()).collect();
+    assert_eq!(answer(input), (false, ty.to_string(), diagnostics));
 }
 
 #[test]
@@ -25,11 +26,22 @@ fn each_overload_is_chosen() {
     passes(include_bytes!("../../samples/words.gaps.bin"), "List(Word)");
     passes(include_bytes!("../../samples/words.fonts.bin"), "Map(Font, List(Word))");
     passes(include_bytes!("../../samples/words.tags.bin"), "Map(String, List(Word))");
+    passes(include_bytes!("../../samples/words.plain.bin"), "Map(String, List(Word))");
 }
 
 #[test]
 fn no_overload_takes_a_string() {
-    reports(include_bytes!("../../samples/words.heading.bin"), "Error", "node 0: no match");
+    reports(include_bytes!("../../samples/words.heading.bin"), "Error", &["node 0: no match"]);
+}
+
+#[test]
+fn each_argument_is_compared_with_its_own_parameter() {
+    passes(include_bytes!("../../samples/stamp.text.bin"), "Page");
+    passes(include_bytes!("../../samples/stamp.number.bin"), "List(Page)");
+    passes(include_bytes!("../../samples/stamp.named.bin"), "List(Page)");
+    reports(include_bytes!("../../samples/stamp.order.bin"), "Error", &["node 0: no match"]);
+    let swapped = ["node 2: mismatch (1)", "node 5: mismatch (2)"];
+    reports(include_bytes!("../../samples/words.swapped.bin"), "Map(String, List(Word))", &swapped);
 }
 
 #[test]
@@ -41,5 +53,5 @@ fn a_subclass_goes_where_its_superclass_is_expected() {
 
 #[test]
 fn a_superclass_does_not_go_where_its_subclass_is_expected() {
-    reports(include_bytes!("../../samples/repair.page.bin"), "ScannedPage", "node 1: mismatch (1)");
+    reports(include_bytes!("../../samples/repair.page.bin"), "ScannedPage", &["node 1: mismatch (1)"]);
 }

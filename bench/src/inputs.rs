@@ -1,12 +1,12 @@
 //! The inputs: tables by make and size, questions by node count and depth, inputs that are refused.
 
 use crate::collide;
+use crate::overloads::List;
 use aura_judge::raw::LOAD_LONGEST;
 use reading::bytes::*;
 use reading::name::{BUILT_IN, NONE};
 use reading::rng::Rng;
 use reading::words::load::load;
-#[cfg(any(feature = "subclass", test))]
 use reading::words::table::record_lengths;
 
 /// What a table is made of.
@@ -31,6 +31,8 @@ pub enum Make {
     BucketFunctions,
     /// Classes that are one chain, and functions of one list that take its top; questions pass its lowest class.
     Chain,
+    /// One list of overloads, for calls with several arguments.
+    Overloads(List),
 }
 
 impl Make {
@@ -47,6 +49,7 @@ impl Make {
             Make::Classes => "classes, superclass without a record",
             Make::BucketFunctions => "functions of one bucket",
             Make::Chain => "one chain of classes, functions that take its top",
+            Make::Overloads(list) => list.words(),
         }
     }
 
@@ -68,7 +71,7 @@ pub const DOUBLED: [usize; 6] = [1875, 3750, 7500, 15_000, 30_000, 60_000];
 pub const TURN: usize = 240_000;
 
 /// The first name of a table: the class and the function that questions use.
-const FIRST: u16 = BUILT_IN.len() as u16;
+pub const FIRST: u16 = BUILT_IN.len() as u16;
 const NAME_RECORD: usize = 26;
 const CLASS_RECORD: usize = 8;
 /// The bytes of a function with one parameter and types of one byte.
@@ -81,7 +84,7 @@ pub const CHAIN_CALLS: usize = 7;
 const CLASSES: usize = 1;
 
 /// A table that grows while it has room.
-struct Filler {
+pub struct Filler {
     table: Table,
     left: usize,
 }
@@ -92,7 +95,7 @@ impl Filler {
     }
 
     /// Adds what `add` adds, if there is room.
-    fn put(&mut self, add: impl Fn(&mut Table)) -> bool {
+    pub fn put(&mut self, add: impl Fn(&mut Table)) -> bool {
         let mut alone = Table::new();
         add(&mut alone);
         let len = alone.bytes().len();
@@ -104,7 +107,7 @@ impl Filler {
         true
     }
 
-    fn names(&mut self, count: usize) -> u16 {
+    pub fn names(&mut self, count: usize) -> u16 {
         self.spelled(&page_names(count))
     }
 
@@ -147,6 +150,7 @@ fn records(make: Make, size: usize) -> Table {
         Make::Classes => classes(&mut f, &page_names(named_classes(size))),
         Make::BucketFunctions => bucket_functions(&mut f, size),
         Make::Chain => chain(&mut f, size),
+        Make::Overloads(list) => list.fill(&mut f),
     }
     f.table
 }
@@ -292,7 +296,6 @@ fn chain(f: &mut Filler, size: usize) {
 }
 
 /// The records of a table, one by one.
-#[cfg(any(feature = "subclass", test))]
 fn split(table: &[u8]) -> Vec<&[u8]> {
     let mut rest = table;
     let mut next = |len: usize| rest.split_off(..len).expect("a whole record");
@@ -300,7 +303,6 @@ fn split(table: &[u8]) -> Vec<&[u8]> {
 }
 
 /// How many classes and functions a table has.
-#[cfg(any(feature = "subclass", test))]
 pub fn counts(table: &[u8]) -> (usize, usize) {
     let records = split(table);
     let count = |kind: u8| records.iter().filter(|record| record[0] == kind).count();
@@ -356,17 +358,23 @@ pub struct Input {
     pub asked: String,
     pub table: Vec<u8>,
     pub question: Vec<u8>,
+    /// Whether the Rust is a yardstick.
+    pub rust: bool,
+}
+
+impl Input {
+    pub fn new(make: Make, asked: String, table: Vec<u8>, question: Vec<u8>) -> Input {
+        Input { make, asked, table, question, rust: !make.has_superclasses() }
+    }
 }
 
 /// A question of 8 nodes with as many tables of one make and size as have `TURN` bytes together.
 pub fn turn(make: Make, size: usize) -> Vec<Input> {
     let records = records(make, size);
     let mut rng = Rng::new(1, 2, 5);
-    let mut input = || Input {
-        make,
-        asked: "8 nodes".to_string(),
-        table: shuffled(records.clone(), make, &mut rng),
-        question: nodes(8, make),
+    let mut input = || {
+        let table = shuffled(records.clone(), make, &mut rng);
+        Input::new(make, "8 nodes".to_string(), table, nodes(8, make))
     };
     (0..TURN / size).map(|_| input()).collect()
 }
@@ -380,11 +388,9 @@ const START: u32 = 1;
 
 /// Questions of the test load without a table, as the second reading writes them.
 fn loads() -> impl Iterator<Item = Input> {
-    let input = |count: usize| Input {
-        make: Make::Nothing,
-        asked: format!("load of {}", nodes_in_words(count)),
-        table: Vec::new(),
-        question: load(START, count, LOAD_LONGEST).expect("1 to 64 nodes fit"),
+    let input = |count: usize| {
+        let question = load(START, count, LOAD_LONGEST).expect("1 to 64 nodes fit");
+        Input::new(Make::Nothing, format!("load of {}", nodes_in_words(count)), Vec::new(), question)
     };
     [1, 8, 32, 64].into_iter().map(input)
 }
@@ -398,7 +404,7 @@ pub fn all() -> Vec<Input> {
     let mut inputs = Vec::new();
     for (make, size) in tables {
         let table = table(make, size);
-        let mut add = |asked: String, question| inputs.push(Input { make, asked, table: table.clone(), question });
+        let mut add = |asked: String, question| inputs.push(Input::new(make, asked, table.clone(), question));
         for count in [1, 8, 32, 64] {
             add(nodes_in_words(count), nodes(count, make));
         }
@@ -506,7 +512,7 @@ mod tests {
     use reading::words::{self, lent};
 
     /// What the words answer.
-    fn answered(input: &Input) -> String {
+    pub fn answered(input: &Input) -> String {
         let mut buffer = [0; BUFFER];
         let a = lent::answer(&words::said(&input.table, &input.question), &mut buffer);
         format!("{:?}", (a.number, a.pass, a.len, a.count, a.ty, buffer))
@@ -543,7 +549,7 @@ mod tests {
     #[test]
     fn tables_of_a_turn_differ_in_the_order_of_their_records() {
         for make in MAKES.into_iter().chain(CHOSEN).chain([Make::Chain]) {
-            let plain = Input { make, asked: String::new(), table: table(make, 7500), question: nodes(8, make) };
+            let plain = Input::new(make, String::new(), table(make, 7500), nodes(8, make));
             let mut records = split(&plain.table);
             let last = records[records.len() - 1];
             records.sort();

@@ -11,6 +11,7 @@
 mod collide;
 mod inputs;
 mod measure;
+mod overloads;
 mod plot;
 mod report;
 mod stack;
@@ -19,8 +20,9 @@ mod writing;
 
 use inputs::{Input, Make, CHOSEN, DOUBLED, MAKES};
 use measure::{judging, least, parts, Case, Effort, Times, BUFFER};
+use overloads::Call;
 use plot::{Panel, Series};
-use report::{ChainRow, Growth, NodeGrowth, RefusedRow, Report, Row};
+use report::{CallRow, ChainRow, Growth, NodeGrowth, RefusedRow, Report, Row};
 use std::time::Duration;
 use writing::Writing;
 #[cfg(feature = "load")]
@@ -71,11 +73,22 @@ fn chains(_: Effort) -> Vec<ChainRow> {
     Vec::new()
 }
 
+/// Calls with several arguments over one list. A run takes milliseconds, so that a short measurement would have three.
+fn calls(effort: Effort) -> Vec<CallRow> {
+    let effort = effort.or_more(Effort { time: Duration::from_millis(100), wanted: 20 });
+    let row = |call: &Call| {
+        let input = call.input();
+        let (_, overloads) = inputs::counts(&input.table);
+        CallRow { call: *call, bytes: input.table.len(), overloads, times: times(&input, effort) }
+    };
+    overloads::CALLS.iter().map(row).collect()
+}
+
 fn nodes(effort: Effort) -> Vec<NodeGrowth> {
     let of = |make: Make, size: usize| {
         let step = |count: usize| {
             let (table, question) = (inputs::table(make, size), inputs::nodes(count, make));
-            (count, times(&Input { make, asked: format!("{count} nodes"), table, question }, effort))
+            (count, times(&Input::new(make, format!("{count} nodes"), table, question), effort))
         };
         let bytes = if size == 0 { "".to_string() } else { format!(", {size} bytes") };
         let name = format!("{}{bytes}", make.words());
@@ -203,6 +216,7 @@ fn main() {
         rows: rows(effort),
         growth: growth(effort),
         chains: chains(effort),
+        calls: calls(effort),
         nodes: nodes(effort),
         refused: refused(effort),
         buffers: buffers(effort),

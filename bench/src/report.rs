@@ -3,6 +3,7 @@
 use crate::collide::SAME;
 use crate::inputs::{Make, CHAIN_CALLS, TURN};
 use crate::measure::Times;
+use crate::overloads::Call;
 use crate::writing::{Writing, STARTS};
 use aura_judge::raw::LOAD_LONGEST;
 use std::fmt::Write;
@@ -63,6 +64,21 @@ impl ChainRow {
     }
 }
 
+/// Calls with several arguments over one list.
+pub struct CallRow {
+    pub call: Call,
+    pub bytes: usize,
+    pub overloads: usize,
+    pub times: Times,
+}
+
+impl CallRow {
+    /// Nanoseconds of the judgement for each call, overload and argument.
+    fn step(&self) -> f64 {
+        self.times.judgement() / (self.call.calls * self.overloads * self.call.arguments()) as f64
+    }
+}
+
 /// Times by node count under one table.
 pub struct NodeGrowth {
     pub name: String,
@@ -83,6 +99,7 @@ pub struct Report {
     pub growth: Vec<Growth>,
     /// Empty where the library has no such rule.
     pub chains: Vec<ChainRow>,
+    pub calls: Vec<CallRow>,
     pub nodes: Vec<NodeGrowth>,
     pub refused: Vec<RefusedRow>,
     /// The lent buffer's length, and the time of a question of one node without a table.
@@ -93,8 +110,8 @@ pub struct Report {
 }
 
 /// A line for each measured row: its name, and nanoseconds of the judge and of the Rust's filling and methods (nothing where
-/// there is no such side). tools/turns.py reads them. The rows of the test load's writer are left out, since a library from
-/// before it has none.
+/// there is no such side); of calls with several arguments the judgement alone, and the Rust's methods. tools/turns.py reads
+/// them. The rows of the test load's writer are left out, since a library from before it has none.
 pub fn lines(report: &Report) -> String {
     let mut out = String::new();
     let mut line = |name: String, judge: f64, rust: Option<f64>| {
@@ -111,6 +128,10 @@ pub fn lines(report: &Report) -> String {
     }
     for ChainRow { bytes, whole, .. } in &report.chains {
         line(format!("growth: {}, {bytes} bytes", Make::Chain.words()), *whole, None);
+    }
+    for CallRow { call, bytes, times, .. } in &report.calls {
+        let name = format!("judgement: {}, {bytes} bytes, {}", call.list.words(), call.asked());
+        line(name, times.judgement(), Some(times.run));
     }
     for NodeGrowth { name, steps } in &report.nodes {
         for (count, times) in steps {
@@ -202,6 +223,26 @@ overload would then take one look.
 "
 }
 
+fn calls(report: &Report) -> String {
+    let mut out = String::from(
+        "| Table | Bytes | Overloads | Question | Check | Judgement | Methods | Judgement / (calls × overloads × arguments), ns | Judgement / methods |\n\
+         |---|--:|--:|---|--:|--:|--:|--:|--:|\n",
+    );
+    for row in &report.calls {
+        let CallRow { call, bytes, overloads, times } = row;
+        let (check, judgement, methods) = (us(times.check), us(times.judgement()), us(times.run));
+        let _ = writeln!(
+            out,
+            "| {} | {bytes} | {overloads} | {} | {check} | {judgement} | {methods} | {:.1} | {:.2} |",
+            call.list.words(),
+            call.asked(),
+            row.step(),
+            times.judgement() / times.run
+        );
+    }
+    out
+}
+
 fn writing(report: &Report) -> String {
     if report.writing.is_empty() {
         return "Not measured in this run.\n".to_string();
@@ -281,9 +322,9 @@ pub fn page(report: &Report) -> String {
 
 The judge beside the Rust's own methods (`oracle/`), both built for release, in one process on the
 same inputs. The program stops where an answer differs from the second reading's (`reading/`), or
-from the Rust's, which has no answer to compare where a class has a superclass
-(`docs/DIFFERENCES.md`). `docs/history/speed.md` has what was tried and what is left,
-`docs/history/order-3-speed.md` what was tried for names.
+from the Rust's, which has no answer to compare where a class has a superclass or a call more than
+one unnamed argument (`docs/DIFFERENCES.md`). `docs/history/speed.md` has what was tried and what is
+left, `docs/history/order-3-speed.md` what was tried for names.
 
     {}
 
@@ -322,8 +363,9 @@ The tables of the last five bars of that kind have keys chosen against the index
 - functions of one bucket, half of the bytes being names; the question calls the last function.
 
 `cargo run --release -- --lines`, in `bench/`, prints every measured row, also those of the plot, of
-chains and of refused inputs: its name, and the nanoseconds of the judge and of the Rust's filling
-and methods, where it has them. The rows under [Writing](#writing) are not among them.
+chains, of calls with several arguments and of refused inputs: its name, and the nanoseconds of the
+judge and of the Rust's filling and methods, where it has them (of those calls the judgement alone
+and the Rust's methods). The rows under [Writing](#writing) are not among them.
 `tools/turns.py` compares the rows of two libraries; one from before document 02's orders is linked
 with `--no-default-features`, which leaves out what it does not have.
 
@@ -348,6 +390,23 @@ two shares of the same bytes is largest where the shares are equal. The tables t
 The Rust does not have the rule, so that there is no ratio; no bar is set (order 6 sets it).
 
 {}
+## Calls with several arguments
+
+One list of functions fills the table, each with an Int as its result. The question is calls of that
+list in each other, each the first argument of the one around it; named arguments come first. Where
+the types do not differ, all parameters and arguments are Int: every comparison is of equal types,
+each overload matches and each call is a tie of them all. Where they differ, the first overload
+takes two of Any and is the only one that matches; the others take, in turn, an Int and a Boolean, a
+Boolean and a String, and a String and an Int, and the arguments are an Int and a String.
+
+Before order 4 every unnamed argument was compared with the first parameter that no argument names;
+now each has its own. The answers of these rows are the same by either rule, and so is the number of
+comparisons and how many of them are of equal types. Neither the library before order 4 nor the one
+with it ends the comparisons of an overload at the first that fails. Order 4's bar is of calls with
+unnamed arguments alone: at most 1.1 times the judgement of the build before (`tools/turns.py`, the
+rows that begin with `judgement`; `docs/orders/` has what it gave).
+
+{}
 ## Writing
 
 A question of the test load, written to a buffer of {LOAD_LONGEST} bytes by the library (`aura_load`) and
@@ -365,6 +424,7 @@ do {STARTS} start numbers; a time is that of one question, here in nanoseconds.
         bars(report),
         rows(report),
         chains(report),
+        calls(report),
         writing(report),
         wrapped(&stack, ""),
         turn = TURN / 1000,
@@ -374,6 +434,7 @@ do {STARTS} start numbers; a time is that of one question, here in nanoseconds.
 #[cfg(test)]
 mod tests {
     use super::*;
+    use crate::overloads::CALLS;
 
     fn report() -> Report {
         let times = Times { check: 1234.5, whole: 2345.6, fill: 34567.8, build: 456.7, run: 5678.9 };
@@ -386,6 +447,12 @@ mod tests {
                 ChainRow { bytes: 1864, classes: 27, functions: 55, check: 2000.0, whole: 22_790.0 },
                 ChainRow { bytes: 3744, classes: 55, functions: 110, check: 4000.0, whole: 91_160.0 },
             ],
+            calls: vec![CallRow {
+                call: CALLS[1],
+                bytes: 59_985,
+                overloads: 3527,
+                times: Times { check: 231_000.0, whole: 14_339_000.0, fill: 1.0, build: 1.0, run: 56_432_000.0 },
+            }],
             nodes: vec![],
             refused: vec![],
             buffers: [0, 320, 4096, 65_535].map(|bytes| (bytes, 123_456.7)).to_vec(),
@@ -401,7 +468,7 @@ mod tests {
         assert!(text.contains("| 64 | 1500 | 1000 | 1.50 |"));
         let slow = page(&Report { writing: vec![Writing { nodes: 64, library: 1501.0, plain: 1000.0 }], ..report() });
         assert!(slow.contains("time | 1.50 | **not met** |"));
-        assert!(!lines(&report()).contains("load"));
+        assert!(!lines(&report()).contains("load of"));
         assert!(!page(&Report { writing: vec![], ..report() }).contains("a load of"));
     }
 
@@ -428,6 +495,17 @@ mod tests {
                     growth: one chain of classes, functions that take its top, 3744 bytes\t91160.00\t\n";
         assert!(lines(&report()).contains(rows));
         assert!(!lines(&Report { chains: vec![], ..report() }).contains("chain"));
+    }
+
+    /// 14,108 µs for 20 calls, 3,527 overloads and 2 arguments.
+    #[test]
+    fn calls_have_their_judgement() {
+        let text = page(&report());
+        assert!(text.contains(
+            "| overloads of 2 parameters | 59985 | 3527 | 20 calls, 2 unnamed | 231 | 14108 | 56432 | 100.0 | 0.25 |"
+        ));
+        let row = "judgement: overloads of 2 parameters, 59985 bytes, 20 calls, 2 unnamed\t14108000.00\t56432000.00\n";
+        assert!(lines(&report()).contains(row));
     }
 
     #[test]

@@ -38,9 +38,11 @@ pub enum Fault {
     Load,
     /// No class goes where its superclass is expected.
     Subclass,
+    /// The last two arguments of a call change their types, where both are leaves of one byte.
+    Arguments,
 }
 
-const NAMES: [(&str, Fault); 14] = [
+const NAMES: [(&str, Fault); 15] = [
     ("number", Fault::Number),
     ("answer", Fault::Answer),
     ("buffer", Fault::Buffer),
@@ -55,6 +57,7 @@ const NAMES: [(&str, Fault); 14] = [
     ("read-before", Fault::ReadBefore),
     ("load", Fault::Load),
     ("subclass", Fault::Subclass),
+    ("arguments", Fault::Arguments),
 ];
 
 extern "C" {
@@ -97,6 +100,11 @@ impl Fault {
                 return raw::judge(&without_superclasses(table), question, buffer, answer);
             }
             Fault::Subclass => {}
+            Fault::Arguments => {
+                if let ([front @ .., 0, a, 0, b], true) = (question, number == 0) {
+                    return raw::judge(table, &[front, &[0, *b, 0, *a]].concat(), buffer, answer);
+                }
+            }
             Fault::Leak => std::mem::forget(black_box(vec![number; 64])),
             // SAFETY: none, and that is what each is for.
             _ => unsafe { self.overstep(table, question, buffer) },

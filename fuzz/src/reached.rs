@@ -15,7 +15,7 @@ extern "C" {
 
 /// The sources that judge or write, by the end of their paths; the generator's are of no concern. `cut.rs` is the Rust's own
 /// text.
-const FILES: [&str; 25] = [
+const FILES: [&str; 26] = [
     "/cut.rs",
     "/oracle/src/rust.rs",
     "/oracle/src/stubs.rs",
@@ -23,6 +23,7 @@ const FILES: [&str; 25] = [
     "/oracle/src/question.rs",
     "/oracle/src/types.rs",
     "/oracle/src/answer.rs",
+    "/oracle/src/domain.rs",
     "/oracle/src/diagnostic.rs",
     "/words/access.rs",
     "/words/assign.rs",

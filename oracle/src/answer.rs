@@ -1,12 +1,15 @@
 //! What the Rust says of a table and a question.
 
 use crate::diagnostic::diagnostic;
+use crate::domain::outside;
 use crate::question::{build, Asked};
 use crate::rust::{Judged, Ty};
-use crate::table::{fill, has_superclass, owners, Filled};
+use crate::table::{fill, has_superclass, Filled};
 use crate::types::encode;
 use reading::words::{self, lent, refusal};
 use reading::{print_answer, split_input, Answer, Diagnostic, Said, BUFFER};
+
+pub use crate::domain::Outside;
 
 /// Runs the methods on a question under a filled table.
 pub fn run(filled: &mut Filled, asked: &Asked, keep: bool) -> Judged {
@@ -25,16 +28,6 @@ pub fn type_bytes(ty: &Ty, names: &[String]) -> Vec<u8> {
     bytes
 }
 
-/// Why the Rust is no yardstick of an accepted table and question.
-#[derive(Debug, Clone, Copy, PartialEq, Eq, Hash, PartialOrd, Ord)]
-pub enum Outside {
-    /// Document 02, order 2: "Runs beside the Rust use tables without superclasses."
-    Superclass,
-    /// Document 01: "Questions where a base that isn't Named has a `name()` spelling an owner of the table are outside the
-    /// compared domain."
-    Spelling,
-}
-
 /// A run of the methods on an accepted table and question.
 pub struct Run {
     pub filled: Filled,
@@ -49,10 +42,10 @@ impl Run {
             return Err(Outside::Superclass);
         }
         let run = Run::of(table, question);
-        if run.spells_an_owner(table) {
-            return Err(Outside::Spelling);
+        match outside(&run, table) {
+            Some(why) => Err(why),
+            None => Ok(run),
         }
-        Ok(run)
     }
 
     pub fn of(table: &[u8], question: &[u8]) -> Run {
@@ -78,20 +71,6 @@ impl Run {
         let diagnostics = self.diagnostics();
         let passed = diagnostics.is_empty() && !self.judged.error_seen;
         Said::Judged { ty: type_bytes(&self.judged.ty, &self.filled.names), passed, diagnostics }
-    }
-
-    /// Whether a base of a visited member or method call that isn't Named has a `name()` that spells an owner.
-    fn spells_an_owner(&self, table: &[u8]) -> bool {
-        // The object of a member or method call is the node behind it.
-        let is_object = |node: usize| node > 0 && matches!(self.asked.kinds[node - 1], 4 | 6);
-        let objects = self.judged.finished.iter().filter(|(node, _)| is_object(*node));
-        let bases = objects.map(|(_, ty)| ty.non_null()).filter(|base| !matches!(base, Ty::Named(_)));
-        let spelled: Vec<String> = bases.map(|base| base.name()).collect();
-        if spelled.is_empty() {
-            return false;
-        }
-        let owners = owners(table, &self.filled.names);
-        spelled.iter().any(|name| owners.contains(name))
     }
 }
 

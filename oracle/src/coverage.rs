@@ -33,9 +33,18 @@ impl std::fmt::Display for Item {
             Item::Ruling(what) => write!(f, "ruling: {}", what),
             Item::Passed => write!(f, "passed"),
             Item::Inside => write!(f, "judged and compared with the Rust"),
-            Item::Outside(Outside::Superclass) => write!(f, "outside the compared domain: a superclass"),
-            Item::Outside(Outside::Spelling) => write!(f, "outside the compared domain: a base spells an owner"),
+            Item::Outside(why) => write!(f, "outside the compared domain: {}", outside(*why)),
         }
+    }
+}
+
+fn outside(why: Outside) -> &'static str {
+    match why {
+        Outside::Superclass => "a superclass",
+        Outside::Spelling => "a base spells an owner",
+        Outside::VarargNotLast => "a vararg that is not last",
+        Outside::UnnamedArguments => "two unnamed arguments",
+        Outside::NamedNoMatch => "a named argument and no match",
     }
 }
 
@@ -66,24 +75,23 @@ pub fn required() -> Vec<Item> {
     }
     items.extend(RULINGS.map(Item::Ruling));
     items.extend([Item::Passed, Item::Inside]);
-    items.extend([Outside::Superclass, Outside::Spelling].map(Item::Outside));
+    items.extend(Outside::ALL.map(Item::Outside));
     items
 }
 
-pub const RULINGS: [&str; 29] = [
+pub const RULINGS: [&str; 36] = [
     "an exact match",
     "an accepted match",
     "a type variable accepted",
     "a vararg accepted",
-    "an unnamed argument behind named parameters",
-    "by index, nothing found",
-    "by index, mismatches",
     "builtins dropped out",
     "none fits",
     "none fits, all builtin",
     "no match",
     "a tie",
     "one fits and matches",
+    "one fits, an unknown name alone",
+    "one fits, with mismatches",
     "one wins",
     "a later overload beats a match",
     "an earlier overload beats a match",
@@ -94,9 +102,17 @@ pub const RULINGS: [&str; 29] = [
     "a match with more arguments than parameters",
     "a match with a vararg that is not last",
     "a match beside an unknown name",
+    "a match with a second unnamed argument",
+    "a match with a default taken",
+    "a match with an argument left over",
+    "a name behind an unnamed argument",
+    "a mismatch of a named argument",
+    "a mismatch of an unnamed argument",
+    "a mismatch beside an unknown name",
+    "a mismatch beside an argument left over",
+    "a mismatch beside a subclass accepted",
     "an empty list",
     "a subclass accepted",
-    "by index, a subclass accepted",
     "a comparison with a class above",
     "an operator method of a superclass",
     "protected access from a subclass",

@@ -5,6 +5,7 @@ pub mod answer;
 pub mod args;
 pub mod coverage;
 pub mod diagnostic;
+pub mod domain;
 pub mod question;
 pub mod rust;
 pub mod sample;

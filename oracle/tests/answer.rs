@@ -1,6 +1,7 @@
 //! The answer, the lent buffer, the program's input, the compared domain.
 
 use oracle::answer::{said_inside, Outside, Run};
+use oracle::domain::outside;
 use oracle::{answer, in_domain, printed, printed_by, program, Source};
 use reading::bytes::*;
 use reading::gen::boundary::{diagnostics_case, most_diagnostics, table_of_length};
@@ -178,6 +179,126 @@ fn what_the_rust_says_of_a_superclass_and_what_the_words_say() {
     let (table, ask) = (table.bytes(), question(&call(42, &[leaf(&named(40))])));
     assert_eq!(printed(&table, &ask), "0 0 1 06 1\n17 1 1\n");
     assert_eq!(printed_by(&table, &ask), (Source::Words, String::from("0 1 1 06 0\n")));
+    assert_eq!(said_inside(&table, &ask), None);
+}
+
+/// What leaves a call of f(args) out of the domain, under these overloads of f (43) with parameters p (40), q (41), r (42).
+fn call_is_outside(overloads: &[&[Param]], args: &[Bytes]) -> Option<Outside> {
+    let mut table = Table::with_names(&["p", "q", "r", "f", "C"]);
+    for params in overloads {
+        table.plain(43, &[CHAR], params);
+        table.function(44, 43, 0, false, &[CHAR], params);
+    }
+    // The same as a call and as a method call.
+    let of = |tree: Bytes| Run::inside(&table.bytes(), &question(&tree)).err();
+    let why = of(call(43, args));
+    assert_eq!(of(method(43, &leaf(&named(44)), args)), why);
+    assert_eq!(of(method(43, &leaf(&nullable(&named(44))), args)), why);
+    why
+}
+
+#[test]
+fn the_compared_domain_leaves_out_a_call_with_two_unnamed_arguments() {
+    let (p, q, r): (Param, Param, Param) = ((40, 0, vec![INT]), (41, 1, vec![INT]), (42, 3, vec![INT]));
+    let params: [Param; 3] = [p, q, r];
+    let (int, by_name) = (leaf(&[INT]), |id: u16| named_arg(id, &leaf(&[INT])));
+    for args in [vec![], vec![int.clone()], vec![by_name(41), int.clone(), by_name(40)]] {
+        assert_eq!(call_is_outside(&[&params], &args), None);
+    }
+    for args in [
+        vec![int.clone(), int.clone()],
+        vec![int.clone(), by_name(40), int.clone()],
+        vec![int.clone(), by_name(40), by_name(41), by_name(42), int.clone()],
+    ] {
+        assert_eq!(call_is_outside(&[&params], &args), Some(Outside::UnnamedArguments));
+    }
+    // None fits, and nothing is named.
+    assert_eq!(call_is_outside(&[&[]], &[int.clone()]), None);
+    assert_eq!(call_is_outside(&[&[]], &[int.clone(), int]), Some(Outside::UnnamedArguments));
+}
+
+#[test]
+fn the_compared_domain_leaves_out_a_call_that_reads_a_vararg_that_is_not_last() {
+    let last: &[Param] = &[(40, 0, vec![INT]), (41, 2, vec![INT])];
+    let first: &[Param] = &[(40, 2, vec![INT]), (41, 0, vec![INT])];
+    let both: &[Param] = &[(40, 2, vec![INT]), (41, 2, vec![INT])];
+    let args = [leaf(&[INT])];
+    assert_eq!(call_is_outside(&[last], &args), None);
+    for lists in [vec![first], vec![both], vec![last, first], vec![first, last]] {
+        assert_eq!(call_is_outside(&lists, &args), Some(Outside::VarargNotLast));
+        assert_eq!(call_is_outside(&lists, &[]), Some(Outside::VarargNotLast));
+    }
+    // Of a builtin that drops out, too; not of a list that no visited call reads.
+    let mut table = Table::with_names(&["p", "q", "f", "g"]);
+    table.plain(42, &[CHAR], last);
+    table.function(NONE, 43, 0, true, &[CHAR], first);
+    let ask = |name: u16| question(&call(name, &args));
+    assert!(in_domain(&table.bytes(), &ask(42)));
+    table.plain(43, &[CHAR], last);
+    assert_eq!(Run::inside(&table.bytes(), &ask(43)).err(), Some(Outside::VarargNotLast));
+    assert!(in_domain(&table.bytes(), &question(&leaf(&[INT]))));
+    let hidden = question(&method(42, &leaf(&[LONG]), &[call(43, &args)]));
+    assert!(in_domain(&table.bytes(), &hidden));
+}
+
+#[test]
+fn the_compared_domain_leaves_out_a_call_with_a_named_argument_where_no_overload_matches() {
+    let ints: &[Param] = &[(40, 0, vec![INT]), (41, 0, vec![INT])];
+    let strings: &[Param] = &[(40, 0, vec![STRING]), (41, 0, vec![INT])];
+    let open: &[Param] = &[(40, 0, vec![INT]), (41, 2, vec![INT])];
+    let args = |p: u8, q: u8| [named_arg(41, &leaf(&[q])), leaf(&[p])];
+    let out = Some(Outside::NamedNoMatch);
+    for (lists, p, q, why) in [
+        (vec![ints], INT, LONG, None),
+        (vec![ints], INT, ANY, None),
+        (vec![ints], STRING, INT, out),
+        (vec![ints], INT, STRING, out),
+        (vec![ints, strings], STRING, INT, None),
+        (vec![ints, strings], BOOLEAN, INT, out),
+        (vec![open], INT, STRING, None),
+        (vec![open], STRING, STRING, out),
+    ] {
+        assert_eq!(call_is_outside(&lists, &args(p, q)), why, "{} {}", p, q);
+    }
+    let unknown = [named_arg(42, &leaf(&[INT])), leaf(&[INT])];
+    assert_eq!(call_is_outside(&[ints], &unknown), out);
+    assert_eq!(call_is_outside(&[ints, &[(40, 0, vec![INT]), (42, 0, vec![INT])]], &unknown), None);
+    // None fits.
+    assert_eq!(call_is_outside(&[ints], &[named_arg(41, &leaf(&[INT]))]), out);
+    // A left-over argument matches.
+    let left_over = [named_arg(40, &leaf(&[INT])), named_arg(41, &leaf(&[INT])), leaf(&[STRING])];
+    assert_eq!(call_is_outside(&[open], &left_over), None);
+    // A list that is empty is not read.
+    let mut table = Table::with_names(&["p"]);
+    table.plain(1, &[CHAR], ints);
+    let tree = call(0, &[named_arg(40, &call(1, &[leaf(&[INT]), leaf(&[INT])]))]);
+    assert!(in_domain(&table.bytes(), &question(&tree)));
+}
+
+/// Whether the domain holds is asked before any message is read: these would stop the reading of messages.
+#[test]
+fn the_compared_domain_reads_no_message() {
+    let mut table = Table::with_names(&["p", "q"]);
+    table.plain(0, &[CHAR], &[(40, 0, vec![INT]), (41, 0, vec![STRING])]);
+    for (count, why) in [(1, None), (2, Some(Outside::UnnamedArguments))] {
+        let (table, args) = (table.bytes(), vec![leaf(&[STRING]); count]);
+        let mut run = Run::of(&table, &question(&call(0, &args)));
+        assert_eq!(run.judged.lines.len(), 1);
+        run.judged.lines[0] = 1;
+        assert_eq!(outside(&run, &table), why);
+        let read = std::panic::catch_unwind(std::panic::AssertUnwindSafe(|| run.diagnostics()));
+        assert!(read.is_err());
+    }
+}
+
+#[test]
+fn what_the_rust_says_of_own_parameters_and_what_the_words_say() {
+    let mut table = Table::with_names(&["p", "q", "f"]);
+    table.plain(42, &[CHAR], &[(40, 0, vec![INT]), (41, 0, vec![STRING])]);
+    table.plain(42, &[BOOLEAN], &[(40, 0, vec![INT]), (41, 0, vec![INT])]);
+    let (table, ask) = (table.bytes(), question(&call(42, &[leaf(&[INT]), leaf(&[STRING])])));
+    assert_eq!(printed(&table, &ask), "0 0 1 15 1\n18 0 0\n");
+    assert_eq!(printed_by(&table, &ask), (Source::Words, String::from("0 1 1 07 0\n")));
     assert_eq!(said_inside(&table, &ask), None);
 }
 

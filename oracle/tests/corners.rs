@@ -1,4 +1,4 @@
-//! Every sentence of document 01's "Corners in ..", and of document 02's orders 2 and 3, as a test that fails if the
+//! Every sentence of document 01's "Corners in ..", and of document 02's orders 2 to 4, as a test that fails if the
 //! sentence is false. Tests made by `sentences!` run the named examples of that sentence, whose answers were written by
 //! hand, through the Rust inside its domain and through the second reading elsewhere.
 
@@ -58,14 +58,14 @@ sentences! {
     diagnostic_kinds_of_unary_operators
     an_empty_list_gives_error_silently_arguments_unvisited
     builtins_drop_out_beside_any_non_builtin
-    every_unnamed_argument_is_compared_with_the_first_parameter_that_no_argument_names
+    the_unnamed_arguments_take_in_turn_the_parameters_that_no_argument_names
     an_exact_match_scores_2_an_accepted_one_1
-    where_every_parameter_is_named_and_the_last_is_vararg_an_unnamed_argument_scores_1
+    an_unnamed_argument_left_without_a_parameter_scores_1_and_is_not_reported
     the_first_highest_wins_ties_are_reported_with_their_count
-    overloads_int_string_and_int_int_called_int_string_neither_matches
-    overloads_int_string_and_int_int_called_int_int_a_tie_of_two
-    with_int_string_as_the_only_overload_int_string_passes_by_the_check_by_index
-    p_int_q_string_called_with_q_int_and_string_passes_silently
+    int_string_chooses_the_first_of_the_two_marked_overloads
+    int_int_chooses_the_second_of_the_two_marked_overloads
+    with_int_string_as_the_only_overload_int_string_matches
+    the_marked_call_with_q_int_and_string_gives_two_mismatches
     a_int_b_int_called_with_a_twice_matches
     an_unknown_named_argument_is_reported_once_per_overload_that_fits_in_number
     argument_counts
@@ -106,6 +106,20 @@ sentences! {
     a_question_has_all_names_of_its_table
     a_faulty_name_first_in_the_middle_and_last
     a_name_behind_a_record_of_another_kind
+    each_parameter_is_taken_once_in_turn
+    a_name_keeps_its_parameter_wherever_its_argument_stands
+    a_name_given_twice_is_compared_twice_with_its_parameter
+    an_unknown_name_takes_no_parameter_and_adds_no_mismatch
+    an_argument_left_over_is_not_reported
+    an_argument_left_over_scores_1_whatever_its_type_is
+    a_vararg_that_is_not_last_takes_one_argument_and_lifts_no_limit
+    defaults_are_not_skipped
+    any_and_error_are_no_mismatch
+    mismatches_come_in_argument_order_at_their_own_nodes
+    sixteen_arguments_take_sixteen_parameters
+    a_method_call_takes_its_arguments_as_a_call_does
+    builtins_take_their_arguments_alike
+    where_several_fit_and_none_matches_there_is_one_report
     limits_of_tables
     lengths_and_letters_of_names
     every_built_in_name_is_a_key
@@ -138,10 +152,15 @@ fn every_sentence_with_an_example_is_listed() {
     assert_eq!(used, listed);
 }
 
-/// Sentences of which no example is inside the Rust's domain: their examples need a superclass.
+/// Sentences of which no example is inside the Rust's domain: their examples need a superclass, two unnamed arguments, a
+/// vararg that is not last, or a named argument where nothing matches.
 const BY_THE_WORDS_ALONE: &[&str] = &[
     "named_a_assigns_to_named_b_if_b_is_met_climbing_from_a",
     "the_climb_stops_at_a_class_without_an_operator_set",
+    "int_string_chooses_the_first_of_the_two_marked_overloads",
+    "int_int_chooses_the_second_of_the_two_marked_overloads",
+    "with_int_string_as_the_only_overload_int_string_matches",
+    "the_marked_call_with_q_int_and_string_gives_two_mismatches",
     "no_climb_to_superclasses",
     "a_name_of_one_capital_letter_climbs_as_any_class_does",
     "the_list_names_rules_are_not_asked_again_for_a_class_that_is_met",
@@ -151,6 +170,9 @@ const BY_THE_WORDS_ALONE: &[&str] = &[
     "calls_of_one_overload_take_the_new_rule",
     "comparisons_take_the_new_rule_in_both_directions",
     "protected_access_and_operator_methods_climb_as_before",
+    "each_parameter_is_taken_once_in_turn",
+    "a_vararg_that_is_not_last_takes_one_argument_and_lifts_no_limit",
+    "mismatches_come_in_argument_order_at_their_own_nodes",
 ];
 
 #[test]

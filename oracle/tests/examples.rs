@@ -19,10 +19,14 @@ fn every_example_prints_what_the_documents_say() {
     assert!(by_rust > 750, "only {} of {} examples are the Rust's", by_rust, all().len());
 }
 
-/// An example is outside the compared domain for its superclasses alone.
+/// No example is outside the compared domain by a base that spells an owner; for each other reason some are.
 #[test]
-fn the_examples_outside_the_domain_have_a_superclass() {
+fn the_examples_outside_the_domain_have_a_reason_of_an_order() {
     let accepted = all().into_iter().filter(|e| refusal(&e.table, &e.question) == 0);
     let outside: Vec<Outside> = accepted.filter_map(|e| Run::inside(&e.table, &e.question).err()).collect();
-    assert!(outside.len() > 100 && outside.iter().all(|why| *why == Outside::Superclass), "{:?}", outside);
+    let count = |why: Outside| outside.iter().filter(|seen| **seen == why).count();
+    for (why, least) in Outside::ALL.into_iter().zip([100, 0, 10, 50, 20]) {
+        assert!(count(why) >= least, "{:?}: {} examples", why, count(why));
+    }
+    assert_eq!(count(Outside::Spelling), 0);
 }

@@ -2,6 +2,7 @@
 //! the answer that the documents have for it, written by hand. The stored sample begins with them.
 
 mod name_counts;
+mod own_parameters;
 mod question_edges;
 mod subclasses;
 mod table_edges;
@@ -127,6 +128,7 @@ pub fn all() -> Vec<Example> {
     unsaid(&mut list);
     subclasses::add(&mut list);
     name_counts::add(&mut list);
+    own_parameters::add(&mut list);
     table_edges::add(&mut list);
     question_edges::add(&mut list);
     list.all
@@ -387,11 +389,13 @@ fn calls(list: &mut List) {
     list.tree("call.a-builtin-alone-stays", &table, call(F, &[l(INT)]), "0 1 1 07 0");
     list.tree("call.only-builtins-and-none-fits-is-a-silent-error", &table, call(F, &[]), "0 0 1 15 0");
 
-    list.of("every_unnamed_argument_is_compared_with_the_first_parameter_that_no_argument_names");
+    // Document 02, order 4, as all of the sentences about whom an argument is compared with.
+    list.of("the_unnamed_arguments_take_in_turn_the_parameters_that_no_argument_names");
     let mut table = base();
     table.plain(F, &[CHAR], &[(P, 0, int()), (Q, 0, string())]);
     table.plain(F, &[BOOLEAN], &[(P, 0, string()), (Q, 0, int())]);
-    list.tree("call.both-unnamed-meet-the-first-parameter", &table, call(F, &[l(INT), l(LONG)]), "0 1 1 07 0");
+    let both = call(F, &[l(INT), l(LONG)]);
+    list.tree("call.both-unnamed-do-not-meet-the-first-parameter", &table, both, "0 0 1 15 1/18 0 0");
     list.tree(
         "call.unnamed-meets-the-first-that-nobody-names",
         &table,
@@ -412,7 +416,7 @@ fn calls(list: &mut List) {
     let by_name = call(F, &[named_arg(P, &l(INT)), named_arg(Q, &l(INT))]);
     list.tree("call.an-exact-and-an-accepted-score-3-either-way", &table, by_name, "0 0 1 07 1/19 0 2");
 
-    list.of("where_every_parameter_is_named_and_the_last_is_vararg_an_unnamed_argument_scores_1");
+    list.of("an_unnamed_argument_left_without_a_parameter_scores_1_and_is_not_reported");
     let mut table = base();
     table.plain(F, &[CHAR], &[(P, 0, int()), (Q, VARARG, int())]);
     table.plain(F, &[BOOLEAN], &[(P, 0, t(LONG)), (Q, 0, int()), (Z, VARARG, int())]);
@@ -437,17 +441,20 @@ fn calls(list: &mut List) {
     let mut two = base();
     two.plain(F, &[CHAR], &[(P, 0, int()), (Q, 0, string())]);
     two.plain(F, &[BOOLEAN], &[(P, 0, int()), (Q, 0, int())]);
-    list.of("overloads_int_string_and_int_int_called_int_string_neither_matches");
-    list.tree("call.marked.two-overloads-called-int-string", &two, call(F, &[l(INT), l(STRING)]), "0 0 1 15 1/18 0 0");
-    list.of("overloads_int_string_and_int_int_called_int_int_a_tie_of_two");
-    list.tree("call.marked.two-overloads-called-int-int", &two, call(F, &[l(INT), l(INT)]), "0 0 1 07 1/19 0 2");
-    list.of("with_int_string_as_the_only_overload_int_string_passes_by_the_check_by_index");
+    // Document 02, order 4: "f(Int, String) chooses the first of the two marked overloads, and f(Int, Int) the second".
+    list.of("int_string_chooses_the_first_of_the_two_marked_overloads");
+    list.tree("call.marked.two-overloads-called-int-string", &two, call(F, &[l(INT), l(STRING)]), "0 1 1 07 0");
+    list.of("int_int_chooses_the_second_of_the_two_marked_overloads");
+    list.tree("call.marked.two-overloads-called-int-int", &two, call(F, &[l(INT), l(INT)]), "0 1 1 06 0");
+    list.of("with_int_string_as_the_only_overload_int_string_matches");
     let mut one = base();
     one.plain(F, &[CHAR], &[(P, 0, int()), (Q, 0, string())]);
     list.tree("call.one-overload-called-int-string", &one, call(F, &[l(INT), l(STRING)]), "0 1 1 07 0");
     list.tree("call.one-overload-called-string-int", &one, call(F, &[l(STRING), l(INT)]), "0 0 1 07 2/17 1 1/17 2 2");
-    list.of("p_int_q_string_called_with_q_int_and_string_passes_silently");
-    list.tree("call.marked.named-q-int-then-string", &one, call(F, &[named_arg(Q, &l(INT)), l(STRING)]), "0 1 1 07 0");
+    // Document 02, order 4: "The marked call f(q = Int, String) now gives two mismatches".
+    list.of("the_marked_call_with_q_int_and_string_gives_two_mismatches");
+    let by_name = call(F, &[named_arg(Q, &l(INT)), l(STRING)]);
+    list.tree("call.marked.named-q-int-then-string", &one, by_name, "0 0 1 07 2/17 1 1/17 3 2");
     list.of("a_int_b_int_called_with_a_twice_matches");
     let mut twice = base();
     twice.plain(F, &[CHAR], &[(P, 0, int()), (Q, 0, int())]);
@@ -502,7 +509,9 @@ fn calls(list: &mut List) {
     list.tree("call.a-last-vararg-takes-none", &table, call(F, &[l(INT)]), "0 1 1 07 0");
     let mut table = base();
     table.plain(F, &[CHAR], &[(P, VARARG, int()), (Q, 0, string())]);
-    list.tree("call.a-vararg-not-last-accepts-every-type", &table, call(F, &[l(STRING), l(BOOLEAN)]), "0 1 1 07 0");
+    list.tree("call.a-vararg-not-last-accepts-every-type", &table, call(F, &[l(BOOLEAN), l(STRING)]), "0 1 1 07 0");
+    let second = call(F, &[l(STRING), l(BOOLEAN)]);
+    list.tree("call.a-vararg-not-last-does-not-take-the-second", &table, second, "0 0 1 07 1/17 2 2");
     list.tree(
         "call.a-vararg-not-last-does-not-open-the-count",
         &table,
@@ -1031,5 +1040,5 @@ fn unsaid(list: &mut List) {
     let mut one = Table::new();
     one.plain(0, &[CHAR], &[(1, 0, vec![INT]), (2, 0, vec![INT])]);
     let args = [l(STRING), l(ANY)];
-    list.tree("rust.any-is-never-a-mismatch-by-index", &one, call(0, &args), "0 0 1 07 1/17 1 1");
+    list.tree("rust.any-is-never-a-mismatch", &one, call(0, &args), "0 0 1 07 1/17 1 1");
 }

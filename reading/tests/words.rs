@@ -7,9 +7,14 @@ use reading::words::printed;
 /// The named examples, whose answers were written by hand.
 #[test]
 fn the_named_examples() {
+    let mut wrong = Vec::new();
     for example in all() {
-        assert_eq!(printed(&example.table, &example.question), example.printed(), "{}", example.name);
+        let said = printed(&example.table, &example.question);
+        if said != example.printed() {
+            wrong.push(format!("{}: {:?}, expected {:?}", example.name, said, example.printed()));
+        }
     }
+    assert!(wrong.is_empty(), "{} differ:\n{}", wrong.len(), wrong.join("\n"));
 }
 
 /// The stored answers, which the Rust's own methods gave inside their domain; outside it they are as the words had them.

@@ -2,8 +2,10 @@
 //!
 //! An edit has the form of the proofs' must-fail edits: what it does, the file below src/words, a line that stands
 //! there once, and the line that replaces it. The file is taken from the right words, so a wrong version differs in
-//! this line alone.
+//! this line alone. Modules that do not name the changed one, nor any that does, are not copied: the copy takes the right
+//! ones.
 
+use std::collections::BTreeSet;
 use std::path::{Path, PathBuf};
 use std::{env, fs, process};
 
@@ -55,29 +57,48 @@ impl Edit {
     }
 }
 
+/// The files that name one, it itself among them: directly, or by another that does. `words.rs` names all.
+fn naming(file: &str, right: &[(String, String)]) -> BTreeSet<String> {
+    let mut found = BTreeSet::from([file.to_string(), String::from("words.rs")]);
+    loop {
+        let names = |text: &str, of: &String| of != "words.rs" && text.contains(&format!("super::{}::", module(of)));
+        let more = right.iter().filter(|(_, text)| found.iter().any(|of| names(text, of)));
+        let more: Vec<String> = more.map(|(name, _)| name.clone()).filter(|name| !found.contains(name)).collect();
+        if more.is_empty() {
+            return found;
+        }
+        found.extend(more);
+    }
+}
+
+fn module(file: &str) -> &str {
+    file.strip_suffix(".rs").unwrap_or(file)
+}
+
 fn main() {
     println!("cargo:rerun-if-changed=build.rs");
     let here = PathBuf::from(env::var("CARGO_MANIFEST_DIR").unwrap_or_else(|e| stop(e.to_string())));
     let out = PathBuf::from(env::var("OUT_DIR").unwrap_or_else(|e| stop(e.to_string())));
     let source = here.join("../src");
-    let mut right = files(&source.join("words"), "rs");
-    right.push(source.join("words.rs"));
+    let mut paths = files(&source.join("words"), "rs");
+    paths.push(source.join("words.rs"));
+    let name = |path: &PathBuf| path.file_name().map_or(String::new(), |n| n.to_string_lossy().to_string());
+    let right: Vec<(String, String)> = paths.iter().map(|path| (name(path), text(path))).collect();
     let (mut modules, mut list) = (String::new(), String::new());
     for edit in files(&here.join("edits"), "edit").iter().map(|path| Edit::read(path)) {
         let folder = out.join(&edit.label);
         fs::create_dir_all(&folder).unwrap_or_else(|e| stop(e.to_string()));
-        let mut applied = false;
-        for path in &right {
-            let name = path.file_name().map_or(String::new(), |n| n.to_string_lossy().to_string());
-            let mut copy = text(path);
-            if name == edit.file {
-                copy = edit.applied(&copy);
-                applied = true;
-            }
-            fs::write(folder.join(&name), copy).unwrap_or_else(|e| stop(e.to_string()));
-        }
-        if !applied {
+        if right.iter().all(|(name, _)| *name != edit.file) {
             stop(format!("{}: there is no file {}", edit.label, edit.file));
+        }
+        let copied = naming(&edit.file, &right);
+        for (name, text) in &right {
+            let copy = match (*name == edit.file, copied.contains(name)) {
+                (true, _) => edit.applied(text),
+                (_, true) => text.clone(),
+                _ => format!("pub use reading::words::{}::*;\n", module(name)),
+            };
+            fs::write(folder.join(name), copy).unwrap_or_else(|e| stop(e.to_string()));
         }
         let Edit { label, what, .. } = &edit;
         modules.push_str(&format!("#[path = {:?}]\nmod {};\n", folder.join("words.rs"), label));

@@ -23,7 +23,8 @@ use Rattle.scoring.specs.Arg.{Arg, Verdict}
 use Rattle.scoring.specs.Arity.{any_own}
 use Rattle.scoring.specs.Score.{score}
 use Rattle.overload.specs.Best.{Best}
-use Rattle.overload.specs.ByIndex.{all_unknown, mismatches}
+use Rattle.overload.specs.Reports.{all_unknown, mismatches}
+use Rattle.scoring.specs.WithParams.{with_params}
 use Rattle.overload.specs.Inside.BestPlace.{BestPlace, nowhere, best_at, better_place, chosen_from, chosen_at, result_at, error_source, source_of}
 use Rattle.overload.specs.Inside.CallSource.{best_source, best_diags, settled_source, settled_diags, called_places, call_source}
 use Rattle.overload.specs.Inside.Picked.{picked}
@@ -68,23 +69,23 @@ module _ (t : List ℕ) (p : Place) (node : ℕ) (xs : List Arg) (w : Tally) whe
     diags_best =
         sym
         (ap
-        (λ (z : Maybe Highest). best_diags node z (choose (eqb w.fitting 1) (mismatches (symbols_of t) (overload_at t p).params 1 xs) (diag no_match_diag node 0 ∷ []))) m)
+        (λ (z : Maybe Highest). best_diags node z (choose (eqb w.fitting 1) (mismatches (symbols_of t) 1 (with_params (overload_at t p).params xs)) (diag no_match_diag node 0 ∷ []))) m)
 
   module _ (m : w.highest ≡ None) where
     source_else : settled_source t p w ≡ choose (eqb w.fitting 1) (result_at t p) error_source
     source_else = ap (λ (z : Maybe Highest). best_source z (choose (eqb w.fitting 1) (result_at t p) error_source)) m
 
-    diags_else : settled_diags t p node xs w ≡ choose (eqb w.fitting 1) (mismatches (symbols_of t) (overload_at t p).params 1 xs) (diag no_match_diag node 0 ∷ [])
+    diags_else : settled_diags t p node xs w ≡ choose (eqb w.fitting 1) (mismatches (symbols_of t) 1 (with_params (overload_at t p).params xs)) (diag no_match_diag node 0 ∷ [])
     diags_else =
         ap
-        (λ (z : Maybe Highest). best_diags node z (choose (eqb w.fitting 1) (mismatches (symbols_of t) (overload_at t p).params 1 xs) (diag no_match_diag node 0 ∷ []))) m
+        (λ (z : Maybe Highest). best_diags node z (choose (eqb w.fitting 1) (mismatches (symbols_of t) 1 (with_params (overload_at t p).params xs)) (diag no_match_diag node 0 ∷ []))) m
 
     -- nothing matches, and one fits
     module _ (one : w.fitting ≡ 1) where
       pub source_one : result_at t p ≡ settled_source t p w
       source_one = sym (source_else ∙ choose_yes _ _ _ (eq-eqb w.fitting 1 one))
 
-      pub diags_one : mismatches (symbols_of t) (overload_at t p).params 1 xs ≡ settled_diags t p node xs w
+      pub diags_one : mismatches (symbols_of t) 1 (with_params (overload_at t p).params xs) ≡ settled_diags t p node xs w
       diags_one = sym (diags_else ∙ choose_yes _ _ _ (eq-eqb w.fitting 1 one))
 
     -- nothing matches, and several fit
@@ -147,7 +148,7 @@ module _ (t : List ℕ) (node : ℕ) (xs : List Arg) (own : Bool) where
       where
         go : (qs : List Place) (b : BestPlace)
             → all_unknown_at t (p ∷ qs) xs
-            ++ best_diags node (highest_at t b) (choose (eqb (suc (length qs)) 1) (mismatches S (o p).params 1 xs) (diag no_match_diag node 0 ∷ []))
+            ++ best_diags node (highest_at t b) (choose (eqb (suc (length qs)) 1) (mismatches S 1 (with_params (o p).params xs)) (diag no_match_diag node 0 ∷ []))
             ≡ (settle S node xs (o p) (map o qs) (best_of t b)).diags
         go qs (best_at s first m) = refl
         go [] nowhere = refl

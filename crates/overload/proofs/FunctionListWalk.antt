@@ -13,7 +13,7 @@ use Rattle.overload.proofs.OverloadFold.{picked_snoc, picked_few, own-here, own_
 use Rattle.overload.proofs.Tallies.{tally_start, tally_more_lem, tally_room}
 use Rattle.scoring.specs.Arg.{Arg}
 use Rattle.scoring.specs.Arity.{any_own}
-use Rattle.overload.specs.ByIndex.{all_unknown}
+use Rattle.overload.specs.Reports.{all_unknown}
 use Rattle.overload.specs.Inside.Picked.{taken, picked}
 use Rattle.overload.specs.Inside.Tally.{all_unknown_at, tally_more, tally_of, most_diagnostics, Room}
 use Rattle.overload.specs.declared.calls.Tally.{Tally}

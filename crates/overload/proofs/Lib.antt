@@ -1,4 +1,3 @@
-pub mod LastWalkSilent
 pub mod ArgumentReports
 pub mod SingleReports
 pub mod OverloadFold
@@ -6,3 +5,8 @@ pub mod Tallies
 pub mod CallAnswers
 pub mod FunctionListWalk
 pub mod ReportBounds
+pub mod Exact
+pub mod Taken
+pub mod Order4
+pub mod MarksBefore
+pub mod AsBefore

@@ -12,7 +12,7 @@ use Rattle.area.specs.Diagnostic.{Diag}
 use Rattle.scoring.specs.Arg.{Arg}
 use Rattle.scoring.specs.Arity.{any_own, own, usable, fits, fitting}
 use Rattle.overload.specs.Best.{Best, nobody, best, better, chosen}
-use Rattle.overload.specs.ByIndex.{all_unknown}
+use Rattle.overload.specs.Reports.{all_unknown}
 use Rattle.overload.specs.Inside.BestPlace.{BestPlace, nowhere, best_at, better_place, chosen_from}
 use Rattle.overload.specs.Inside.Picked.{taken, picked}
 use Rattle.overload.specs.Inside.Tally.{many_of, highest_at, highest_one, highest_more, higher_with, unknowns_at, all_unknown_at}

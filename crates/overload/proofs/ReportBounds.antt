@@ -14,7 +14,8 @@ use Rattle.scoring.specs.Arg.{Arg}
 use Rattle.scoring.specs.Arity.{any_own, usable, fitting}
 use Rattle.overload.specs.Before.{suspend_report, call_reports, method_reports}
 use Rattle.overload.specs.Best.{Best, nobody, best, chosen}
-use Rattle.overload.specs.ByIndex.{all_unknown, mismatches}
+use Rattle.overload.specs.Reports.{all_unknown, mismatches}
+use Rattle.scoring.specs.WithParams.{with_params}
 use Rattle.overload.specs.Inside.Tally.{most_diagnostics}
 use Rattle.overload.specs.Resolve.{none_fits, tie_report, settle, resolve_in, resolve}
 use Rattle.question.specs.declared.Header.{Header}
@@ -37,7 +38,7 @@ module _ (S : Symbols) (xs : List Arg) (short : length xs ≤ 16) where
       omega (arith, length-append (all_unknown (v ∷ vs) xs) (tie_report n many), all_unknown_few (v ∷ vs) xs short, tie_few n many)
   settle_few n v [] nobody =
       omega
-      (arith, length-append (all_unknown (v ∷ []) xs) (mismatches S v.params 1 xs), all_unknown_few (v ∷ []) xs short, mismatches_few S v.params 1 xs)
+      (arith, length-append (all_unknown (v ∷ []) xs) (mismatches S 1 (with_params v.params xs)), all_unknown_few (v ∷ []) xs short, mismatches_few S v.params xs)
   settle_few n v (w ∷ vs) nobody =
       omega
       (arith, length-append (all_unknown (v ∷ w ∷ vs) xs) (diag no_match_diag n 0 ∷ []), all_unknown_few (v ∷ w ∷ vs) xs short)

@@ -1,7 +1,7 @@
 -- What is reported at one argument or one call, by the tests before it.
 use Prim.Native.Nat.{ℕ, suc, ◌+◌, ◌≤◌}
-use lib.Dec.{eqb, ltb}
-use lib.ListN.{length}
+use lib.Dec.{eqb}
+use lib.ListN.{length, take, drop}
 use mathlib.Core.Bool.{Bool, true, false, true≢false, false≢true, not}
 use mathlib.Core.List.{List, [], ◌∷◌, ◌++◌}
 use mathlib.Core.Option.{Option, none, some}
@@ -13,23 +13,24 @@ use Rattle.std.specs.Option.{MatchOption}
 use Rattle.overload.proofs.ArgumentReports.{reported_as}
 use Rattle.scoring.specs.Arg.{Arg}
 use Rattle.overload.specs.Before.{suspend_allowed, suspend_report, method_reports}
-use Rattle.overload.specs.ByIndex.{absent, unknown_one, passes_by_index, mismatch_one}
-use Rattle.scoring.specs.Inside.Params.{as_place, named_place}
+use Rattle.overload.specs.Reports.{absent, unknown_one, suits, mismatch_one}
+use Rattle.scoring.specs.Inside.Params.{as_place, named_place, param_here}
 use Rattle.symbol.specs.Inside.LookupAnswer.{optional, params_in}
 use Rattle.symbol.specs.declared.functions.Param.{Param as Read}
-use Rattle.overload.specs.Inside.DiagIf.{diag_if, missing, unknown}
+use Rattle.overload.specs.Inside.DiagIf.{diag_if, missing, unknown, suits_param}
 use Rattle.area.proofs.Reporting.{reported_both, reported_more}
 use Rattle.area.specs.Reported.{reported}
 use Rattle.area.specs.declared.reports.Reports.{Reports}
-use Rattle.overload.specs.Resolve.{tie_report}
-use Rattle.scoring.specs.Score.{param_named, place_named}
+use Rattle.scoring.specs.WithParams.{param_named}
+use Rattle.scoring.specs.Inside.Params.{place_named}
 use Rattle.question.specs.declared.Header.{Header}
 use Rattle.rules.specs.Access.{blocked, access_report}
 use Rattle.operators.specs.Diag.{diag, reported_at as at}
-use Rattle.area.specs.DiagnosticKind.{suspend_diag, unknown_name_diag, mismatch_diag, tie_diag, access_diag}
+use Rattle.area.specs.DiagnosticKind.{suspend_diag, unknown_name_diag, mismatch_diag, access_diag}
 use Rattle.operators.specs.Out.{Report, report, unless}
 use Rattle.symbol.specs.Symbols.{Param, Symbols}
 use Rattle.ty.proofs.Choice.{by_choice}
+use Rattle.ty.specs.Bytes.{Ty}
 use Rattle.ty.specs.Choose.{choose}
 
 -- ---- an argument's name
@@ -73,16 +74,26 @@ unknown_told b (some id) ps i n e = ap (λ (z : Bool). diag_if z unknown_name_di
     go none = refl
     go (some p) = refl
 
--- ---- the check by index
-pub mismatch_told : (S : Symbols) (p : Param) (i : ℕ) (a : Arg) (b : Bool) → b ≡ passes_by_index S p.ty a.ty p.vararg → diag_if (not b) mismatch_diag a.node i ≡ mismatch_one S p i a
-unfolding diag_if mismatch_one choose
-mismatch_told S p i a true e = ap (λ (z : Bool). choose z [] (diag mismatch_diag a.node i ∷ [])) e
-mismatch_told S p i a false e = ap (λ (z : Bool). choose z [] (diag mismatch_diag a.node i ∷ [])) e
+-- ---- an argument against the parameter that it gets
+module _ (S : Symbols) (t : List ℕ) (o : Maybe Read) (x : Ty) where
+  pub suits_none : o ≡ None → true ≡ suits_param S (param_here t o) x
+  unfolding suits_param
+  suits_none e = sym (ap (λ (z : Maybe Read). suits_param S (param_here t z) x) e)
 
--- ---- a call
-pub tie_told : (node many : ℕ) → diag_if (ltb 1 many) tie_diag node many ≡ tie_report node many
-unfolding diag_if tie_report
-tie_told node many = refl
+  pub suits_some : (p : Read) → o ≡ Some p → (b q : List ℕ) → q ≡ take p.part.len (drop p.part.start b) → b ≡ t → (r : Bool) → r ≡ suits S q x p.vararg
+      → r ≡ suits_param S (param_here t o) x
+  unfolding suits_param
+  suits_some p e b q at same r g =
+      g ∙ ap (λ (z : Ty). suits S z x p.vararg) (at ∙ ap (λ (z : List ℕ). take p.part.len (drop p.part.start z)) same)
+      ∙ sym (ap (λ (z : Maybe Read). suits_param S (param_here t z) x) e)
+
+pub ruleset suits_told = (suits_none, suits_some)
+
+pub mismatch_told : (S : Symbols) (o : Option Param) (i : ℕ) (a : Arg) (b : Bool) → b ≡ suits_param S o a.ty → diag_if (not b) mismatch_diag a.node i ≡ mismatch_one S o i a
+unfolding diag_if mismatch_one suits_param choose
+mismatch_told S none i a b e = ap (λ (z : Bool). diag_if (not z) mismatch_diag a.node i) e
+mismatch_told S (some p) i a true e = ap (λ (z : Bool). choose z [] (diag mismatch_diag a.node i ∷ [])) e
+mismatch_told S (some p) i a false e = ap (λ (z : Bool). choose z [] (diag mismatch_diag a.node i ∷ [])) e
 
 -- ---- before the arguments
 pub at_append : (n : ℕ) (rs ss : List Report) → at n (rs ++ ss) ≡ at n rs ++ at n ss

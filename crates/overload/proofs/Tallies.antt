@@ -19,7 +19,7 @@ use Rattle.overload.specs.Inside.Picked.{taken}
 use Rattle.overload.proofs.OverloadFold.{taken_not, taken-fits, taken_other, higher_best, chosen_snoc, chosen_few, unknown_one_lem}
 use Rattle.overload.proofs.ArgumentReports.{all_unknown_few, reported_as}
 use Rattle.scoring.specs.Arg.{Arg}
-use Rattle.overload.specs.ByIndex.{all_unknown}
+use Rattle.overload.specs.Reports.{all_unknown}
 use Rattle.overload.specs.Inside.BestPlace.{BestPlace, nowhere, chosen_from, chosen_at}
 use Rattle.scoring.specs.Score.{score}
 use Rattle.overload.specs.Inside.Tally.{many_of, highest_at, higher_with, unknowns_at, all_unknown_at, tally_with, tally_more, tally_of, most_diagnostics, Room}

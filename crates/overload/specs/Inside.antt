@@ -4,3 +4,6 @@ pub mod Picked
 pub mod BestPlace
 pub mod Tally
 pub mod CallSource
+pub mod ScoreBefore
+pub mod ResolveBefore
+pub mod AsBefore

@@ -1,6 +1,6 @@
 pub mod Before
 pub mod Best
-pub mod ByIndex
+pub mod Reports
 pub mod Resolve
+pub mod Order4
 pub mod Inside
-pub mod LastWalk

@@ -1,5 +1,6 @@
--- `check_call_args` of checker.rs, from where the arguments are judged: the type of the call at node n, and what is reported, in the source's order. Its last
--- walk over the chosen overload is left out; it changes nothing (Walk).
+-- `check_call_args` of checker.rs, from where the arguments are judged: the type of the call at node n, and what is reported, in the source's order. Document
+-- 02, order 4: "the check of a single unmatched overload, in argument order". The source's last walk over the chosen overload has no part in it
+-- (docs/DECISIONS.md, 15).
 use Rattle.std.specs.Prelude.{ℕ, Bool, List, [], ◌∷◌, ◌++◌, length, ltb}
 use Rattle.ty.specs.Choose.{choose}
 use Rattle.symbol.specs.Symbols.{Overload, Symbols}
@@ -10,7 +11,8 @@ use Rattle.operators.specs.Diag.{diag}
 use Rattle.scoring.specs.Arg.{Arg, Verdict}
 use Rattle.scoring.specs.Arity.{any_own, usable, fitting}
 use Rattle.overload.specs.Best.{Best, nobody, best, chosen}
-use Rattle.overload.specs.ByIndex.{all_unknown, mismatches}
+use Rattle.scoring.specs.WithParams.{with_params}
+use Rattle.overload.specs.Reports.{all_unknown, mismatches}
 
 -- no overload fits: reported unless all are builtins
 unfoldable pub none_fits : Bool → ℕ → ℕ → Verdict
@@ -24,7 +26,7 @@ module _ (S : Symbols) where
   -- v and then vs fit in number; the best of them is known
   unfoldable pub settle : ℕ → List Arg → Overload → List Overload → Best → Verdict
   settle n xs v vs (best s first many) = record { ty = first.result; diags = all_unknown (v ∷ vs) xs ++ tie_report n many }
-  settle n xs v [] nobody = record { ty = v.result; diags = all_unknown (v ∷ []) xs ++ mismatches S v.params 1 xs }
+  settle n xs v [] nobody = record { ty = v.result; diags = all_unknown (v ∷ []) xs ++ mismatches S 1 (with_params v.params xs) }
   settle n xs v (w ∷ vs) nobody = record { ty = error_ty; diags = all_unknown (v ∷ w ∷ vs) xs ++ (diag no_match_diag n 0 ∷ []) }
 
   unfoldable pub resolve_in : Bool → ℕ → List Arg → List Overload → Verdict

@@ -17,7 +17,7 @@ ghost use Rattle.overload.specs.Inside.BestPlace.{error_source};
 ghost use Rattle.overload.specs.Inside.Tally.{many_of, higher_with, unknowns_at, all_unknown_at, tally_with, tally_more, tally_of, most_diagnostics, Room};
 ghost use Rattle.overload.specs.Inside.CallSource.{settled_source, settled_diags, call_at, call_source};
 
-use crate::reports::{by_index, report_if, unknown_names};
+use crate::reports::{mismatches, report_if, unknown_names};
 use area::reports::Reports;
 use area::types::Slot;
 use area::{DiagnosticKind, Source};
@@ -207,7 +207,7 @@ fn settle(
     }
     if w.fitting == 1 {
         let f = read_function(table.bytes(), p);
-        by_index(table, &f.params, slots, args, reports);
+        mismatches(table, &f.params, slots, args, reports);
         return Source::Part(f.result);
     }
     // Every diagnostic of an answer has a number: 0 where its kind has nothing to count.

@@ -5,9 +5,11 @@ ghost use Rattle.area.specs.DiagnosticKind.{diagnostic_number};
 ghost use Rattle.area.specs.Reported.{reported};
 ghost use Rattle.symbol.specs.Lookup.{symbols_of};
 ghost use Rattle.symbol.specs.Inside.LookupAnswer.{optional, params_in};
-ghost use Rattle.overload.specs.ByIndex.{unknowns, mismatches, passes_by_index};
+ghost use Rattle.overload.specs.Reports.{unknowns, suits, mismatches};
+ghost use Rattle.scoring.specs.WithParams.{with_params};
 ghost use Rattle.scoring.specs.Inside.Args.{args_in};
-ghost use Rattle.overload.specs.Inside.DiagIf.{diag_if, unknown};
+ghost use Rattle.scoring.specs.Inside.Params.{param_here};
+ghost use Rattle.overload.specs.Inside.DiagIf.{diag_if, unknown, suits_param};
 ghost use Rattle.ty.specs.Bytes.{Ty};
 
 use area::DiagnosticKind;
@@ -16,8 +18,9 @@ use area::types::{Slot, type_of};
 use index::table::Table;
 use rules::accept::param_accepts;
 use scoring::args::Args;
-use scoring::score::named_place;
-use symbol::functions::Params;
+use scoring::parameter::{named_place, parameter_for};
+use scoring::score::named_pass;
+use symbol::functions::{Param, Params};
 use ty::Kind;
 
 // A diagnostic, where a test holds. The test stands beside what it reports: an Option of that would be made from the test and opened at once. Room is asked,
@@ -42,7 +45,7 @@ pub fn report_if(
 fn unknown(params: &Params, name: Option<u16>) -> bool
     ensures { (t : List ℕ) → result ≡ unknown (optional name) (params_in t params.now.items) }
 {
-    name.is_some_and(|id| named_place(params, id).is_none())
+    name.is_some_and(|id| named_place(params.as_slice(), id).is_none())
 }
 
 // The unknown names among a call's arguments.
@@ -56,9 +59,9 @@ pub fn unknown_names(params: &Params, args: &Args, reports: &mut Reports<'_>)
     }
 }
 
-// Whether the check by index lets an argument of the type x pass for a parameter of the type p.
-fn passes_by_index(table: &Table<'_>, p: &[u8], x: &[u8], vararg: bool) -> bool
-    ensures { result ≡ passes_by_index (symbols_of table.now) p.now x.now vararg }
+// Whether an argument of the type x suits a parameter of the type p.
+fn suits(table: &Table<'_>, p: &[u8], x: &[u8], vararg: bool) -> bool
+    ensures { result ≡ suits (symbols_of table.now) p.now x.now vararg }
 {
     param_accepts(table, p, x, vararg)
         || ty::is_kind(p, Kind::Any)
@@ -66,8 +69,20 @@ fn passes_by_index(table: &Table<'_>, p: &[u8], x: &[u8], vararg: bool) -> bool
         || ty::is_kind(x, Kind::Any)
 }
 
-// The check by index: each argument against the parameter at its place, as far as there are both. For table, slots and args apart see calls.rt.
-pub fn by_index(
+// The same for the parameter that it gets, if any.
+#[tactic(auto, using(crate::proofs::SingleReports::suits_told))]
+fn suits_param(table: &Table<'_>, param: Option<Param>, x: &[u8]) -> bool
+    ensures { result ≡ suits_param (symbols_of table.now) (param_here table.now param) x.now }
+{
+    let Some(p) = param else {
+        return true;
+    };
+    suits(table, area::part(table.bytes(), p.part), x, p.vararg)
+}
+
+// The check of a single overload that does not match, in argument order: each argument against the parameter that it gets. For table, slots and args apart see
+// calls.rt.
+pub fn mismatches(
     table: &Table<'_>,
     params: &Params,
     slots: &[Slot],
@@ -76,13 +91,15 @@ pub fn by_index(
 )
     requires { reports.old.count + 16 ≤ count_limit }
     ensures { reports.new ≡ reported reports.old
-        (mismatches (symbols_of table.now) (params_in table.now params.now.items) 1 (args_in slots.now args.now.items)) }
+        (mismatches (symbols_of table.now) 1 (with_params (params_in table.now params.now.items) (args_in slots.now args.now.items))) }
 {
-    let xs = args.as_slice();
-    let ps = params.as_slice();
-    for (i, (x, p)) in xs.iter().zip(ps).enumerate() {
-        let t = area::part(table.bytes(), p.part);
-        let passes = passes_by_index(table, t, type_of(slots, x.node), p.vararg);
-        report_if(!passes, DiagnosticKind::Mismatch, x.node, i + 1, reports);
+    let params = params.as_slice();
+    let marks = named_pass(table, params, slots, args).marks;
+    let mut next = 0;
+    for (i, x) in args.as_slice().iter().enumerate() {
+        let own = parameter_for(params, marks, next, x.name);
+        next = own.next;
+        let fine = suits_param(table, own.param, type_of(slots, x.node));
+        report_if(!fine, DiagnosticKind::Mismatch, x.node, i + 1, reports);
     }
 }

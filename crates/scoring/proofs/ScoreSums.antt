@@ -1,6 +1,6 @@
 -- Sums of scores.
 use Prim.Native.Nat.{ℕ, ◌+◌}
-use mathlib.Core.Path.{◌≡◌, refl, sym, ap}
+use mathlib.Core.Path.{◌≡◌, refl, sym, ap, ◌∙◌}
 use mathlib.Core.Option.{Option, none, some}
 use native.Mathlib.Omega.{arith}
 use Rattle.scoring.specs.Score.{plus}
@@ -11,10 +11,10 @@ unfolding plus
 plus_zero none = refl
 plus_zero (some a) = let e : 0 + a ≡ a = omega arith in ap some e
 
-pub plus_none : (a : Option ℕ) → plus a none ≡ none
+pub plus_none_more : (a : Option ℕ) → plus a (some 0) ≡ a
 unfolding plus
-plus_none none = refl
-plus_none (some a) = refl
+plus_none_more none = refl
+plus_none_more (some a) = let e : a + 0 ≡ a = omega arith in ap some e
 
 pub plus_assoc : (a b c : Option ℕ) → plus (plus a b) c ≡ plus a (plus b c)
 unfolding plus
@@ -22,6 +22,19 @@ plus_assoc none b c = refl
 plus_assoc (some a) none c = refl
 plus_assoc (some a) (some b) none = refl
 plus_assoc (some a) (some b) (some c) = let e : a + b + c ≡ a + (b + c) = omega arith in ap some e
+
+plus_comm : (a b : Option ℕ) → plus a b ≡ plus b a
+unfolding plus
+plus_comm none none = refl
+plus_comm none (some b) = refl
+plus_comm (some a) none = refl
+plus_comm (some a) (some b) = let e : a + b ≡ b + a = omega arith in ap some e
+
+pub plus_swap : (a b c d : Option ℕ) → plus (plus a b) (plus c d) ≡ plus (plus a c) (plus b d)
+plus_swap a b c d =
+    plus_assoc a b (plus c d)
+    ∙ ap (λ (z : Option ℕ). plus a z) (sym (plus_assoc b c d) ∙ ap (λ (z : Option ℕ). plus z d) (plus_comm b c) ∙ plus_assoc c b d)
+    ∙ sym (plus_assoc a c (plus b d))
 
 pub plus-left : (a b : Option ℕ) (s : ℕ) → plus a b ≡ some s → (x : ℕ) × (a ≡ some x)
 unfolding plus

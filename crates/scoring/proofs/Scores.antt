@@ -1,21 +1,27 @@
 -- Scores: sums of them, and the two passes one argument at a time.
 use Prim.Native.Nat.{ℕ, ◌+◌, ◌*◌, ◌≤◌, ◌<◌}
 use lib.ListN.{get_or, length, take, drop}
-use mathlib.Core.Bool.{Bool, true, false}
+use mathlib.Core.Bool.{Bool, true, false, true≢false}
 use mathlib.Core.List.{List}
 use mathlib.Core.Option.{Option, none, some}
 use mathlib.Core.Path.{◌≡◌, refl, sym, ap, ◌∙◌}
 use native.Mathlib.Omega.{arith}
-use Rattle.std.specs.Prelude.{Option as Maybe, Some, None}
-use Rattle.scoring.proofs.ParamsAndArgsLeft.{args_next, args_none}
-use Rattle.scoring.proofs.ParamSearch.{place_named_is, param_named_is}
-use Rattle.scoring.proofs.ScoreSums.{plus_zero, plus_assoc}
+use Rattle.std.specs.Prelude.{Option as Maybe, Some, None, is_some}
+use Rattle.scoring.proofs.ParamsAndArgsLeft.{params_length, args_next, args_none}
+use Rattle.scoring.proofs.ParamSearch.{param_named_is}
+use Rattle.scoring.proofs.ScoreSums.{plus_zero, plus_none_more, plus_assoc}
 use Rattle.area.specs.Inside.Slot.{type_at}
 use Rattle.scoring.specs.Arg.{Arg as Seen}
 use Rattle.scoring.specs.Inside.Args.{args_in}
-use Rattle.scoring.specs.Inside.Params.{param_here, param_at, place_read, named_place}
-use Rattle.scoring.specs.Inside.Scored.{score_of, as_score, points_of, compared_or, named_more, named_in, positional_in, unmatched, score_in}
-use Rattle.scoring.specs.Score.{param_named, plus, compared, compared_with, mark_at, mark_one, marks_from, marks_of, no_marks, named_one, named_score, unnamed_one, unnamed_score, score}
+use Rattle.scoring.specs.Inside.Params.{param_here, param_at, named_place}
+use Rattle.scoring.specs.Inside.Scored.{score_of, as_score, points_of, compared_or, named_more, named_in, TakenOne, positional_in, score_in}
+use Rattle.scoring.specs.Inside.Passes.{mark_one, marks_from, marks_of, no_marks, unmarked, named_one, named_score, unnamed_one, unnamed_score}
+use Rattle.scoring.specs.Inside.Received.{ReceivedIs, left_in}
+use Rattle.scoring.specs.WithParams.{param_named, next_param, parameter_for, left_behind, free_params}
+use Rattle.scoring.specs.Score.{plus, compared, score_one, score}
+use Rattle.scoring.specs.declared.parameter.Received.{Received}
+use Rattle.scoring.specs.declared.score.PositionalPass.{PositionalPass}
+use Rattle.scoring.proofs.BothPasses.{mark_none, unmarked_free, score_split}
 use Rattle.scoring.specs.declared.args.Arg.{Arg}
 use Rattle.scoring.specs.declared.score.NamedPass.{NamedPass}
 use Rattle.scoring.specs.declared.score.Score.{Score}
@@ -44,11 +50,6 @@ pub pass_is : {s s' : Maybe Score} {m m' : List Bool} → s ≡ s' → m ≡ m' 
 pass_is {s} {s'} {m} {m'} e f = λ i. record { score = e i; marks = f i }
 
 -- ---- a sum of two
-pub plus_none_more : (a : Option ℕ) → plus a (some 0) ≡ a
-unfolding plus
-plus_none_more none = refl
-plus_none_more (some a) = let e : a + 0 ≡ a = omega arith in ap some e
-
 -- none more
 pub add_nothing : (r : Maybe Score) (one : Option ℕ) → one ≡ some 0 → r ≡ as_score (plus (score_of r) one)
 add_nothing r one e =
@@ -93,19 +94,21 @@ module _ (S : Symbols) (t : List ℕ) (o : Option ℕ) (x : Ty) (f : Maybe Read)
 module _ (S : Symbols) where
   -- in the named pass
   named_is : (ps : List Param) (id : ℕ) (x : Ty) → compared_or S none (param_named id ps) x ≡ named_one S ps (some id) x
-  unfolding named_one compared_with
+  unfolding named_one score_one
   named_is ps id x = go (param_named id ps)
     where
-      go : (f : Option Param) → compared_or S none f x ≡ compared_with S f x
+      go : (f : Option Param) → compared_or S none f x ≡ score_one S f (some id) x
       go none = refl
       go (some p) = refl
 
-  -- in the positional pass; v: the last parameter is vararg
-  unnamed_is : (f : Option Param) (v : Bool) (x : Ty) → compared_or S (score_of (unmatched v)) f x ≡ unnamed_one S f v none x
-  unfolding unnamed_one
-  unnamed_is none true x = refl
-  unnamed_is none false x = refl
-  unnamed_is (some p) v x = refl
+  -- in the positional pass, where the parameters fs are left
+  unnamed_is : (fs : List Param) (x : Ty) → compared_or S (some 1) (next_param fs) x ≡ unnamed_one S fs none x
+  unfolding unnamed_one score_one
+  unnamed_is fs x = go (next_param fs)
+    where
+      go : (f : Option Param) → compared_or S (some 1) f x ≡ score_one S f none x
+      go none = refl
+      go (some p) = refl
 
   -- at most two points for an argument
   compared_few : (p : Param) (x : Ty) → points_of (as_score (compared S p x)) ≤ 2
@@ -114,35 +117,34 @@ module _ (S : Symbols) where
       by_choice (λ (s : Option ℕ). points_of (as_score s) ≤ 2) _ (λ _. omega arith) λ _.
       by_choice (λ (s : Option ℕ). points_of (as_score s) ≤ 2) _ (λ _. omega arith) (λ _. omega arith)
 
-  pub one_few : (o : Maybe Score) (f : Option Param) (x : Ty) → points_of o ≤ 2 → points_of (as_score (compared_or S (score_of o) f x)) ≤ 2
+  one_few : (o : Maybe Score) (f : Option Param) (x : Ty) → points_of o ≤ 2 → points_of (as_score (compared_or S (score_of o) f x)) ≤ 2
   one_few o none x h = let f : points_of (as_score (score_of o)) ≡ points_of o = ap (λ (z : Maybe Score). points_of z) (score_forth o) in omega arith
   one_few o (some p) x h = compared_few p x
+
+  -- where a missing parameter scores 1
+  pub one_few_le : (f : Option Param) (x : Ty) (r : Maybe Score) → r ≡ as_score (compared_or S (some 1) f x) → points_of r ≤ 64
+  one_few_le f x r e =
+      let g : points_of r ≡ points_of (as_score (compared_or S (some 1) f x)) = ap (λ (z : Maybe Score). points_of z) e in
+      omega (arith, one_few (Some (record { points = 1 })) f x (omega arith))
 
   pub none_few : (f : Option Param) (x : Ty) → points_of (as_score (compared_or S none f x)) ≤ 2
   none_few f x = one_few None f x (omega arith)
 
+  score_few : (f : Option Param) (n : Option ℕ) (x : Ty) → points_of (as_score (score_one S f n x)) ≤ 2
+  unfolding score_one
+  score_few (some p) n x = compared_few p x
+  score_few none none x = omega arith
+  score_few none (some id) x = omega arith
+
   named_few : (ps : List Param) (m : Option ℕ) (x : Ty) → points_of (as_score (named_one S ps m x)) ≤ 2
-  unfolding named_one compared_with
+  unfolding named_one
   named_few ps none x = omega arith
-  named_few ps (some id) x = go (param_named id ps)
-    where
-      go : (f : Option Param) → points_of (as_score (compared_with S f x)) ≤ 2
-      go none = omega arith
-      go (some p) = compared_few p x
+  named_few ps (some id) x = score_few (param_named id ps) (some id) x
 
-  unnamed_few : (f : Option Param) (v : Bool) (m : Option ℕ) (x : Ty) → points_of (as_score (unnamed_one S f v m x)) ≤ 2
+  unnamed_few : (fs : List Param) (m : Option ℕ) (x : Ty) → points_of (as_score (unnamed_one S fs m x)) ≤ 2
   unfolding unnamed_one
-  unnamed_few f v (some id) x = omega arith
-  unnamed_few (some p) v none x = compared_few p x
-  unnamed_few none true none x = omega arith
-  unnamed_few none false none x = omega arith
-
-pub vararg_few : (v : Bool) (o : Maybe Score) → o ≡ unmatched v → points_of o ≤ 2
-vararg_few v o e = let f : points_of o ≡ points_of (unmatched v) = ap (λ (z : Maybe Score). points_of z) e in omega (arith, few v)
-  where
-    few : (v : Bool) → points_of (unmatched v) ≤ 2
-    few true = omega arith
-    few false = omega arith
+  unnamed_few fs (some id) x = omega arith
+  unnamed_few fs none x = score_few (next_param fs) none x
 
 -- a sum has at most the points of both
 plus_few : (a b : Option ℕ) → points_of (as_score (plus a b)) ≤ points_of (as_score a) + points_of (as_score b)
@@ -162,17 +164,16 @@ sum_few r s one n e h w =
 module _ (t : List ℕ) (p : List Read) (n : Maybe ℕ) (x : Ty) (m : NamedPass) where
   -- an unnamed argument
   pub named_passed : n ≡ None → m ≡ named_more t p (optional n) x m
-  unfolding named_one mark_one
+  unfolding named_one
   named_passed e =
       let f : optional n ≡ none = ap (λ (k : Maybe ℕ). optional k) e in
       pass_is (add_nothing m.score _ (ap (λ (k : Option ℕ). named_one (symbols_of t) (params_in t p) k x) f))
-      (sym (ap (λ (k : Option ℕ). mark_one (params_in t p) k m.marks) f))
+      (sym (ap (λ (k : Option ℕ). mark_one (params_in t p) k m.marks) f ∙ mark_none (params_in t p) m.marks))
 
   -- one that names the parameter q at r, if any
   pub named_added : (id : ℕ) → n ≡ Some id → (r : Maybe ℕ) → r ≡ named_place t p id → (q : Maybe Read) → q ≡ param_at p r → (one s : Maybe Score)
       (marks : List Bool) → one ≡ as_score (compared_or (symbols_of t) none (param_here t q) x) → s ≡ as_score (plus (score_of m.score) (score_of one))
-      → marks ≡ mark_at (place_read r) m.marks → ◌≡◌ {A = NamedPass} (record { score = s; marks = marks }) (named_more t p (optional n) x m)
-  unfolding mark_one
+      → marks ≡ mark_one (params_in t p) (some id) m.marks → ◌≡◌ {A = NamedPass} (record { score = s; marks = marks }) (named_more t p (optional n) x m)
   named_added id h r e q w one s marks f g k =
       let z : optional n ≡ some id = ap (λ (k : Maybe ℕ). optional k) h in
       let c : score_of one ≡ named_one (symbols_of t) (params_in t p) (optional n) x
@@ -180,8 +181,7 @@ module _ (t : List ℕ) (p : List Read) (n : Maybe ℕ) (x : Ty) (m : NamedPass)
       ∙ ap (λ (o : Option Param). compared_or (symbols_of t) none o x) (sym (param_named_is t p id r e))
       ∙ named_is (symbols_of t) (params_in t p) id x ∙ ap (λ (k : Option ℕ). named_one (symbols_of t) (params_in t p) k x) (sym z) in
       pass_is (g ∙ ap (λ (k : Option ℕ). as_score (plus (score_of m.score) k)) c)
-      (k ∙ ap (λ (o : Option ℕ). mark_at o m.marks) (sym (place_named_is t p id r e))
-      ∙ ap (λ (k : Option ℕ). mark_one (params_in t p) k m.marks) (sym z))
+      (k ∙ ap (λ (k : Option ℕ). mark_one (params_in t p) k m.marks) (sym z))
 
 module _ (t : List ℕ) (p : List Read) (ts : List Ty) (xs : List Arg) where
   -- the arguments before number i give the pass m
@@ -220,66 +220,86 @@ module _ (t : List ℕ) (p : List Read) (ts : List Ty) (xs : List Arg) where
         (sym (ap (λ (xs : List Seen). marks_from (params_in t p) m.marks xs) e) ∙ w.marked)
 
 -- ---- the positional pass
-module _ (S : Symbols) (f : Option Param) (v : Bool) (n : Maybe ℕ) (x : Ty) (r : Maybe Score) where
+module _ (t : List ℕ) (p : List Read) (marks : List Bool) (n : Maybe ℕ) (x : Ty) (w : PositionalPass) where
   -- a named argument
-  pub unnamed_passed : (id : ℕ) → n ≡ Some id → r ≡ as_score (plus (score_of r) (unnamed_one S f v (optional n) x))
-  unfolding unnamed_one
-  unnamed_passed id h = add_nothing r _ (ap (λ (k : Maybe ℕ). unnamed_one S f v (optional k) x) h)
+  pub unnamed_passed : is_some n ≡ true → TakenOne t p marks (optional n) x w w
+  unfolding unnamed_one left_behind
+  unnamed_passed h = go n h
+    where
+      go : (n : Maybe ℕ) → is_some n ≡ true → TakenOne t p marks (optional n) x w w
+      go None h = absurd (true≢false (sym h))
+      go (Some id) h = record { score = add_nothing w.score _ refl; left = refl }
 
-  -- an unnamed one
-  pub unnamed_added : n ≡ None → (o one s : Maybe Score) → o ≡ unmatched v → one ≡ as_score (compared_or S (score_of o) f x)
-      → s ≡ as_score (plus (score_of r) (score_of one)) → s ≡ as_score (plus (score_of r) (unnamed_one S f v (optional n) x))
-  unnamed_added e o one s d g k =
-      k ∙ ap (λ (z : Option ℕ). as_score (plus (score_of r) z))
-      (score_of_lem one _ g ∙ ap (λ (z : Maybe Score). compared_or S (score_of z) f x) d ∙ unnamed_is S f v x
-      ∙ ap (λ (k : Maybe ℕ). unnamed_one S f v (optional k) x) (sym e))
+  -- an unnamed one, whose turn is r
+  pub unnamed_added : is_some n ≡ false → (r : Received) → ReceivedIs t p marks w.next none r → (one s : Maybe Score)
+      → one ≡ as_score (compared_or (symbols_of t) (some 1) (param_here t r.param) x) → s ≡ as_score (plus (score_of w.score) (score_of one))
+      → TakenOne t p marks (optional n) x w (record { score = s; next = r.next })
+  unfolding parameter_for
+  unnamed_added h r e one s f g = go n h
+    where
+      c : score_of one ≡ unnamed_one (symbols_of t) (left_in t p marks w.next) none x
+      c = score_of_lem one _ f ∙ ap (λ (o : Option Param). compared_or (symbols_of t) (some 1) o x) e.param ∙ unnamed_is (symbols_of t) (left_in t p marks w.next) x
 
-module _ (S : Symbols) (f : Option Param) (v : Bool) (ts : List Ty) (xs : List Arg) where
-  -- the arguments before number i give the score s
-  pub record UnnamedFrom (s : Maybe Score) (i : ℕ) : Type 0 where
-    pub few : points_of s ≤ 2 * i
-    pub score : plus (score_of s) (unnamed_score S f v (args_in ts (drop i xs))) ≡ unnamed_score S f v (args_in ts xs)
+      go : (n : Maybe ℕ) → is_some n ≡ false → TakenOne t p marks (optional n) x w (record { score = s; next = r.next })
+      go None h = record { score = g ∙ ap (λ (k : Option ℕ). as_score (plus (score_of w.score) k)) c; left = e.left }
+      go (Some id) h = absurd (true≢false h)
 
-  pub unnamed_start : UnnamedFrom (Some (record { points = 0 })) 0
-  unnamed_start = record { few = omega arith; score = plus_zero (unnamed_score S f v (args_in ts xs)) }
+module _ (t : List ℕ) (p : List Read) (marks : List Bool) (ts : List Ty) (xs : List Arg) where
+  -- the arguments before number i give the pass w
+  pub record UnnamedFrom (w : PositionalPass) (i : ℕ) : Type 0 where
+    pub few : points_of w.score ≤ 2 * i
+    pub score : plus (score_of w.score) (unnamed_score (symbols_of t) (left_in t p marks w.next) (args_in ts (drop i xs)))
+        ≡ unnamed_score (symbols_of t) (unmarked (params_in t p) marks) (args_in ts xs)
 
-  module _ (s : Maybe Score) (i : ℕ) (w : UnnamedFrom s i) where
-    pub unnamed_next : (s' : Maybe Score) (y : Ty) (d : Arg) → i < length xs → y ≡ type_at ts (get_or xs i d).node
-        → s' ≡ as_score (plus (score_of s) (unnamed_one S f v (optional (get_or xs i d).name) y)) → UnnamedFrom s' (i + 1)
+  pub unnamed_start : UnnamedFrom (record { score = Some (record { points = 0 }); next = 0 }) 0
+  unfolding left_in
+  unnamed_start = record { few = omega arith; score = plus_zero (unnamed_score (symbols_of t) (unmarked (params_in t p) marks) (args_in ts xs)) }
+
+  module _ (w : PositionalPass) (i : ℕ) (from : UnnamedFrom w i) where
+    pub unnamed_next : (w' : PositionalPass) (y : Ty) (d : Arg) → i < length xs → y ≡ type_at ts (get_or xs i d).node
+        → TakenOne t p marks (optional (get_or xs i d).name) y w w' → UnnamedFrom w' (i + 1)
     unfolding unnamed_score
-    unnamed_next s' y d h k e' =
+    unnamed_next w' y d h k e =
         let a = get_or xs i d in
-        let one = unnamed_one S f v (optional a.name) (type_at ts a.node) in
-        let e : s' ≡ as_score (plus (score_of s) one) = e' ∙ ap (λ (z : Ty). as_score (plus (score_of s) (unnamed_one S f v (optional a.name) z))) k in
+        let fs = left_in t p marks w.next in
+        let one = unnamed_one (symbols_of t) fs (optional a.name) (type_at ts a.node) in
+        let f : w'.score ≡ as_score (plus (score_of w.score) one)
+        = e.score ∙ ap (λ (z : Ty). as_score (plus (score_of w.score) (unnamed_one (symbols_of t) fs (optional a.name) z))) k in
         record {
-          few = sum_few s' s one i e (unnamed_few S f v (optional a.name) (type_at ts a.node)) w.few;
-          score = sum_turn (score_of s) one _ (score_of_lem s' _ e) (ap (λ (xs : List Seen). unnamed_score S f v xs) (args_next ts xs i d h)) w.score;
+          few = sum_few w'.score w.score one i f (unnamed_few (symbols_of t) fs (optional a.name) (type_at ts a.node)) from.few;
+          score = sum_turn (score_of w.score) one _ (score_of_lem w'.score _ f)
+              (ap (λ (xs : List Seen). unnamed_score (symbols_of t) fs xs) (args_next ts xs i d h)
+              ∙ ap (λ (fs' : List Param). plus one (unnamed_score (symbols_of t) fs' (args_in ts (drop (i + 1) xs)))) (sym e.left))
+              from.score;
         }
 
-    pub unnamed_done : length xs ≤ i → s ≡ as_score (unnamed_score S f v (args_in ts xs))
+    pub unnamed_done : length xs ≤ i → w.score ≡ as_score (positional_in t p marks (args_in ts xs))
     unfolding unnamed_score
     unnamed_done h =
-        sym (score_forth s)
-        ∙ ap (λ (z : Option ℕ). as_score z) (sum_done (ap (λ (xs : List Seen). unnamed_score S f v xs) (args_none ts xs i h)) w.score)
+        sym (score_forth w.score)
+        ∙ ap (λ (z : Option ℕ). as_score z)
+        (sum_done (ap (λ (xs : List Seen). unnamed_score (symbols_of t) (left_in t p marks w.next) xs) (args_none ts xs i h)) from.score)
 
 -- ---- both
 -- the passes n and s
 module _ (t : List ℕ) (f : Function) (xs : List Seen) (n : NamedPass) (s : Maybe Score) (e : n ≡ named_in t f.params.items xs)
-    (g : s ≡ as_score (positional_in t f.params.items n.marks xs)) where
+    (g : s ≡ as_score (positional_in t f.params.items n.marks xs)) (few : length f.params.items ≤ 16) where
   pub score_is : (r : Maybe Score) → r ≡ as_score (plus (score_of n.score) (score_of s)) → r ≡ as_score (score_in t f xs)
   unfolding score
   score_is r h =
+      let ps = params_in t f.params.items in
+      let wide : length ps ≤ 16 = omega (arith, params_length t f.params.items) in
+      let free : unmarked ps n.marks ≡ free_params ps xs = ap (λ (z : NamedPass). unmarked ps z.marks) e ∙ unmarked_free ps xs wide in
       h ∙ ap (λ (z : Option ℕ). as_score (plus z (score_of s))) (score_of_lem n.score _ (ap (λ (z : NamedPass). z.score) e))
-      ∙ ap (λ (z : Option ℕ). as_score (plus (named_score (symbols_of t) (params_in t f.params.items) xs) z))
-      (score_of_lem s _ g ∙ ap (λ (z : NamedPass). positional_in t f.params.items z.marks xs) e)
+      ∙ ap (λ (z : Option ℕ). as_score (plus (named_score (symbols_of t) ps xs) z))
+      (score_of_lem s _ g ∙ ap (λ (fs : List Param). unnamed_score (symbols_of t) fs xs) free)
+      ∙ ap (λ (z : Option ℕ). as_score z) (sym (score_split (symbols_of t) ps (free_params ps xs) xs))
 
 -- ---- what the functions' proofs take
 pub ruleset comparison = (compared_same, compared_taken, compared_not)
 
 pub ruleset named_one_more = (named_passed, named_added, none_few)
 
-pub ruleset unnamed_one_more = (unnamed_passed, unnamed_added, one_few)
-
 pub ruleset named_whole = (named_start, named_done)
 
-pub ruleset unnamed_whole = (unnamed_start, unnamed_done, vararg_few)
+pub ruleset unnamed_whole = (unnamed_start, unnamed_done)

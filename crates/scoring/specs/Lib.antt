@@ -1,5 +1,5 @@
 pub mod Arg
 pub mod Arity
+pub mod WithParams
 pub mod Score
-pub mod Unnamed
 pub mod Inside

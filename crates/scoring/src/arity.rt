@@ -15,7 +15,7 @@ fn required(params: &Params) -> usize
 
 // Whether the last parameter is vararg.
 #[tactic(auto, using(crate::proofs::Arities::last_some, crate::proofs::Arities::last_none))]
-pub fn last_vararg(params: &Params) -> bool
+fn last_vararg(params: &Params) -> bool
     ensures { (t : List ℕ) → result ≡ last_vararg (params_in t params.now.items) }
 {
     params.last().is_some_and(|p| p.vararg)

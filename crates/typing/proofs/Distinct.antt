@@ -1,16 +1,13 @@
--- In an accepted table no two parameters of a function have one name, so that an unnamed argument is compared with the first parameter that no argument names.
---
-use Prim.Native.Nat.{ℕ}
+-- In an accepted table no two parameters of a function have one name, and a function has at most 16.
+use Prim.Native.Nat.{ℕ, ◌≤◌}
+use lib.ListN.{length}
 use borrow.Author.Tests.{ne_eqb}
 use mathlib.Core.List.Memᴰ
 use mathlib.Core.List.{List, [], ◌∷◌, Memᴰ}
 use mathlib.Core.Logic.{◌⊎◌, inl, inr}
 use mathlib.Core.Option.{none}
 use mathlib.Core.Path.{◌≡◌, refl}
-use Rattle.scoring.proofs.FirstUnnamed.{free_unnamed}
-use Rattle.scoring.specs.Arg.{Arg}
-use Rattle.scoring.specs.Score.{param_named, free}
-use Rattle.scoring.specs.Unnamed.{first_unnamed, NamesDiffer}
+use Rattle.scoring.specs.WithParams.{param_named, NamesDiffer}
 use Rattle.record.proofs.EveryRecord.{Every}
 use Rattle.symbol.proofs.AcceptedTable.{FunctionGood, functions_good}
 use Rattle.symbol.proofs.ParamNames.{Absent, Distinct}
@@ -37,9 +34,12 @@ among (x ∷ os) g o m = go (Memᴰ.cases_cons m) (among os g.1 o)
     go (inl e) f = rw e g.0
     go (inr n) f = f n
 
--- document 01: every unnamed argument is compared with the same parameter, the first that no argument names
-pub first_unnamed_lem : (t : List ℕ) → table_fault t ≡ 0 → (owner id : ℕ) (o : Overload) → Memᴰ o ((symbols_of t).functions_of owner id) → (xs : List Arg)
-    → free o.params xs ≡ first_unnamed o.params xs
-first_unnamed_lem t e owner id o m xs =
-    let g : FunctionGood o = among ((symbols_of t).functions_of owner id) (functions_good t e owner id) o m in
-    free_unnamed o.params xs (names_differ o.params g.distinct) g.few
+module _ (t : List ℕ) (e : table_fault t ≡ 0) (owner id : ℕ) (o : Overload) (m : Memᴰ o ((symbols_of t).functions_of owner id)) where
+  good : FunctionGood o
+  good = among ((symbols_of t).functions_of owner id) (functions_good t e owner id) o m
+
+  pub names_apart : NamesDiffer o.params
+  names_apart = names_differ o.params good.distinct
+
+  pub few_params : length o.params ≤ 16
+  few_params = good.few

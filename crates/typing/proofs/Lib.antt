@@ -25,3 +25,5 @@ pub mod Wrong
 pub mod Distinct
 pub mod CleanCalls
 pub mod Spreading
+pub mod Order4Accepted
+pub mod AsBeforeAccepted

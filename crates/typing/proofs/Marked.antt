@@ -13,7 +13,7 @@ use Rattle.symbol.specs.Lookup.{symbols_of}
 use Rattle.symbol.specs.Symbols.{Symbols}
 use Rattle.ty.specs.Name.{list_id, mutable_list_id, no_id}
 use Rattle.typing.proofs.Computed.{computed}
-use Rattle.typing.proofs.Samples.{letter, class, no_super, operators, function, param, script, leaf, binary, unary, named, call, int, long, float, double, boolean, string, any, error, nullable, pointer, array, list, map_to, function_to, named_class, diagnostic, Passes, Fails}
+use Rattle.typing.proofs.Samples.{letter, class, no_super, operators, function, param, script, leaf, binary, unary, named, call, int, long, float, double, boolean, string, any, error, nullable, pointer, array, list, map_to, function_to, named_class, diagnostic, Says, Passes, Fails}
 use Rattle.typing.specs.Answer.{Answer, refused, answer_of, buffer_of}
 
 -- an argument of a type, with a name or without
@@ -49,12 +49,12 @@ related = letter 120 ++ (letter 121 ++ (letter 102 ++ (letter 112 ++ (class 41 n
 abbrev Related : List ℕ → List ℕ → Bool → Type 0
 Related a b answer = assigns (symbols_of related) a b ≡ answer
 
--- f, p and q are 40, 41 and 42: f(p Int, q String) and f(p Int, q Int)
+-- f, p and q are 40, 41 and 42: f(p Int, q String) and f(p Int, q Int), the second with another result
 abbrev first : List ℕ
 first = letter 102 ++ (letter 112 ++ (letter 113 ++ function 40 int 2 (param 41 int ++ param 42 string)))
 
 abbrev two : List ℕ
-two = first ++ function 40 int 2 (param 41 int ++ param 42 int)
+two = first ++ function 40 string 2 (param 41 int ++ param 42 int)
 
 -- f, a and b are 40, 41 and 42: f(a Int, b Int)
 abbrev ints : List ℕ
@@ -106,18 +106,21 @@ pub record Marked : Type 0 where
   -- "◆ NotNull gives Error and a diagnostic on Int; a nullable operand is reported earlier."
   not_null : Fails [] (script (unary 6 (leaf int))) error (diagnostic 13 0 0)
   not_null_nullable : Fails [] (script (unary 6 (leaf (nullable int)))) error (diagnostic 8 0 0)
-  -- "◆ Overloads f(Int, String) and f(Int, Int) called f(Int, String): neither matches, diagnostic 18."
-  no_match : Fails two (script (call 40 2 (leaf int ++ leaf string))) error (diagnostic 18 0 0)
-  no_match_scores : scores_of two 40 (arg none int ∷ arg none string ∷ []) ≡ none ∷ none ∷ []
-  -- "◆ Called f(Int, Int): both match with 4, a tie of two."
-  tie : Fails two (script (call 40 2 (leaf int ++ leaf int))) int (diagnostic 19 0 2)
-  tie_scores : scores_of two 40 (arg none int ∷ arg none int ∷ []) ≡ some 4 ∷ some 4 ∷ []
-  -- "With f(Int, String) as the only overload, f(Int, String) matches nothing and passes by the check by index"
+  -- "◆ Overloads f(Int, String) and f(Int, Int) called f(Int, String): neither matches" and "◆ Called f(Int, Int): both match with 4, a tie of two" are turned
+  -- round by order 4: "f(Int, String) chooses the first of the two marked overloads, and f(Int, Int) the second" (whose result here is String)
+  first_chosen : Passes two (script (call 40 2 (leaf int ++ leaf string))) int
+  first_scores : scores_of two 40 (arg none int ∷ arg none string ∷ []) ≡ some 4 ∷ none ∷ []
+  second_chosen : Passes two (script (call 40 2 (leaf int ++ leaf int))) string
+  second_scores : scores_of two 40 (arg none int ∷ arg none int ∷ []) ≡ none ∷ some 4 ∷ []
+  -- "With f(Int, String) as the only overload, f(Int, String) matches nothing and passes by the check by index": it matches now
   only : Passes first (script (call 40 2 (leaf int ++ leaf string))) int
-  only_scores : scores_of first 40 (arg none int ∷ arg none string ∷ []) ≡ none ∷ []
-  -- "◆ f(p Int, q String) called f(q = Int, String) matches nothing, yet the only fitting overload is then checked by index and passes silently."
-  by_index : Passes first (script (call 40 2 (named 42 (leaf int) ++ leaf string))) int
-  by_index_scores : scores_of first 40 (arg (some 42) int ∷ arg none string ∷ []) ≡ none ∷ []
+  only_scores : scores_of first 40 (arg none int ∷ arg none string ∷ []) ≡ some 4 ∷ []
+  -- "◆ f(p Int, q String) called f(q = Int, String) matches nothing, yet the only fitting overload is then checked by index and passes silently": "The marked
+  -- call f(q = Int, String) now gives two mismatches"
+  own_parameters : Says first (script (call 40 2 (named 42 (leaf int) ++ leaf string))) 0 int 2 (diagnostic 17 1 1 ++ diagnostic 17 3 2)
+  own_scores : scores_of first 40 (arg (some 42) int ∷ arg none string ∷ []) ≡ none ∷ []
+  -- (each argument the other way round matches its own)
+  own_passes : Passes first (script (call 40 2 (named 42 (leaf string) ++ leaf int))) int
   -- "◆ f(a Int, b Int) called f(a = Int, a = Int) matches."
   twice-named : Passes ints (script (call 40 2 (named 41 (leaf int) ++ named 41 (leaf int)))) int
   twice_scores : scores_of ints 40 (arg (some 41) int ∷ arg (some 41) int ∷ []) ≡ some 4 ∷ []
@@ -159,14 +162,15 @@ marked = record {
   climb_goes = record { answer = refl; buffer = refl };
   not_null = record { answer = refl; buffer = refl };
   not_null_nullable = record { answer = refl; buffer = refl };
-  no_match = record { answer = refl; buffer = refl };
-  no_match_scores = refl;
-  tie = record { answer = refl; buffer = refl };
-  tie_scores = refl;
+  first_chosen = record { answer = refl; buffer = refl };
+  first_scores = refl;
+  second_chosen = record { answer = refl; buffer = refl };
+  second_scores = refl;
   only = record { answer = refl; buffer = refl };
   only_scores = refl;
-  by_index = record { answer = refl; buffer = refl };
-  by_index_scores = refl;
+  own_parameters = record { answer = refl; buffer = refl };
+  own_scores = refl;
+  own_passes = record { answer = refl; buffer = refl };
   twice-named = record { answer = refl; buffer = refl };
   twice_scores = refl;
   sample = refl;

@@ -4,7 +4,7 @@ use borrow.Author.Tests.{eqb-true, eqb-false, ltb-false}
 use lib.Dec.{eqb, ltb}
 use mathlib.Core.Bool.{Bool, true, false}
 use mathlib.Core.List.Memᴰ
-use mathlib.Core.List.{List, [], ◌∷◌, ◌++◌, nil≢cons, head-eq_of_cons-eq, tail-eq_of_cons-eq, Memᴰ}
+use mathlib.Core.List.{List, [], ◌∷◌, ◌++◌, nil≢cons, Memᴰ}
 use mathlib.Core.Logic.{◌≢◌, ◌⊎◌, inl, inr, ◌↔◌}
 use mathlib.Core.Option.{Option, none, some}
 use mathlib.Core.Path.{◌≡◌, refl, ap, sym, ◌∙◌, subst}
@@ -13,10 +13,11 @@ use Rattle.area.specs.Diagnostic.{Diag}
 use Rattle.scoring.proofs.NoneAndNil.{append_nil_left, append_nil_right, append_nils, some≢none}
 use Rattle.scoring.specs.Arg.{Arg, Verdict, silent}
 use Rattle.scoring.specs.Arity.{any_own}
-use Rattle.overload.specs.Best.{Best, best, better, chosen, nobody}
-use Rattle.overload.specs.ByIndex.{absent, all_unknown, mismatches, unknown_one, unknowns}
+use Rattle.overload.specs.Best.{Best, best, chosen, nobody}
+use Rattle.overload.proofs.Exact.{bears}
+use Rattle.overload.specs.Reports.{absent, all_unknown, unknown_one, unknowns}
 use Rattle.overload.specs.Resolve.{none_fits, resolve, resolve_in, settle, tie_report}
-use Rattle.scoring.specs.Score.{param_named, score}
+use Rattle.scoring.specs.WithParams.{param_named}
 use Rattle.operators.specs.Diag.{diag}
 use Rattle.area.specs.DiagnosticKind.{tie_diag}
 use Rattle.operators.specs.Out.{error_ty}
@@ -24,7 +25,7 @@ use Rattle.symbol.specs.Symbols.{Overload, Param, Symbols}
 use Rattle.ty.specs.Bytes.{Ty}
 use Rattle.ty.specs.Choose.{choose}
 use Rattle.typing.proofs.Chosen.{wins_chosen, Stands, chosen_stands, chosen_nobody}
-use Rattle.typing.specs.CleanCall.{AllKnown, ByIndex, ByScore, CleanArgs, Known, candidates}
+use Rattle.typing.specs.CleanCall.{AllKnown, ByScore, CleanArgs, Known, candidates}
 
 -- known names
 known_found : (id : ℕ) (ps : List Param) → Known id ps → param_named id ps ≡ none → ⊥
@@ -113,27 +114,17 @@ verdict_silent : (t T : Ty) (ds : List Diag) → t ≡ T → ds ≡ [] → ◌�
 verdict_silent t T ds p q = λ i. record { ty = p i; diags = q i }
 
 module _ (S : Symbols) where
-  forth : (u : Bool) (n : ℕ) (xs : List Arg) (vs : List Overload) (T : Ty) → AllKnown vs xs
-      → ByScore S vs xs T ⊎ ByIndex S vs xs T → resolve_in S u n xs vs ≡ silent T
-  unfolding resolve_in settle chosen better none_fits
-  forth u n xs [] T k (inl w) = absurd (nil≢cons (sym (append_nil_right w.wins.front _ (sym w.wins.place))))
-  forth u n xs [] T k (inr w) = absurd (nil≢cons w.alone)
-  forth u n xs (v ∷ vs) T k (inl w) =
+  forth : (u : Bool) (n : ℕ) (xs : List Arg) (vs : List Overload) (T : Ty) → AllKnown vs xs → ByScore S vs xs T → resolve_in S u n xs vs ≡ silent T
+  unfolding resolve_in settle
+  forth u n xs [] T k w = absurd (nil≢cons (sym (append_nil_right w.wins.front _ (sym w.wins.place))))
+  forth u n xs (v ∷ vs) T k w =
       ap (settle S n xs v vs) (wins_chosen S xs (v ∷ vs) w.winner w.points w.wins)
       ∙ verdict_silent w.winner.result T _ (sym w.result) (append_nils (all_silent (v ∷ vs) xs k) (tie-one n))
-  forth u n xs (v ∷ []) T k (inr w) =
-      let p : v ≡ w.only = head-eq_of_cons-eq w.alone in
-      let q : score S v xs ≡ none = rw p w.unmatched in
-      let z : mismatches S v.params 1 xs ≡ [] = rw p w.nothing in
-      let t : v.result ≡ T = rw p (sym w.result) in
-      ap (λ (b : Best). settle S n xs v [] b) (ap (better nobody v) q)
-      ∙ verdict_silent v.result T _ t (append_nils (all_silent (v ∷ []) xs k) z)
-  forth u n xs (v ∷ v' ∷ vs) T k (inr w) = absurd (nil≢cons (sym (tail-eq_of_cons-eq w.alone)))
 
   -- what is known of the fitting overloads where a call is silent and not Error
   record Ruled (vs : List Overload) (xs : List Arg) (T : Ty) : Type 0 where
     known : AllKnown vs xs
-    way : ByScore S vs xs T ⊎ ByIndex S vs xs T
+    chosen : ByScore S vs xs T
 
   back : (u : Bool) (n : ℕ) (xs : List Arg) (vs : List Overload) (T : Ty) → T ≢ error_ty → resolve_in S u n xs vs ≡ silent T → Ruled vs xs T
   unfolding resolve_in settle none_fits
@@ -148,26 +139,15 @@ module _ (S : Symbols) where
           let ge : 1 ≤ c = st.counted in
           record {
             known = silent_all (v ∷ ws) xs (append_nil_left _ _ d);
-            way = inl (record { winner = o; points = s; wins = st.single (omega arith); result = ap (λ (z : Verdict). z.ty) (sym q) });
+            chosen = record { winner = o; points = s; wins = st.single (omega arith); result = ap (λ (z : Verdict). z.ty) (sym q) };
           }
-      go [] nobody p q =
-          let d : all_unknown (v ∷ []) xs ++ mismatches S v.params 1 xs ≡ [] = ap (λ (z : Verdict). z.diags) q in
-          record {
-            known = silent_all (v ∷ []) xs (append_nil_left _ _ d);
-            way = inr (record {
-              only = v;
-              alone = refl;
-              unmatched = chosen_nobody S xs (v ∷ []) p v (Memᴰ.head refl);
-              nothing = append_nil_right (all_unknown (v ∷ []) xs) _ d;
-              result = ap (λ (z : Verdict). z.ty) (sym q);
-            });
-          }
+      go [] nobody p q = absurd (bears S v xs (chosen_nobody S xs (v ∷ []) p v (Memᴰ.head refl)) (ap (λ (z : Verdict). z.diags) q))
       go (w ∷ ws) nobody p q = absurd (h (ap (λ (z : Verdict). z.ty) (sym q)))
 
   -- a call is silent, and not Error, exactly where its clean rule holds
   pub law : (os : List Overload) (n : ℕ) (xs : List Arg) (T : Ty) → T ≢ error_ty → CleanArgs S os xs T ↔ (resolve S os n xs ≡ silent T)
   unfolding resolve
   law os n xs T h = (
-    λ c. forth (any_own os) n xs (candidates os xs) T c.known c.way,
-    λ e. let r = back (any_own os) n xs (candidates os xs) T h e in record { known = r.known; way = r.way },
+    λ c. forth (any_own os) n xs (candidates os xs) T c.known c.chosen,
+    λ e. let r = back (any_own os) n xs (candidates os xs) T h e in record { known = r.known; chosen = r.chosen },
   )

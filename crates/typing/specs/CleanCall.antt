@@ -1,11 +1,10 @@
--- The clean rules of calls. Document 01, "Clean rules". Only which overloads are usable and fit, scoring, and the check by index are
--- shared with the definition of `check_call_args`.
+-- The clean rules of calls. Document 01, "Clean rules", without the second way that document 02, order 4, takes out. Only which overloads are usable and fit,
+-- and scoring are shared with the definition of `check_call_args`.
 use Rattle.std.specs.Prelude.{ℕ, ◌<◌, length, true, false, ◌⊎◌, ◌≡◌}
-use mathlib.Core.List.{List, [], ◌∷◌, ◌++◌, Memᴰ}
-use Rattle.std.proofs.Math.Option.{none, some}
+use mathlib.Core.List.{List, ◌∷◌, ◌++◌, Memᴰ}
+use Rattle.std.proofs.Math.Option.{some}
 use Rattle.scoring.specs.Arg.{Arg}
 use Rattle.scoring.specs.Arity.{usable, fitting}
-use Rattle.overload.specs.ByIndex.{mismatches}
 use Rattle.scoring.specs.Score.{score}
 use Rattle.question.specs.declared.Header.{Header}
 use Rattle.rules.specs.Access.{blocked}
@@ -52,18 +51,10 @@ module _ (S : Symbols) where
     pub wins : Wins vs xs winner points
     pub result : T ≡ winner.result
 
-  -- "or just one fits, it doesn't match, and the check by index finds nothing"
-  pub record ByIndex (vs : List Overload) (xs : List Arg) (T : Ty) : Type 0 where
-    pub only : Overload
-    pub alone : vs ≡ only ∷ []
-    pub unmatched : score S only xs ≡ none
-    pub nothing : mismatches S only.params 1 xs ≡ []
-    pub result : T ≡ only.result
-
   -- a list of functions may be called with these arguments; "its type is that overload's result"
   pub record CleanArgs (os : List Overload) (xs : List Arg) (T : Ty) : Type 0 where
     pub known : AllKnown (candidates os xs) xs
-    pub way : ByScore (candidates os xs) xs T ⊎ ByIndex (candidates os xs) xs T
+    pub chosen : ByScore (candidates os xs) xs T
 
   -- an object of the type t has a Named base with a list of that name
   pub record HasList (id : ℕ) (t : Ty) : Type 0 where

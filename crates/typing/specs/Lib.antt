@@ -3,6 +3,7 @@ pub mod Judge
 pub mod Mark
 pub mod Answer
 pub mod CleanCall
+pub mod Order4Accepted
 pub mod Visits
 pub mod Typing
 pub mod Demand1

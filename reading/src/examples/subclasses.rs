@@ -251,13 +251,15 @@ fn calls_of_one_overload(list: &mut List) {
     let mut one = chain();
     one.plain(F, &[CHAR], &[(P, 0, t(INT)), (Q, 0, named(B))]);
     let up = call(F, &[l(INT), leaf(&named(A))]);
-    list.tree("order2.the-check-by-index-takes-a-subclass", &one, up, "0 1 1 07 0");
+    list.tree("order2.the-second-parameter-takes-a-subclass", &one, up, "0 1 1 07 0");
     let down = call(F, &[l(INT), leaf(&named(C))]);
-    list.tree("order2.the-check-by-index-reports-a-superclass", &one, down, "0 0 1 07 1/17 2 2");
+    list.tree("order2.the-second-parameter-does-not-take-a-superclass", &one, down, "0 0 1 07 1/17 2 2");
     let mut same = chain();
     same.plain(F, &[CHAR], &[(P, 0, named(C)), (Q, 0, named(A))]);
+    let tree = call(F, &[leaf(&named(B)), leaf(&named(A))]);
+    list.tree("order2.both-unnamed-match-their-own-parameters", &same, tree, "0 1 1 07 0");
     let tree = call(F, &[leaf(&named(A)), leaf(&named(B))]);
-    list.tree("order2.both-unnamed-match-the-top", &same, tree, "0 1 1 07 0");
+    list.tree("order2.both-unnamed-would-match-the-top", &same, tree, "0 0 1 07 1/17 2 2");
     let mut owned = chain();
     owned.function(Z, F, 0, false, &named(A), &[(P, 0, named(B))]);
     let on = |argument: u16| method(F, &leaf(&named(Z)), &[leaf(&named(argument))]);

@@ -1,11 +1,13 @@
 //! Generated cases: the same bytes on every machine for a seed, a profile and an index.
 
+pub mod arguments;
 pub mod boundary;
 pub mod classes;
 pub mod damage;
 pub mod load;
 pub mod model;
 pub mod names;
+pub mod own_parameters;
 pub mod sweep;
 pub mod typed;
 
@@ -62,9 +64,13 @@ pub enum Profile {
     Below,
     /// Every id at both ends of what the names before it define; every fault of a name among names.
     Names,
+    /// Calls of several arguments over lists of overloads, half of them with one unnamed argument at most.
+    Arguments,
+    /// Lists of up to two overloads of up to two parameters, with up to three arguments.
+    OwnParameters,
 }
 
-pub const PROFILES: [(Profile, &str); 20] = [
+pub const PROFILES: [(Profile, &str); 22] = [
     (Profile::Rich, "rich"),
     (Profile::Calls, "calls"),
     (Profile::Wide, "wide"),
@@ -85,6 +91,8 @@ pub const PROFILES: [(Profile, &str); 20] = [
     (Profile::Classes, "classes"),
     (Profile::Below, "below"),
     (Profile::Names, "names"),
+    (Profile::Arguments, "arguments"),
+    (Profile::OwnParameters, "own-parameters"),
 ];
 
 impl Profile {
@@ -107,6 +115,7 @@ impl Profile {
             Profile::Flips => Some(sweep::flips_count()),
             Profile::Below => Some(sweep::below_count()),
             Profile::Names => Some(names::names_count()),
+            Profile::OwnParameters => Some(own_parameters::own_parameters_count()),
             _ => None,
         }
     }
@@ -153,6 +162,8 @@ pub fn case(profile: Profile, seed: u64, index: u64) -> Case {
         Profile::Classes => classes::classes(&mut rng, index),
         Profile::Below => sweep::below(at),
         Profile::Names => names::names(at),
+        Profile::Arguments => arguments::arguments(&mut rng, index),
+        Profile::OwnParameters => own_parameters::own_parameters(at),
     };
     Case { table, question, buffer: buffer_length(&mut rng) }
 }
@@ -160,7 +171,7 @@ pub fn case(profile: Profile, seed: u64, index: u64) -> Case {
 /// The profiles without an end, mixed. In every other round those that have superclasses by the way have none, so that
 /// the Rust is a yardstick of the same shapes.
 pub fn mixed(seed: u64, index: u64) -> Case {
-    const TURN: [(Profile, bool); 13] = [
+    const TURN: [(Profile, bool); 14] = [
         (Profile::Rich, true),
         (Profile::Calls, true),
         (Profile::Wide, false),
@@ -174,6 +185,7 @@ pub fn mixed(seed: u64, index: u64) -> Case {
         (Profile::Typed, true),
         (Profile::Load, true),
         (Profile::Classes, false),
+        (Profile::Arguments, false),
     ];
     let round = index / TURN.len() as u64;
     let (profile, by_the_way) = TURN[(index % TURN.len() as u64) as usize];

@@ -355,7 +355,7 @@ impl Model {
         }
         count = count.min(16).min(nodes / 2);
         let naming = *rng.pick(&[0, 0, 0, 30, 60, 100]);
-        // First who is named, since every unnamed argument meets the first parameter that nobody names.
+        // First who is named: an unnamed argument is made for the first parameter that nobody names, or for that at its place.
         let chosen: Vec<(Option<u16>, Option<&Param>)> = (0..count)
             .map(|i| {
                 let param = params.get(i);
@@ -570,7 +570,7 @@ pub fn wide(rng: &mut Rng) -> Pair {
             }
         }
         2 => {
-            // One overload, mismatches by index at some positions.
+            // One overload, mismatches at some positions.
             let row: Vec<Param> = (0..count).map(|i| (params[i], 0, int.clone())).collect();
             add(&mut table, &row);
             for param in params.iter().take(count) {

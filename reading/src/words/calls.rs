@@ -1,4 +1,5 @@
-//! `check_call_args` on a list that is not empty, behind the suspend check and the arguments.
+//! `check_call_args` on a list that is not empty, behind the suspend check and the arguments; with document 02's order 4,
+//! "each argument against its own parameter".
 
 use super::parameter::param_accepts;
 use super::question::{Shape, Tree};
@@ -39,7 +40,7 @@ pub fn fits(function: &Function, count: usize) -> bool {
     required <= count && (count <= params.len() || last_is_vararg(params))
 }
 
-pub fn last_is_vararg(params: &[Param]) -> bool {
+fn last_is_vararg(params: &[Param]) -> bool {
     params.last().is_some_and(|p| p.vararg)
 }
 
@@ -55,31 +56,41 @@ pub fn knows(function: &Function, name: u16) -> bool {
     function.params.iter().any(|p| p.name == name)
 }
 
-/// The score of an overload that fits in number; none where it does not match. "In scoring, every unnamed
-/// argument is compared with the same parameter, the first that no argument names ..; where every parameter is
-/// named and the last is vararg, an unnamed argument scores 1."
-pub fn score(symbols: &Symbols, function: &Function, arguments: &[Argument]) -> Option<usize> {
+/// The parameter that each argument is compared with, in argument order; none where it gets none. Document 02, order 4:
+/// "the unnamed arguments take, in turn, the parameters that no argument names, each parameter once"; "a named argument is
+/// compared with the parameter of its name".
+pub fn own<'f>(function: &'f Function<'f>, arguments: &[Argument]) -> Vec<Option<&'f Param<'f>>> {
     let params = &function.params;
-    let named = |p: &&Param| arguments.iter().any(|a| a.name == Some(p.name));
-    let first_free = params.iter().find(|p| !named(p));
-    arguments
-        .iter()
-        .map(|argument| match (argument.name, first_free) {
-            (Some(name), _) => worth(symbols, params.iter().find(|p| p.name == name)?, argument.ty),
-            (None, Some(param)) => worth(symbols, param, argument.ty),
-            (None, None) => last_is_vararg(params).then_some(1),
-        })
-        .sum()
+    let named = |param: &&Param| arguments.iter().any(|a| a.name == Some(param.name));
+    let mut free = params.iter().filter(|p| !named(p));
+    let one = |argument: &Argument| match argument.name {
+        Some(name) => params.iter().find(|p| p.name == name),
+        None => free.next(),
+    };
+    arguments.iter().map(one).collect()
 }
 
-/// The positions from 1 of the mismatches that "the check by index, which compares argument i with parameter
-/// i" finds. Any and Error are accepted everywhere, so they are never found.
+/// The score of an overload that fits in number; none where it does not match: "scoring .. use[s] this". "An unnamed
+/// argument left without a parameter, as only a vararg allows, scores 1".
+pub fn score(symbols: &Symbols, function: &Function, arguments: &[Argument]) -> Option<usize> {
+    let each = arguments.iter().zip(own(function, arguments));
+    each.map(|(argument, param)| match (argument.name, param) {
+        (_, Some(param)) => worth(symbols, param, argument.ty),
+        (Some(_), None) => None,
+        (None, None) => Some(1),
+    })
+    .sum()
+}
+
+/// The positions from 1 of what "the check of a single unmatched overload, in argument order," finds. An argument "left
+/// without a parameter .. is not reported; an unknown name adds no mismatch". Any and Error are accepted everywhere, so
+/// they are never found.
 pub fn mismatches(symbols: &Symbols, function: &Function, arguments: &[Argument]) -> Vec<usize> {
-    let pairs = arguments.iter().zip(&function.params).enumerate();
-    let differs = |(_, (argument, param)): &(usize, (&Argument, &Param))| {
-        !param_accepts(symbols, param.ty, argument.ty, param.vararg)
+    let each = arguments.iter().zip(own(function, arguments)).enumerate();
+    let differs = |(_, (argument, param)): &(usize, (&Argument, Option<&Param>))| {
+        param.is_some_and(|param| !param_accepts(symbols, param.ty, argument.ty, param.vararg))
     };
-    pairs.filter(differs).map(|(i, _)| i + 1).collect()
+    each.filter(differs).map(|(i, _)| i + 1).collect()
 }
 
 /// What a call gives.
@@ -145,7 +156,7 @@ pub fn resolve(symbols: &Symbols, list: &[Function], node: usize, arguments: &[A
     }
 }
 
-/// No overload matches: the only one that fits is checked by index, of several there is "18 no match".
+/// No overload matches: of the only one that fits the mismatches are reported, of several there is "18 no match".
 fn unmatched(
     symbols: &Symbols,
     fitting: &[&Function],
@@ -158,11 +169,9 @@ fn unmatched(
         return out.of(&[ERROR], "no match");
     };
     let found = mismatches(symbols, only, arguments);
-    if arguments.iter().zip(&only.params).any(|(a, p)| rulings::takes_subclass(symbols, p, a)) {
-        out.rulings.push("by index, a subclass accepted");
-    }
+    rulings::of_mismatches(symbols, only, arguments, &found, &mut out.rulings);
     for position in &found {
         out.report(17, arguments[position - 1].node, *position);
     }
-    out.of(only.result, if found.is_empty() { "by index, nothing found" } else { "by index, mismatches" })
+    out.of(only.result, if found.is_empty() { "one fits, an unknown name alone" } else { "one fits, with mismatches" })
 }

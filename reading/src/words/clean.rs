@@ -4,7 +4,7 @@
 
 use super::access::is_allowed;
 use super::binary::check_binary;
-use super::calls::{fits, knows, mismatches, score, usable, Argument};
+use super::calls::{fits, knows, score, usable, Argument};
 use super::judgement::Ruled;
 use super::member::check_member;
 use super::question::{Question, Shape, Tree};
@@ -91,19 +91,14 @@ impl Rules<'_> {
         Some(self.chosen(&fitting, &arguments)?.result.to_vec())
     }
 
-    /// "either one overload matches and every other match scores lower, or just one fits, it doesn't match, and the
-    /// check by index finds nothing."
+    /// "one overload matches and every other match scores lower". Document 02, order 4: "The second way in the clean call
+    /// rule goes".
     fn chosen<'f>(&self, fitting: &[&'f Function<'f>], arguments: &[Argument]) -> Option<&'f Function<'f>> {
         let scores: Vec<Option<usize>> = fitting.iter().map(|f| score(self.symbols, f, arguments)).collect();
-        for (i, own) in scores.iter().enumerate() {
-            let others = || scores.iter().enumerate().filter(|(j, _)| *j != i).map(|(_, other)| other);
-            if own.is_some() && others().all(|other| other < own) {
-                return Some(fitting[i]);
-            }
-        }
-        match (fitting, &scores[..]) {
-            ([only], [None]) if mismatches(self.symbols, only, arguments).is_empty() => Some(only),
-            _ => None,
-        }
+        let best = |i: &usize| {
+            let mut others = (0..scores.len()).filter(|j| j != i).map(|j| scores[j]);
+            scores[*i].is_some() && others.all(|other| other < scores[*i])
+        };
+        Some(fitting[(0..scores.len()).find(best)?])
     }
 }

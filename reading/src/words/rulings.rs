@@ -4,7 +4,7 @@
 use super::access::{is_subclass, PROTECTED};
 use super::assign::can_assign_to;
 use super::binary::check_binary;
-use super::calls::Argument;
+use super::calls::{own, Argument};
 use super::operator::class_with_method;
 use super::parameter::{is_type_variable, param_accepts};
 use super::question::Question;
@@ -40,12 +40,16 @@ pub fn of_match(
     saw("a match with a vararg that is not last", params.iter().rev().skip(1).any(|p| p.vararg));
     let known = |f: &Function, name: &u16| f.params.iter().any(|p| p.name == *name);
     saw("a match beside an unknown name", fitting.iter().any(|f| names.iter().any(|n| !known(f, n))));
-    let free: Option<&Param> = params.iter().find(|p| !names.contains(&p.name));
-    for argument in arguments {
-        let Some(param) = argument.name.map_or(free, |name| params.iter().find(|p| p.name == name)) else {
-            saw("an unnamed argument behind named parameters", true);
+    saw("a name behind an unnamed argument", named_behind_unnamed(arguments));
+    let mut unnamed = 0;
+    for (argument, param) in arguments.iter().zip(own(fitting[chosen], arguments)) {
+        unnamed += argument.name.is_none() as usize;
+        let Some(param) = param else {
+            saw("a match with an argument left over", true);
             continue;
         };
+        saw("a match with a second unnamed argument", argument.name.is_none() && unnamed > 1);
+        saw("a match with a default taken", argument.name.is_none() && param.default);
         let exact = argument.ty == param.ty;
         saw("an exact match", exact);
         saw("an accepted match", !exact);
@@ -53,6 +57,33 @@ pub fn of_match(
         saw("a type variable accepted", !exact && is_type_variable(symbols, param.ty));
         saw("a vararg accepted", !exact && param.vararg && !param_accepts(symbols, param.ty, argument.ty, false));
     }
+}
+
+fn named_behind_unnamed(arguments: &[Argument]) -> bool {
+    arguments.iter().skip_while(|a| a.name.is_some()).any(|a| a.name.is_some())
+}
+
+/// What the mismatches of the only overload that fits show; `found` are their positions.
+pub fn of_mismatches(
+    symbols: &Symbols,
+    function: &Function,
+    arguments: &[Argument],
+    found: &[usize],
+    seen: &mut Rulings,
+) {
+    let mut saw = |what: &'static str, so: bool| {
+        if so && !found.is_empty() {
+            seen.push(what);
+        }
+    };
+    let name = |position: &usize| arguments[position - 1].name;
+    let own: Vec<(&Argument, Option<&Param>)> = arguments.iter().zip(own(function, arguments)).collect();
+    saw("a mismatch of a named argument", found.iter().any(|p| name(p).is_some()));
+    saw("a mismatch of an unnamed argument", found.iter().any(|p| name(p).is_none()));
+    saw("a mismatch beside an unknown name", own.iter().any(|(a, p)| a.name.is_some() && p.is_none()));
+    saw("a mismatch beside an argument left over", own.iter().any(|(a, p)| a.name.is_none() && p.is_none()));
+    let subclass = |(a, p): &(&Argument, Option<&Param>)| p.is_some_and(|p| takes_subclass(symbols, p, a));
+    saw("a mismatch beside a subclass accepted", own.iter().any(subclass));
 }
 
 /// Whether an argument goes to a parameter by a climb alone.

@@ -1,6 +1,6 @@
 //! Wrong versions of the words, each changed in one line (edits/): what a comparison must find.
 
-#![allow(dead_code)]
+#![allow(dead_code, unused_imports)]
 
 // The copies name these by `crate`.
 use reading::{answer, name};

@@ -14,7 +14,8 @@ use Rattle.scoring.specs.Arg.{Arg, Verdict}
 use Rattle.scoring.specs.Arity.{any_own}
 use Rattle.scoring.specs.Inside.Args.{args_in}
 use Rattle.scoring.specs.declared.args.Arg.{Arg as Handed}
-use Rattle.overload.specs.ByIndex.{mismatches}
+use Rattle.overload.specs.Reports.{mismatches}
+use Rattle.scoring.specs.WithParams.{with_params}
 use Rattle.overload.specs.Resolve.{tie_report, resolve}
 use Rattle.overload.specs.Inside.Picked.{picked_in}
 use Rattle.overload.specs.Inside.BestPlace.{chosen_at, result_at, error_source, source_of}
@@ -39,7 +40,7 @@ settled_source t p w = best_source w.highest (choose (eqb w.fitting 1) (result_a
 abbrev pub settled_diags : List ℕ → Place → ℕ → List Arg → Tally → List Diag
 settled_diags t p node xs w =
     best_diags node w.highest
-    (choose (eqb w.fitting 1) (mismatches (symbols_of t) (overload_at t p).params 1 xs) (diag no_match_diag node 0 ∷ []))
+    (choose (eqb w.fitting 1) (mismatches (symbols_of t) 1 (with_params (overload_at t p).params xs)) (diag no_match_diag node 0 ∷ []))
 
 -- ---- the call at a node of the functions of an owner and a name, with the slots ts
 

@@ -13,7 +13,7 @@ use Rattle.area.specs.Diagnostic.{Diag, count_limit}
 use Rattle.area.specs.declared.reports.Reports.{Reports}
 use Rattle.scoring.specs.Arg.{Arg}
 use Rattle.scoring.specs.Score.{score}
-use Rattle.overload.specs.ByIndex.{unknowns, all_unknown}
+use Rattle.overload.specs.Reports.{unknowns, all_unknown}
 use Rattle.overload.specs.Inside.BestPlace.{BestPlace, nowhere, best_at, chosen_at}
 use Rattle.overload.specs.declared.calls.Highest.{Highest}
 use Rattle.overload.specs.declared.calls.Tally.{Tally}

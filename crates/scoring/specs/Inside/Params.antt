@@ -1,18 +1,18 @@
 -- The parameters of a function that was read.
-use Rattle.std.specs.Prelude.{ℕ, List, Option as Maybe, Some, None}
+use Rattle.std.specs.Prelude.{ℕ, suc, List, [], ◌∷◌, eqb, Option as Maybe, Some, None}
 use Rattle.std.specs.List.{slice_get}
 use Rattle.std.proofs.Math.Option.{Option, none, some}
 use Rattle.symbol.specs.Symbols.{Param}
 use Rattle.symbol.specs.Inside.LookupAnswer.{param_seen, params_in}
 use Rattle.symbol.specs.declared.functions.Param.{Param as Read}
-use Rattle.scoring.specs.Score.{place_named}
+use Rattle.ty.specs.Choose.{choose}
+
+-- the place of the first parameter of a name, the first parameter here standing at i
+unfoldable pub place_named : ℕ → ℕ → List Param → Option ℕ
+place_named id i [] = none
+place_named id i (p ∷ ps) = choose (eqb p.name id) (some i) (place_named id (suc i) ps)
 
 -- a place as the code answers it
-abbrev pub place_read : Maybe ℕ → Option ℕ
-place_read None = none
-place_read (Some j) = some j
-
--- the same the other way round
 abbrev pub as_place : Option ℕ → Maybe ℕ
 as_place none = None
 as_place (some j) = Some j

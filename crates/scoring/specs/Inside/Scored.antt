@@ -1,6 +1,5 @@
 -- Scores as the code has them, and what the two passes of scoring hand on.
-use Rattle.std.specs.Prelude.{ℕ, Bool, List, Option as Maybe, Some, None}
-use Rattle.std.specs.Bool.{then_some}
+use Rattle.std.specs.Prelude.{ℕ, ◌≡◌, Bool, List, Option as Maybe, Some, None}
 use Rattle.std.proofs.Math.Option.{Option, none, some}
 use Rattle.ty.specs.Bytes.{Ty}
 use Rattle.symbol.specs.Lookup.{symbols_of}
@@ -9,9 +8,13 @@ use Rattle.symbol.specs.Symbols.{Param, Symbols}
 use Rattle.symbol.specs.declared.functions.Function.{Function}
 use Rattle.symbol.specs.declared.functions.Param.{Param as Read}
 use Rattle.scoring.specs.Arg.{Arg}
-use Rattle.scoring.specs.Score.{compared, mark_one, marks_of, plus, named_one, named_score, positional_score, score}
+use Rattle.scoring.specs.WithParams.{left_behind}
+use Rattle.scoring.specs.Score.{plus, compared, score}
+use Rattle.scoring.specs.Inside.Passes.{mark_one, marks_of, unmarked, named_one, named_score, unnamed_one, unnamed_score}
+use Rattle.scoring.specs.Inside.Received.{left_in}
 use Rattle.scoring.specs.declared.score.Score.{Score}
 use Rattle.scoring.specs.declared.score.NamedPass.{NamedPass}
+use Rattle.scoring.specs.declared.score.PositionalPass.{PositionalPass}
 
 -- a score as the code answers it
 abbrev pub score_of : Maybe Score → Option ℕ
@@ -42,13 +45,14 @@ named_more t p n x m =
 abbrev pub named_in : List ℕ → List Read → List Arg → NamedPass
 named_in t p xs = record { score = as_score (named_score (symbols_of t) (params_in t p) xs); marks = marks_of (params_in t p) xs }
 
--- what an unnamed argument scores where every parameter is named; v: the last parameter is vararg
-abbrev pub unmatched : Bool → Maybe Score
-unmatched v = then_some v (record { points = 1 })
+-- the positional pass w with one argument more, of the name n, if any, and the type x, is r
+pub record TakenOne (t : List ℕ) (p : List Read) (marks : List Bool) (n : Option ℕ) (x : Ty) (w r : PositionalPass) : Type 0 where
+  pub score : r.score ≡ as_score (plus (score_of w.score) (unnamed_one (symbols_of t) (left_in t p marks w.next) n x))
+  pub left : left_in t p marks r.next ≡ left_behind (left_in t p marks w.next) n
 
 -- the score of the positional pass, with the named pass's marks
 abbrev pub positional_in : List ℕ → List Read → List Bool → List Arg → Option ℕ
-positional_in t p marks xs = positional_score (symbols_of t) (params_in t p) marks xs
+positional_in t p marks xs = unnamed_score (symbols_of t) (unmarked (params_in t p) marks) xs
 
 -- the score of a function that was read
 abbrev pub score_in : List ℕ → Function → List Arg → Option ℕ

@@ -1,7 +1,8 @@
 use mathlib.Core.Path.{ap, ◌∙◌}
 use Rattle.overload.proofs.CallAnswers.{diags_one}
 use Rattle.overload.proofs.ArgumentReports.{reported_as}
-use Rattle.overload.specs.ByIndex.{mismatches}
+use Rattle.overload.specs.Reports.{mismatches}
+use Rattle.scoring.specs.WithParams.{with_params}
 use Rattle.scoring.specs.Inside.Args.{args_in}
 use Rattle.symbol.proofs.FunctionsRead.{read_is}
 use Rattle.symbol.specs.Lookup.{symbols_of}
@@ -13,5 +14,5 @@ returns-then-w-eq1-clause-reports c = let s = c.args in
     let xs = args_in s.slots.now s.args.now.items in
     let read = read_is _ _ c.requires.0 _ (rw c.bytes.ensures.bytes at c.read_function-f.ensures) in
     reported_as _
-    (ap (λ (o : Overload). mismatches (symbols_of s.table.now) o.params 1 xs) read.same ∙ diags_one s.table.now s.p s.node xs s.w c.in_default.is c.if-w-eq1.true)
-    c.by_index.ensures
+    (ap (λ (o : Overload). mismatches (symbols_of s.table.now) 1 (with_params o.params xs)) read.same ∙ diags_one s.table.now s.p s.node xs s.w c.in_default.is c.if-w-eq1.true)
+    c.mismatches.ensures

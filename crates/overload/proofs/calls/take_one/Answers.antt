@@ -2,7 +2,7 @@ use mathlib.Core.Path.{ap}
 use Rattle.overload.proofs.ArgumentReports.{reported_as}
 use Rattle.overload.proofs.Tallies.{tally_taken}
 use Rattle.scoring.proofs.Scores.{score_of_lem}
-use Rattle.overload.specs.ByIndex.{unknowns}
+use Rattle.overload.specs.Reports.{unknowns}
 use Rattle.scoring.specs.Inside.Args.{args_in}
 use Rattle.symbol.proofs.FunctionsRead.{read_is}
 use Rattle.symbol.specs.Symbols.{Overload}

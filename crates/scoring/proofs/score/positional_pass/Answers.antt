@@ -1,9 +1,6 @@
-use Rattle.std.proofs.Common.{Bool, ap, ◌∙◌}
-use Rattle.scoring.specs.Inside.Scored.{unmatched}
 use Rattle.scoring.proofs.Scores.{unnamed_next}
 use Rattle.scoring.proofs.score.positional_pass.Goals as goal
 
 pub loop-a-preserved : goal.loop-a-preserved
 loop-a-preserved c = let e = c.deref-a-items.ensures.0 in
-    unnamed_next _ _ _ _ _ _ _ c.loop-a.invariant _ _ _ (rw e at c.loop-a-test.true) (rw e at c.type_of.ensures) (rw e at
-    (c.unnamed_turn-score.ensures _ (c.then_some-otherwise.ensures ∙ ap (λ (v : Bool). unmatched v) (c.last_vararg.ensures c.args.table.now))))
+    unnamed_next _ _ _ _ _ _ _ c.loop-a.invariant _ _ _ (rw e at c.loop-a-test.true) (rw e at c.type_of.ensures) (rw e at c.unnamed_turn-w.ensures)

@@ -1,0 +1,6 @@
+use Rattle.overload.proofs.ArgumentReports.{MismatchFrom}
+use Rattle.symbol.specs.Lookup.{symbols_of}
+use Rattle.overload.proofs.reports.mismatches.Given as goal
+
+abbrev pub invariant-loop-i : goal.invariant-loop-i
+invariant-loop-i l = MismatchFrom (symbols_of l.table) l.table l.params l.marks l.slots l.x-items l.initial.reports l.reports l.next l.i
