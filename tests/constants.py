@@ -1,12 +1,18 @@
 #!/usr/bin/env python3
 """Tests that each variant or constant of the code that numbers a kind, a name, an operator, a diagnostic or a visibility has the number of its definition, and
-that each definition has its own. Not every one is used by a routine whose contract would say so."""
+that each definition has its own. Not every one is used by a routine whose contract would say so. And that the kinds of types have their names, by these numbers,
+where types are shown: in the text form and in the Rust crate."""
 
 import pathlib
 import re
+import sys
 import unittest
 
 ROOT = pathlib.Path(__file__).resolve().parent.parent
+sys.path.insert(0, str(ROOT / "tools"))
+sys.dont_write_bytecode = True
+import aura_text  # noqa: E402
+
 ENDINGS = {"Kind": "kind", "NameId": "id", "BinOp": "op", "UnOp": "op", "DiagnosticKind": "diag", "Visibility": "vis"}
 # where the name of the definition is not that of the variant or constant with the ending behind it
 OTHERS = {
@@ -54,12 +60,29 @@ def defined_as(kind, name):
     return OTHERS.get((kind, name), f"{words}_{ENDINGS[kind]}")
 
 
+# kinds that are shown by the name of another
+SHOWN_AS = {"LargeArray": "Array"}
+
+
+def shown_kinds():
+    """The names of the kinds of types by number, as types are shown."""
+    kinds = {number: name.removesuffix("_kind") for name, number in definitions().items() if name.endswith("_kind") and name not in WITHOUT}
+    names = ["".join(word.title() for word in kinds.get(number, "none").split("_")) for number in range(len(kinds))]
+    return [SHOWN_AS.get(name, name) for name in names]
+
+
 class Constants(unittest.TestCase):
     def test_each_has_its_definitions_number(self):
         ours, theirs = constants(), definitions()
         self.assertEqual({kind for kind, _ in ours}, set(ENDINGS))
         named = {defined_as(*key): number for key, number in ours.items()}
         self.assertEqual(named, {name: number for name, number in theirs.items() if name not in WITHOUT})
+
+    def test_the_kinds_of_types_are_shown_by_their_names(self):
+        self.assertIn("LargeArray", {name for kind, name in constants() if kind == "Kind"})
+        self.assertEqual(aura_text.KINDS, shown_kinds())
+        rust = re.search(r"const KINDS: \[&str; \d+\] = \[(.*?)\];", (ROOT / "aura-judge/src/ty.rs").read_text(encoding="utf-8"), re.S)
+        self.assertEqual(re.findall(r'"(\w+)"', rust[1]), shown_kinds())
 
 
 if __name__ == "__main__":

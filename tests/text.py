@@ -33,7 +33,7 @@ def question(text):
 
 class Samples(unittest.TestCase):
     def test_the_bytes_are_what_the_text_says(self):
-        self.assertEqual([sample.stem for sample in SAMPLES], ["repair", "stamp", "words"])
+        self.assertEqual([sample.stem for sample in SAMPLES], ["mapsheet", "repair", "stamp", "words"])
         files = set()
         for sample in SAMPLES:
             text = aura_text.Text(sample.read_text(encoding="ascii"))
@@ -89,11 +89,49 @@ class Records(unittest.TestCase):
             *((kind, f"{number:02x}") for number, kind in enumerate(aura_text.KINDS) if number < 12 or number == 21),
             ("Nullable(Int)", "0c00"), ("Pointer(Int)", "0d00"), ("Array(Char)", "0e000000000007"),
             ("Array(Char, 3)", "0e010300000007"), ("List(Int)", "0f00"), ("Map(Int, String)", "100008"),
+            ("Array(Char, 4294967296)", "1601000000000100000007"),
             ("Pair", "110000"), ("Named(List)", "110100"), ("Function(-> Unit)", "12000b"),
             ("Function(Int, Long -> Unit)", "120200010b"), ("TypeVar(4294967295)", "13ffffffff"), ("Module(keys)", "142700"),
         ]:
-            self.assertEqual(question("leaf " + text), bytes.fromhex("ffffffff0000" + data), text)
-            self.assertEqual(aura_text.type_text(bytes.fromhex(data), aura_text.BUILT_IN), (text, b""))
+            self.both_ways(text, data)
+
+    def both_ways(self, text, data):
+        self.assertEqual(question("leaf " + text), bytes.fromhex("ffffffff0000" + data), text)
+        self.assertEqual(aura_text.type_text(bytes.fromhex(data), aura_text.BUILT_IN), (text, b""))
+
+    def test_a_size_decides_the_kind_of_an_array(self):
+        for size, front in [(0, "0e0100000000"), (1, "0e0101000000"), (2**32 - 1, "0e01ffffffff"), (2**32, "16010000000001000000"),
+                            (2**32 + 1, "16010100000001000000"), (2**63, "16010000000000000080"), (2**64 - 1, "1601ffffffffffffffff")]:
+            self.both_ways(f"Array(Char, {size})", front + "07")
+            self.both_ways(f"Array(Array(Char), {size})", front + "0e000000000007")
+            self.both_ways(f"List(Array(Array(Char, {size}), 4294967296))", "0f16010000000001000000" + front + "07")
+            self.assertEqual(question(f"leaf Array(Char, 000{size})"), bytes.fromhex(f"ffffffff0000{front}07"))
+
+    def test_another_spelling_of_a_size_is_refused(self):
+        for data in ["0e000100000007", "0e020000000007", "0eff0100000007", "1601ffffffff0000000007", "1601010000000000000007",
+                     "1600000000000000000007", "1600000000000100000007", "1602000000000100000007", "16ff000000000100000007", "17"]:
+            self.refused(data)
+        for data in ["0e010300000007", "1601000000000100000007"]:
+            for end in range(0, len(data), 2):
+                self.refused(data[:end])
+
+    def refused(self, data):
+        for around in ["", "0f", "1200", "0e0000000000", "16010000000001000000"]:
+            with self.assertRaises((ValueError, IndexError), msg=around + data):
+                aura_text.type_text(bytes.fromhex(around + data), aura_text.BUILT_IN)
+
+    def test_an_answer_is_read_with_its_size(self):
+        for data, text in [("0e01ffffffff07", "Array(Char, 4294967295)"), ("1601000000000100000007", "Array(Char, 4294967296)")]:
+            self.assertEqual(self.read(data), (0, f"passed: {text}\n", ""))
+        fault = f"{ROOT}/samples/mapsheet.txt: standard input is not what the program prints under this table\n"
+        for data in ["0e020300000007", "0e000300000007", "1602000000000100000007", "1601ffffffff0000000007", "16010000000001000000", "17"]:
+            self.assertEqual(self.read(data), (1, "", fault), data)
+
+    def read(self, data):
+        """What the tool makes of an answer with this type."""
+        command = [sys.executable, str(ROOT / "tools/aura_text.py"), str(ROOT / "samples/mapsheet.txt"), "--read"]
+        done = subprocess.run(command, input=f"0 1 {len(data) // 2} {data} 0\n", capture_output=True, text=True, check=False)
+        return done.returncode, done.stdout, done.stderr
 
 
 class Questions(unittest.TestCase):
@@ -147,6 +185,18 @@ class Faults(unittest.TestCase):
             ("question q", "line 1: question q has no node"),
             ("question q\nleaf Int\nquestion q", "line 3: there is a question q above"),
             ("question q\nleaf TypeVar(4294967296)", "line 2: a type variable is a number from 0 to 4294967295"),
+            ("question q\nleaf Array(Int, 18446744073709551616)",
+             "line 2: an array's size is a number from 0 to 18446744073709551615, not `18446744073709551616`"),
+            ("field Pair.size: Array(Int, 99999999999999999999999)", "line 1: an array's size is a number from 0 to 18446744073709551615"),
+            ("question q\nleaf Array(Int, " + "9" * 5000 + ")", "line 2: an array's size is a number from 0 to 18446744073709551615"),
+            ("question q\nleaf Array(Int, 4294967296, 1)", "line 2: `)` is wanted where `,` stands"),
+            ("question q\nleaf Array(Int, -1)", "line 2: `-` has no meaning here"),
+            ("question q\nleaf Array(Int, 2.5)", "line 2: `)` is wanted where `.` stands"),
+            ("question q\nleaf Array(Int, 0x10)", "line 2: an array's size is a number from 0 to 18446744073709551615, not `0x10`"),
+            ("question q\nleaf Array(Int, Int)", "line 2: an array's size is a number from 0 to 18446744073709551615, not `Int`"),
+            ("question q\nleaf Array(Int, )", "line 2: an array's size is wanted where `)` stands"),
+            ("question q\nleaf Array(Int,", "line 2: an array's size is missing at the end of the line"),
+            ("question q\nleaf Array(4294967296)", "line 2: `4294967296` is neither a built-in name nor one of the table's"),
         ]:
             with self.assertRaises(aura_text.Fault, msg=text) as raised:
                 read = aura_text.Text(text)

@@ -28,7 +28,8 @@ line; `#` begins a comment. Names are written, not their ids; a name has letters
 
 TYPE is Int, Long, Short, Byte, Float, Double, Boolean, Char, String, Any, Nothing, Unit, Error, Nullable(TYPE),
 Pointer(TYPE), Array(TYPE), Array(TYPE, SIZE), List(TYPE), Map(TYPE, TYPE), Function(TYPE, .. -> TYPE), TypeVar(NUMBER),
-Module(NAME), or a name for a Named type; Named(NAME) where the name is one of these words.
+Module(NAME), or a name for a Named type; Named(NAME) where the name is one of these words. SIZE and NUMBER are decimal; a
+SIZE is at most 2^64 - 1, and from 2^32 on it makes the Array one of kind 22.
 
 Records are written in the text's order and nothing is checked that the judge checks: what it refuses can be written.
 """
@@ -53,8 +54,11 @@ def built_in(text):
 
 
 BUILT_IN = built_in(SPELLINGS.read_text(encoding="ascii"))
+# By number; the last is an Array with a size of 8 bytes.
 KINDS = """Int Long Short Byte Float Double Boolean Char String Any Nothing Unit Nullable Pointer Array List Map Named
-Function TypeVar Module Error""".split()
+Function TypeVar Module Error Array""".split()
+ARRAY, LARGE_ARRAY = (number for number, kind in enumerate(KINDS) if kind == "Array")
+LARGE_SIZE = 2**32  # the smallest size of 8 bytes
 WITH_BODY = {"Array", "Named", "Function", "TypeVar", "Module"}
 CHILDREN = {"Nullable": 1, "Pointer": 1, "List": 1, "Map": 2}
 BINARY = """Add Sub Mul Div Mod Eq Ne Lt Gt Le Ge And Or BitAnd BitOr BitXor Shl Shr UShr Assign To Is As""".split()
@@ -118,9 +122,10 @@ class Line:
 
     def number_below(self, limit, what):
         token = self.word(what)
-        if not token.isdigit() or int(token) >= limit:
+        digits = token.lstrip("0") or "0"
+        if not token.isdigit() or len(digits) > len(str(limit)) or int(digits) >= limit:
             raise Fault(f"{what} is a number from 0 to {limit - 1}, not `{token}`")
-        return int(token)
+        return int(digits)
 
     def one_of(self, words, what):
         token = self.word(what)
@@ -182,9 +187,7 @@ class Names:
             out += line.number_below(2**32, "a type variable").to_bytes(4, "little")
         elif kind == "Array":
             inner = self.type(line)
-            sized = line.maybe(",")
-            size = line.number_below(2**32, "an array's size") if sized else 0
-            out += bytes([sized]) + size.to_bytes(4, "little") + inner
+            out = array(line.number_below(2**64, "an array's size") if line.maybe(",") else None) + inner
         else:
             out += self.function_type(line)
         line.sign(")")
@@ -198,6 +201,13 @@ class Names:
                 line.sign(",")
             params.append(self.type(line))
         return count(params, "parameters") + b"".join(params) + self.type(line)
+
+
+def array(size):
+    """The kind and the body of an Array: the size decides the kind, so that it has one spelling."""
+    if size is not None and size >= LARGE_SIZE:
+        return bytes([LARGE_ARRAY, 1]) + size.to_bytes(8, "little")
+    return bytes([ARRAY, size is not None]) + (size or 0).to_bytes(4, "little")
 
 
 def count(items, what):
@@ -393,6 +403,15 @@ minus|not|step|dereference|not-null|suspend|argument count|unknown name|mismatch
 unresolved|no members""".replace("\n", "").split("|")
 
 
+def array_size(data):
+    """The size of the Array at the start of the bytes, None without one, and the bytes behind its body."""
+    end = 10 if data[0] == LARGE_ARRAY else 6
+    size = int.from_bytes(data[2:end], "little") if data[1] else None
+    if data[:end] != array(size):
+        raise ValueError("a malformed or cut Array")
+    return size, data[end:]
+
+
 def type_text(data, names):
     """The type at the start of the bytes, and the bytes behind it."""
     kind, rest = KINDS[data[0]], data[1:]
@@ -403,8 +422,9 @@ def type_text(data, names):
     if kind == "TypeVar":
         return f"TypeVar({int.from_bytes(rest[:4], 'little')})", rest[4:]
     if kind == "Array":
-        inner, after = type_text(rest[5:], names)
-        return f"Array({inner}, {int.from_bytes(rest[1:5], 'little')})" if rest[0] else f"Array({inner})", after
+        size, rest = array_size(data)
+        inner, rest = type_text(rest, names)
+        return f"Array({inner})" if size is None else f"Array({inner}, {size})", rest
     parts, children = [], CHILDREN.get(kind, 0)
     if kind == "Function":
         children, rest = rest[0] + 1, rest[1:]

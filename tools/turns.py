@@ -12,7 +12,7 @@ compared. Prints a page with every run; --write also stores it. Exit status 1 wh
 be compared.
 
 A library from before document 02's orders is linked with --no-default-features, one from before order 2 with --features load
-besides; do so for all.
+besides, one from before order 5 with --features load,subclass; do so for all.
 """
 
 import argparse

@@ -114,6 +114,28 @@
 //! assert_eq!(mismatches(&[3, 43, 0, 0, 0, 0, 8]), ["node 1: mismatch (1)", "node 3: mismatch (2)"]);
 //! ```
 //!
+//! An array of 2^32 cells and more is an array like any other. Its size, which has at most 64 bits, is a part of the type; yet
+//! arrays and lists go where an array is expected by their elements, whatever the sizes are:
+//!
+//! ```
+//! use aura_judge::{judge, Type};
+//!
+//! let array = |inner: Type, size: u64| Type::Array { inner: Box::new(inner), size: Some(size) };
+//! let (sheet, tile) = (array(Type::Byte, 8_000_000_000), array(Type::Byte, 65_536));
+//! let table = [vec![4, 255, 255, 29, 0, 0, 0, 1, 11, 20, 0, 0], sheet.to_bytes()].concat(); // add(first: a sheet) -> Unit
+//! let question = |tree: &[u8], ty: &Type| [&[255, 255, 255, 255, 0], tree, &ty.to_bytes()].concat();
+//! let mut buffer = [0; 320];
+//!
+//! let answer = judge(&table, &question(&[0], &sheet), &mut buffer); // the leaf
+//! assert_eq!((answer.passed(), answer.ty()), (true, Some(&sheet)));
+//! let answer = judge(&table, &question(&[4, 20, 0, 0], &sheet), &mut buffer); // its member first
+//! assert_eq!((answer.passed(), answer.ty()), (true, Some(&Type::Byte)));
+//!
+//! let mut taken = |ty: &Type| judge(&table, &question(&[5, 29, 0, 1, 0], ty), &mut buffer).passed(); // add(..)
+//! assert!(taken(&sheet) && taken(&tile) && taken(&Type::List(Box::new(Type::Byte))));
+//! assert!(!taken(&array(Type::String, 8_000_000_000)));
+//! ```
+//!
 //! [`load`] writes questions to test with, the same ones on every machine.
 //!
 //! The judge uses the caller's stack and no heap; what this crate allocates is the [`Type`]. [`raw::judge`] allocates

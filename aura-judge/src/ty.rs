@@ -6,7 +6,9 @@ use std::fmt;
 /// The number of a name: 0 to 39 are built in, a table's own go on from 40.
 pub type NameId = u16;
 
-/// A type of a page script; its 22 kinds are numbered from 0 in this order, as in `docs/FORMAT.md`, "Types".
+/// A type of a page script; its kinds are numbered from 0 (Int) to 21 (Error) in this order, as in `docs/FORMAT.md`,
+/// "Types". An Array is of kind 14 without a size or with one below 2^32, which has 4 bytes there, and of kind 22 with one
+/// from 2^32 on, which has 8.
 ///
 /// ```
 /// use aura_judge::Type;
@@ -15,6 +17,12 @@ pub type NameId = u16;
 /// assert_eq!(ty, Type::Map(Box::new(Type::String), Box::new(Type::List(Box::new(Type::Named(40))))));
 /// assert_eq!(ty.to_string(), "Map(String, List(Named(40)))");
 /// assert_eq!(ty.to_bytes(), [16, 8, 15, 17, 40, 0]);
+///
+/// let sized = |size| Type::Array { inner: Box::new(Type::Int), size };
+/// assert_eq!(sized(None).to_bytes(), [14, 0, 0, 0, 0, 0, 0]);
+/// assert_eq!(sized(Some(0xffff_ffff)).to_bytes(), [14, 1, 0xff, 0xff, 0xff, 0xff, 0]);
+/// assert_eq!(sized(Some(0x1_0000_0000)).to_bytes(), [22, 1, 0, 0, 0, 0, 1, 0, 0, 0, 0]);
+/// assert_eq!(sized(Some(u64::MAX)).to_string(), "Array(Int, 18446744073709551615)");
 /// ```
 #[derive(Debug, Clone, PartialEq, Eq, Hash)]
 pub enum Type {
@@ -32,7 +40,7 @@ pub enum Type {
     Unit,
     Nullable(Box<Type>),
     Pointer(Box<Type>),
-    Array { inner: Box<Type>, size: Option<u32> },
+    Array { inner: Box<Type>, size: Option<u64> },
     List(Box<Type>),
     Map(Box<Type>, Box<Type>),
     Named(NameId),
@@ -45,7 +53,8 @@ pub enum Type {
 /// Why bytes are no type.
 #[derive(Debug, Clone, Copy, PartialEq, Eq)]
 pub enum TypeError {
-    /// A kind above 21, an Array whose flag is neither 0 with size 0 nor 1, or a Function of more than 16 parameters.
+    /// A kind above 22; an Array of kind 14 whose flag is neither 0 with size 0 nor 1; one of kind 22 whose flag is not 1 or
+    /// whose size is below 2^32; a Function of more than 16 parameters.
     Malformed,
     /// The bytes end before the type does.
     Cut,
@@ -68,11 +77,18 @@ impl fmt::Display for TypeError {
 
 impl std::error::Error for TypeError {}
 
-/// The kinds by number.
-const KINDS: [&str; 22] = [
+/// The kinds by number. The last is an Array with a size of 8 bytes, which is shown as one of 4.
+const KINDS: [&str; 23] = [
     "Int", "Long", "Short", "Byte", "Float", "Double", "Boolean", "Char", "String", "Any", "Nothing", "Unit",
-    "Nullable", "Pointer", "Array", "List", "Map", "Named", "Function", "TypeVar", "Module", "Error",
+    "Nullable", "Pointer", "Array", "List", "Map", "Named", "Function", "TypeVar", "Module", "Error", "Array",
 ];
+
+/// The kinds of an Array: with a size of 4 bytes or none, and with one of 8.
+const ARRAY: u8 = 14;
+const LARGE_ARRAY: u8 = 22;
+
+/// The smallest size that has 8 bytes: "an 8-byte size of at least 2^32; smaller sizes keep kind 14".
+const LARGE_SIZE: u64 = 1 << 32;
 
 /// The types without body and child, by kind; `Unit` is followed by kinds that have some.
 const PLAIN: [Type; 12] = [
@@ -106,21 +122,25 @@ impl Reader<'_> {
         self.ty().map(Box::new)
     }
 
+    /// The body of an Array: a flag, and the size in 4 or in 8 bytes.
+    fn size(&mut self, kind: u8) -> Result<Option<u64>, TypeError> {
+        let [flag] = self.take()?;
+        let large = kind == LARGE_ARRAY;
+        let size = if large { u64::from_le_bytes(self.take()?) } else { u32::from_le_bytes(self.take()?).into() };
+        match flag {
+            0 if !large && size == 0 => Ok(None),
+            1 if !large || size >= LARGE_SIZE => Ok(Some(size)),
+            _ => Err(TypeError::Malformed),
+        }
+    }
+
     fn ty(&mut self) -> Result<Type, TypeError> {
         let [kind] = self.take()?;
         Ok(match kind {
             0..=11 => PLAIN[kind as usize].clone(),
             12 => Type::Nullable(self.child()?),
             13 => Type::Pointer(self.child()?),
-            14 => {
-                let [flag] = self.take()?;
-                let size = match (flag, u32::from_le_bytes(self.take()?)) {
-                    (0, 0) => None,
-                    (1, size) => Some(size),
-                    _ => return Err(TypeError::Malformed),
-                };
-                Type::Array { inner: self.child()?, size }
-            }
+            ARRAY | LARGE_ARRAY => Type::Array { size: self.size(kind)?, inner: self.child()? },
             15 => Type::List(self.child()?),
             16 => Type::Map(self.child()?, self.child()?),
             17 => Type::Named(u16::from_le_bytes(self.take()?)),
@@ -172,7 +192,8 @@ impl Type {
             Type::Nullable(inner) | Type::Pointer(inner) | Type::List(inner) => inner.write(out),
             Type::Array { inner, size } => {
                 out.push(size.is_some() as u8);
-                out.extend_from_slice(&size.unwrap_or(0).to_le_bytes());
+                let width = if self.kind() == LARGE_ARRAY { 8 } else { 4 };
+                out.extend_from_slice(&size.unwrap_or(0).to_le_bytes()[..width]);
                 inner.write(out);
             }
             Type::Map(key, value) => {
@@ -190,7 +211,7 @@ impl Type {
         }
     }
 
-    /// The number of its kind, 0 (Int) to 21 (Error).
+    /// The number of its kind: 0 (Int) to 21 (Error), and 22 for an Array whose size is 2^32 or more.
     pub fn kind(&self) -> u8 {
         match self {
             Type::Int => 0,
@@ -207,7 +228,8 @@ impl Type {
             Type::Unit => 11,
             Type::Nullable(_) => 12,
             Type::Pointer(_) => 13,
-            Type::Array { .. } => 14,
+            Type::Array { size: Some(LARGE_SIZE..), .. } => LARGE_ARRAY,
+            Type::Array { .. } => ARRAY,
             Type::List(_) => 15,
             Type::Map(..) => 16,
             Type::Named(_) => 17,
@@ -218,7 +240,7 @@ impl Type {
         }
     }
 
-    /// The name of its kind.
+    /// The name of its kind; both kinds of Array have the same.
     pub fn kind_name(&self) -> &'static str {
         KINDS[self.kind() as usize]
     }

@@ -52,6 +52,18 @@ fn a_subclass_goes_where_its_superclass_is_expected() {
 }
 
 #[test]
+fn an_array_of_more_than_four_bytes_can_count_is_used_like_any_other() {
+    passes(include_bytes!("../../samples/mapsheet.cells.bin"), "Array(Byte, 8000000000)");
+    passes(include_bytes!("../../samples/mapsheet.first.bin"), "Byte");
+    passes(include_bytes!("../../samples/mapsheet.sheet.bin"), "MapSheet");
+    passes(include_bytes!("../../samples/mapsheet.tile.bin"), "Tile");
+    passes(include_bytes!("../../samples/mapsheet.smaller.bin"), "MapSheet");
+    passes(include_bytes!("../../samples/mapsheet.list.bin"), "MapSheet");
+    passes(include_bytes!("../../samples/mapsheet.compare.bin"), "Boolean");
+    reports(include_bytes!("../../samples/mapsheet.ink.bin"), "MapSheet", &["node 1: mismatch (1)"]);
+}
+
+#[test]
 fn a_superclass_does_not_go_where_its_subclass_is_expected() {
     reports(include_bytes!("../../samples/repair.page.bin"), "ScannedPage", &["node 1: mismatch (1)"]);
 }

@@ -1,5 +1,6 @@
 //! The inputs: tables by make and size, questions by node count and depth, inputs that are refused.
 
+use crate::arrays::Arrays;
 use crate::collide;
 use crate::overloads::List;
 use aura_judge::raw::LOAD_LONGEST;
@@ -33,6 +34,8 @@ pub enum Make {
     Chain,
     /// One list of overloads, for calls with several arguments.
     Overloads(List),
+    /// Types of Arrays in each other.
+    Arrays(Arrays),
 }
 
 impl Make {
@@ -50,6 +53,7 @@ impl Make {
             Make::BucketFunctions => "functions of one bucket",
             Make::Chain => "one chain of classes, functions that take its top",
             Make::Overloads(list) => list.words(),
+            Make::Arrays(arrays) => arrays.place.words(),
         }
     }
 
@@ -151,6 +155,7 @@ fn records(make: Make, size: usize) -> Table {
         Make::BucketFunctions => bucket_functions(&mut f, size),
         Make::Chain => chain(&mut f, size),
         Make::Overloads(list) => list.fill(&mut f),
+        Make::Arrays(arrays) => arrays.fill(&mut f),
     }
     f.table
 }
@@ -296,7 +301,7 @@ fn chain(f: &mut Filler, size: usize) {
 }
 
 /// The records of a table, one by one.
-fn split(table: &[u8]) -> Vec<&[u8]> {
+pub fn split(table: &[u8]) -> Vec<&[u8]> {
     let mut rest = table;
     let mut next = |len: usize| rest.split_off(..len).expect("a whole record");
     record_lengths(table).into_iter().map(&mut next).collect()

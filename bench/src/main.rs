@@ -5,9 +5,10 @@
 //!     cargo run --release -- --quick    a short run, to see that it works
 //!     cargo run --release -- --lines    prints a line for each row instead of the page, for tools/turns.py
 //!
-//! With --no-default-features it links a library from before document 02's orders; --features load one from before order 2
-//! alone. What the library lacks is then not measured.
+//! With --no-default-features it links a library from before document 02's orders, with --features load besides one from
+//! before order 2, and with --features load,subclass one from before order 5. What the library lacks is then not measured.
 
+mod arrays;
 mod collide;
 mod inputs;
 mod measure;
@@ -18,11 +19,12 @@ mod stack;
 #[cfg_attr(not(feature = "load"), allow(dead_code))]
 mod writing;
 
+use arrays::{Place, Width, PLACES, WIDTHS};
 use inputs::{Input, Make, CHOSEN, DOUBLED, MAKES};
 use measure::{judging, least, parts, Case, Effort, Times, BUFFER};
 use overloads::Call;
 use plot::{Panel, Series};
-use report::{CallRow, ChainRow, Growth, NodeGrowth, RefusedRow, Report, Row};
+use report::{ArrayRow, CallRow, ChainRow, Growth, NodeGrowth, RefusedRow, Report, Row};
 use std::time::Duration;
 use writing::Writing;
 #[cfg(feature = "load")]
@@ -82,6 +84,30 @@ fn calls(effort: Effort) -> Vec<CallRow> {
         CallRow { call: *call, bytes: input.table.len(), overloads, times: times(&input, effort) }
     };
     overloads::CALLS.iter().map(row).collect()
+}
+
+/// The widths of an Array's size that the library has; the first is the one that the Rust has.
+fn widths() -> &'static [Width] {
+    match cfg!(feature = "large-array") {
+        true => &WIDTHS,
+        false => &WIDTHS[..1],
+    }
+}
+
+/// Types of Arrays by the width of their size; the widths run in turn. Calls over a list take milliseconds.
+fn arrays(effort: Effort) -> Vec<ArrayRow> {
+    let effort = effort.or_more(Effort { time: Duration::from_millis(100), wanted: 20 });
+    let of = |place: Place| {
+        let turns: Vec<_> = widths().iter().map(|width| arrays::turn(place, *width)).collect();
+        let (first, others) = measure::beside(&turns[0], &turns[1..], effort);
+        let four = place.time(first.check, first.whole);
+        let mut rows = vec![ArrayRow::new(&turns[0][0], place, four, four, Some(place.rust(&first)))];
+        for (turn, (check, whole)) in turns[1..].iter().zip(others) {
+            rows.push(ArrayRow::new(&turn[0], place, place.time(check, whole), four, None));
+        }
+        rows
+    };
+    PLACES.into_iter().flat_map(of).collect()
 }
 
 fn nodes(effort: Effort) -> Vec<NodeGrowth> {
@@ -217,6 +243,7 @@ fn main() {
         growth: growth(effort),
         chains: chains(effort),
         calls: calls(effort),
+        arrays: arrays(effort),
         nodes: nodes(effort),
         refused: refused(effort),
         buffers: buffers(effort),

@@ -55,6 +55,11 @@ pub struct Times {
 }
 
 impl Times {
+    /// From the times of a case's parts.
+    fn of(parts: &[f64]) -> Times {
+        Times { check: parts[0], whole: parts[1], fill: parts[2], build: parts[3], run: parts[4] }
+    }
+
     /// The judgement alone, as the difference.
     pub fn judgement(&self) -> f64 {
         (self.whole - self.check).max(0.0)
@@ -200,8 +205,7 @@ impl<'a> Case<'a> {
 pub fn parts(mut cases: Vec<Case>, effort: Effort) -> Vec<Times> {
     let effort = effort.of_all(cases.len());
     let mut parts: Vec<Part> = cases.iter_mut().flat_map(Case::parts).collect();
-    let of = |t: &[f64]| Times { check: t[0], whole: t[1], fill: t[2], build: t[3], run: t[4] };
-    least(&mut parts, effort).chunks_exact(5).map(of).collect()
+    least(&mut parts, effort).chunks_exact(5).map(Times::of).collect()
 }
 
 /// The judge's own times alone, `check` and `whole`, of tables that take turns under one question. The cases take turns as
@@ -214,6 +218,21 @@ pub fn judged(cases: &[Vec<Input>], effort: Effort) -> Vec<(f64, f64)> {
     let parts = tables.iter().zip(asked).flat_map(|(tables, asked)| [&[], asked].map(|q| judging(tables, q, BUFFER)));
     let mut parts: Vec<Part> = parts.collect();
     least(&mut parts, effort.of_all(cases.len())).chunks_exact(2).map(|t| (t[0], t[1])).collect()
+}
+
+/// All parts of one question under tables that take turns, and the judge's own times alone, `check` and `whole`, of others,
+/// which run in turn with it.
+pub fn beside(inputs: &[Input], others: &[Vec<Input>], effort: Effort) -> (Times, Vec<(f64, f64)>) {
+    others.iter().flatten().for_each(same_answer);
+    let tables: Vec<_> = others.iter().map(|inputs| tables(inputs)).collect();
+    let mut case = Case::new(inputs);
+    let mut parts: Vec<Part> = case.parts().into();
+    for (tables, inputs) in tables.iter().zip(others) {
+        parts.extend([&[], inputs[0].question.as_slice()].map(|asked| judging(tables, asked, BUFFER)));
+    }
+    let times = least(&mut parts, effort.of_all(1 + others.len()));
+    let (first, rest) = times.split_at(5);
+    (Times::of(first), rest.chunks_exact(2).map(|t| (t[0], t[1])).collect())
 }
 
 /// Stops where the judge and a yardstick differ on an input, where it is refused, or where the Rust has no answer although it

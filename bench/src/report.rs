@@ -1,7 +1,8 @@
 //! The measured numbers as a page.
 
+use crate::arrays::{Place, CALLS, DEEP, PLACES, TABLES};
 use crate::collide::SAME;
-use crate::inputs::{Make, CHAIN_CALLS, TURN};
+use crate::inputs::{Input, Make, CHAIN_CALLS, TURN};
 use crate::measure::Times;
 use crate::overloads::Call;
 use crate::writing::{Writing, STARTS};
@@ -79,6 +80,28 @@ impl CallRow {
     }
 }
 
+/// Types of Arrays whose size has one width.
+pub struct ArrayRow {
+    pub place: Place,
+    /// The width in words.
+    pub asked: String,
+    /// Of table and question together.
+    pub bytes: usize,
+    /// `Place::time` says of what.
+    pub time: f64,
+    /// That where each size has four bytes.
+    pub four: f64,
+    /// The Rust's, where it is a yardstick.
+    pub rust: Option<f64>,
+}
+
+impl ArrayRow {
+    pub fn new(input: &Input, place: Place, time: f64, four: f64, rust: Option<f64>) -> ArrayRow {
+        let bytes = input.table.len() + input.question.len();
+        ArrayRow { place, asked: input.asked.clone(), bytes, time, four, rust }
+    }
+}
+
 /// Times by node count under one table.
 pub struct NodeGrowth {
     pub name: String,
@@ -100,6 +123,7 @@ pub struct Report {
     /// Empty where the library has no such rule.
     pub chains: Vec<ChainRow>,
     pub calls: Vec<CallRow>,
+    pub arrays: Vec<ArrayRow>,
     pub nodes: Vec<NodeGrowth>,
     pub refused: Vec<RefusedRow>,
     /// The lent buffer's length, and the time of a question of one node without a table.
@@ -110,8 +134,8 @@ pub struct Report {
 }
 
 /// A line for each measured row: its name, and nanoseconds of the judge and of the Rust's filling and methods (nothing where
-/// there is no such side); of calls with several arguments the judgement alone, and the Rust's methods. tools/turns.py reads
-/// them. The rows of the test load's writer are left out, since a library from before it has none.
+/// there is no such side); of calls with several arguments the judgement alone, and the Rust's methods; of Arrays what `Place`
+/// says. tools/turns.py reads them. The rows of the test load's writer are left out, since a library from before it has none.
 pub fn lines(report: &Report) -> String {
     let mut out = String::new();
     let mut line = |name: String, judge: f64, rust: Option<f64>| {
@@ -132,6 +156,10 @@ pub fn lines(report: &Report) -> String {
     for CallRow { call, bytes, times, .. } in &report.calls {
         let name = format!("judgement: {}, {bytes} bytes, {}", call.list.words(), call.asked());
         line(name, times.judgement(), Some(times.run));
+    }
+    for ArrayRow { place, asked, bytes, time, rust, .. } in &report.arrays {
+        let what = if *place == Place::Params { "judgement" } else { "arrays" };
+        line(format!("{what}: {}, {asked}, {bytes} bytes", place.words()), *time, *rust);
     }
     for NodeGrowth { name, steps } in &report.nodes {
         for (count, times) in steps {
@@ -243,6 +271,42 @@ fn calls(report: &Report) -> String {
     out
 }
 
+fn array_inputs() -> String {
+    let [fields, deep, leaves, params] = PLACES.map(Place::count);
+    format!(
+        "Since order 5 the size of an Array may have eight bytes; the Rust has sizes of four alone. Here are as many Arrays \
+         with sizes of four bytes as with sizes of eight, and as many where each has one or the other at random, in types \
+         with an Int in the innermost Array: {fields} fields of one Array and a question of one node; {deep} fields of {DEEP} \
+         Arrays in each other, the most for which 192 bytes have room where sizes have eight; a question of 64 nodes without \
+         a table, {leaves} of them leaves of {DEEP} Arrays; and {CALLS} calls of one list of {params} functions, each with \
+         one parameter of {DEEP}. The sizes of these parameters and of the arguments differ, so that each comparison goes \
+         through all {DEEP} to the Int, and each call is a tie of them all. {TABLES} tables take turns, and so do the widths."
+    )
+}
+
+const ARRAY_TIMES: &str = "The time is that of check and judgement together, of calls that of the judgement alone. The Rust's \
+    is that of filling and methods, of leaves that of tree and methods, since it reads their types with the tree, and of \
+    calls that of its methods. No bar is set.";
+
+fn arrays(report: &Report) -> String {
+    let mut out = String::from(
+        "| Types | Each Array | Bytes | Arrays | Time | Time / Arrays, ns | Time / that of 4 bytes | Time / the Rust's |\n\
+         |---|---|--:|--:|--:|--:|--:|--:|\n",
+    );
+    for ArrayRow { place, asked, bytes, time, four, rust } in &report.arrays {
+        let over_rust = rust.map_or(String::new(), |rust| format!("{:.2}", time / rust));
+        let (arrays, each) = (place.arrays(), time / place.arrays() as f64);
+        let _ = writeln!(
+            out,
+            "| {} | {asked} | {bytes} | {arrays} | {} | {each:.1} | {:.2} | {over_rust} |",
+            place.words(),
+            us(*time),
+            time / four
+        );
+    }
+    out
+}
+
 fn writing(report: &Report) -> String {
     if report.writing.is_empty() {
         return "Not measured in this run.\n".to_string();
@@ -310,10 +374,10 @@ pub fn page(report: &Report) -> String {
     let stack = match report.stack {
         Some(kib) => format!(
             "The questions of 64 nodes that go deepest (unary, member, named argument, call and method call, 63 in each \
-             other, under full tables; calls whose arguments and parameters are 189 Nullable, or 27 Nullable Arrays, over a \
-             class) run on a thread with a stack of {kib} KiB, which is the least in steps of 4 KiB; the thread's own start is \
-             in it. The judge uses no heap: the library imports \
-             block operations of the C library alone (`aura-judge/tests/imports.rs`)."
+             other, under full tables; calls whose arguments and parameters are 189 Nullable, 27 Nullable Arrays, or 17 \
+             whose size has eight bytes, over a class) run on a thread with a stack of {kib} KiB, which is the least in \
+             steps of 4 KiB; the thread's own start is in it. The judge uses no heap: the library imports block operations \
+             of the C library alone (`aura-judge/tests/imports.rs`)."
         ),
         None => "Not measured in this run.".to_string(),
     };
@@ -322,9 +386,9 @@ pub fn page(report: &Report) -> String {
 
 The judge beside the Rust's own methods (`oracle/`), both built for release, in one process on the
 same inputs. The program stops where an answer differs from the second reading's (`reading/`), or
-from the Rust's, which has no answer to compare where a class has a superclass or a call more than
-one unnamed argument (`docs/DIFFERENCES.md`). `docs/history/speed.md` has what was tried and what is
-left, `docs/history/order-3-speed.md` what was tried for names.
+from the Rust's, which has no answer to compare where a class has a superclass, a call more than one
+unnamed argument, or an Array a size of eight bytes (`docs/DIFFERENCES.md`). `docs/history/speed.md`
+has what was tried and what is left, `docs/history/order-3-speed.md` what was tried for names.
 
     {}
 
@@ -363,9 +427,10 @@ The tables of the last five bars of that kind have keys chosen against the index
 - functions of one bucket, half of the bytes being names; the question calls the last function.
 
 `cargo run --release -- --lines`, in `bench/`, prints every measured row, also those of the plot, of
-chains, of calls with several arguments and of refused inputs: its name, and the nanoseconds of the
-judge and of the Rust's filling and methods, where it has them (of those calls the judgement alone
-and the Rust's methods). The rows under [Writing](#writing) are not among them.
+chains, of calls with several arguments, of Arrays and of refused inputs: its name, and the
+nanoseconds of the judge and of the Rust's filling and methods, where it has them (of those calls
+the judgement alone and the Rust's methods; of Arrays as their section says). The rows under
+[Writing](#writing) are not among them.
 `tools/turns.py` compares the rows of two libraries; one from before document 02's orders is linked
 with `--no-default-features`, which leaves out what it does not have.
 
@@ -407,6 +472,13 @@ unnamed arguments alone: at most 1.1 times the judgement of the build before (`t
 rows that begin with `judgement`; `docs/orders/` has what it gave).
 
 {}
+## Arrays by the width of their size
+
+{}
+
+{}
+
+{}
 ## Writing
 
 A question of the test load, written to a buffer of {LOAD_LONGEST} bytes by the library (`aura_load`) and
@@ -425,6 +497,9 @@ do {STARTS} start numbers; a time is that of one question, here in nanoseconds.
         rows(report),
         chains(report),
         calls(report),
+        wrapped(&array_inputs(), ""),
+        wrapped(ARRAY_TIMES, ""),
+        arrays(report),
         writing(report),
         wrapped(&stack, ""),
         turn = TURN / 1000,
@@ -453,6 +528,16 @@ mod tests {
                 overloads: 3527,
                 times: Times { check: 231_000.0, whole: 14_339_000.0, fill: 1.0, build: 1.0, run: 56_432_000.0 },
             }],
+            arrays: [(Place::Leaves, 20_000.0, Some(40_000.0)), (Place::Params, 30_000.0, None)]
+                .map(|(place, time, rust)| ArrayRow {
+                    place,
+                    asked: "size of 4 bytes".to_string(),
+                    bytes: 11_545,
+                    time,
+                    four: 20_000.0,
+                    rust,
+                })
+                .into(),
             nodes: vec![],
             refused: vec![],
             buffers: [0, 320, 4096, 65_535].map(|bytes| (bytes, 123_456.7)).to_vec(),
@@ -506,6 +591,19 @@ mod tests {
         ));
         let row = "judgement: overloads of 2 parameters, 59985 bytes, 20 calls, 2 unnamed\t14108000.00\t56432000.00\n";
         assert!(lines(&report()).contains(row));
+    }
+
+    /// 20 µs for 60 leaves of 19 Arrays, 30 µs where 15 calls go over 290 functions that take 19.
+    #[test]
+    fn arrays_have_their_rows_and_no_bar() {
+        let text = page(&report());
+        assert!(text.contains("| leaves of 19 Arrays | size of 4 bytes | 11545 | 1140 | 20.0 | 17.5 | 1.00 | 0.50 |\n"));
+        let params = "| overloads that take 19 Arrays | size of 4 bytes | 11545 | 82650 | 30.0 | 0.4 | 1.50 |  |\n";
+        assert!(text.contains(params));
+        assert!(!bars(&report()).contains("Array"));
+        let rows = "arrays: leaves of 19 Arrays, size of 4 bytes, 11545 bytes\t20000.00\t40000.00\n\
+                    judgement: overloads that take 19 Arrays, size of 4 bytes, 11545 bytes\t30000.00\t\n";
+        assert!(lines(&report()).contains(rows));
     }
 
     #[test]

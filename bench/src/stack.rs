@@ -23,6 +23,8 @@ fn deepest() -> Vec<(Vec<u8>, Vec<u8>)> {
         (table(Make::BucketFields, 60_000), repeat(&[3, 40, 0])),
         deepest_types(|class| nullables(189, &named(class))),
         deepest_types(|class| (0..27).fold(named(class), |ty, _| nullable(&array(None, &ty)))),
+        #[cfg(feature = "large-array")]
+        deepest_types(|class| (0..17).fold(named(class), |ty, _| nullable(&array(Some(1 << 32), &ty)))),
     ]
 }
 

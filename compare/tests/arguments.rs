@@ -1,10 +1,10 @@
 //! The profile `arguments` and the sweep `own-parameters` ask what they are for (document 02, order 4).
 
-use compare::yardstick::WORDS;
+mod seen;
+
 use reading::gen::{case, Profile};
 use reading::words::refusal;
-use reading::Said;
-use wrong_words::{Wrong, WRONG};
+use seen::{differ, SEEN};
 
 /// How many cases of the profile are asked.
 const CASES: u64 = 12_000;
@@ -28,34 +28,9 @@ const OF_ARGUMENTS: [&str; 15] = [
     "vararg_takes_on",
 ];
 
-/// In how many cases each of them is to give another answer.
-const SEEN: u64 = 10;
-
-fn versions() -> Vec<&'static Wrong> {
-    let versions: Vec<&Wrong> = WRONG.iter().filter(|wrong| OF_ARGUMENTS.contains(&wrong.yardstick.name)).collect();
-    assert_eq!(versions.len(), OF_ARGUMENTS.len());
-    versions
-}
-
-/// How many of some cases each of the versions answers otherwise.
-fn differ(profile: Profile, indices: impl Iterator<Item = u64>) -> Vec<(&'static str, u64)> {
-    let versions = versions();
-    let mut counts: Vec<(&str, u64)> = versions.iter().map(|wrong| (wrong.yardstick.name, 0)).collect();
-    for index in indices {
-        let case = case(profile, 1, index);
-        let said = |says: fn(&[u8], &[u8]) -> Option<Said>| says(&case.table, &case.question);
-        let right = said(WORDS.says);
-        for (count, wrong) in counts.iter_mut().zip(&versions) {
-            count.1 += (said(wrong.yardstick.says) != right) as u64;
-        }
-    }
-    println!("{}: {:?}", profile.name(), counts);
-    counts
-}
-
 #[test]
 fn the_profile_tells_each_wrong_version_from_the_words() {
-    let counts = differ(Profile::Arguments, 0..CASES);
+    let counts = differ(&OF_ARGUMENTS, Profile::Arguments, 0..CASES);
     assert!(counts.iter().all(|(_, count)| *count >= SEEN), "{:?}", counts);
     // The order decides: where every unnamed argument meets the first free parameter a tenth is answered otherwise.
     let old = counts.iter().find(|(name, _)| *name == "first_free_again").expect("the version");
@@ -65,7 +40,7 @@ fn the_profile_tells_each_wrong_version_from_the_words() {
 #[test]
 fn the_sweep_tells_each_wrong_version_from_the_words() {
     let count = Profile::OwnParameters.count().expect("a sweep") as u64;
-    let counts = differ(Profile::OwnParameters, (0..count).step_by(17));
+    let counts = differ(&OF_ARGUMENTS, Profile::OwnParameters, (0..count).step_by(17));
     assert!(counts.iter().all(|(_, count)| *count >= SEEN), "{:?}", counts);
 }
 

@@ -4,6 +4,7 @@ use aura_judge::raw;
 use compare::load::Asked;
 use reading::bytes::without_superclasses;
 use reading::name::NONE;
+use reading::places::with_sizes;
 use reading::words::table::record_lengths;
 use reading::Written;
 use std::arch::asm;
@@ -40,9 +41,11 @@ pub enum Fault {
     Subclass,
     /// The last two arguments of a call change their types, where both are leaves of one byte.
     Arguments,
+    /// The size of a large Array loses its upper four bytes.
+    Sizes,
 }
 
-const NAMES: [(&str, Fault); 15] = [
+const NAMES: [(&str, Fault); 16] = [
     ("number", Fault::Number),
     ("answer", Fault::Answer),
     ("buffer", Fault::Buffer),
@@ -58,6 +61,7 @@ const NAMES: [(&str, Fault); 15] = [
     ("load", Fault::Load),
     ("subclass", Fault::Subclass),
     ("arguments", Fault::Arguments),
+    ("sizes", Fault::Sizes),
 ];
 
 extern "C" {
@@ -105,6 +109,11 @@ impl Fault {
                     return raw::judge(table, &[front, &[0, *b, 0, *a]].concat(), buffer, answer);
                 }
             }
+            Fault::Sizes if number == 0 => {
+                let (table, question) = with_sizes(table, question, &|size| size.map(|size| size & 0xffff_ffff));
+                return raw::judge(&table, &question, buffer, answer);
+            }
+            Fault::Sizes => {}
             Fault::Leak => std::mem::forget(black_box(vec![number; 64])),
             // SAFETY: none, and that is what each is for.
             _ => unsafe { self.overstep(table, question, buffer) },

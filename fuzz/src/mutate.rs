@@ -1,13 +1,15 @@
 //! Mutations that keep the table's length right, and mostly its records and the tree whole.
 
-use reading::bytes::{binary, call, leaf, member, method, named_arg, unary, Bytes};
+use reading::bytes::{array, array_body, binary, call, leaf, member, method, named_arg, unary, Bytes};
 use reading::gen::damage::damage;
 use reading::gen::model::random_type;
 use reading::gen::sweep::type_list;
 use reading::name::NONE;
+use reading::places::{in_question, in_table, parts};
 use reading::rng::Rng;
 use reading::words::question::read_node;
 use reading::words::table::{name_count, record_lengths};
+use reading::words::types::is_array;
 use reading::{join_input, split_input};
 use std::ops::Range;
 
@@ -17,6 +19,10 @@ extern "C" {
 
 /// How much longer one mutation makes a part at most.
 const GROWTH: usize = 256;
+
+/// Sizes of Arrays at the limits of both kinds.
+const SIZES: [Option<u64>; 8] =
+    [None, Some(0), Some(1), Some(u32::MAX as u64), Some(1 << 32), Some((1 << 32) + 1), Some(1 << 63), Some(u64::MAX)];
 
 #[no_mangle]
 pub extern "C" fn LLVMFuzzerCustomMutator(data: *mut u8, size: usize, most: usize, seed: u32) -> usize {
@@ -76,7 +82,11 @@ fn mutated(rng: &mut Rng, input: &[u8]) -> Option<Bytes> {
             0..=9 => own(&mut table),
             10..=23 => own(&mut question),
             24..=31 => (table, question) = damage(rng, (table, question)),
-            32..=54 => change_field(rng, &mut table),
+            32..=47 => change_field(rng, &mut table),
+            48..=54 => match rng.chance(40) {
+                true => change_size(rng, &mut table, in_table),
+                false => change_size(rng, &mut question, in_question),
+            },
             55..=69 => {
                 let parts = subtrees(&question);
                 if !parts.is_empty() {
@@ -173,6 +183,30 @@ fn change_field(rng: &mut Rng, table: &mut [u8]) {
     }
 }
 
+/// Another size, flag or kind of an Array in some type.
+fn change_size(rng: &mut Rng, bytes: &mut Bytes, places: fn(&[u8]) -> Vec<Range<usize>>) {
+    let mut arrays = Vec::new();
+    for place in places(bytes) {
+        let mut at = place.start;
+        for part in parts(&bytes[place]) {
+            if is_array(part[0]) {
+                arrays.push(at..at + part.len());
+            }
+            at += part.len();
+        }
+    }
+    if arrays.is_empty() {
+        return;
+    }
+    let size = *rng.pick(&SIZES);
+    let body = match rng.below(8) {
+        0 => vec![15],
+        1 => array_body(22, rng.below(3) as u8, &size.unwrap_or(0).to_le_bytes(), &[]),
+        _ => array(size, &[]),
+    };
+    bytes.splice(rng.pick(&arrays).clone(), body);
+}
+
 /// The classes of a table that have a record.
 fn class_ids(table: &[u8]) -> Vec<u16> {
     let mut at = 0;
@@ -211,9 +245,13 @@ fn some_type(rng: &mut Rng, table: &[u8]) -> Bytes {
     };
     let types: Vec<u16> = (0..4).map(|_| one(rng)).collect();
     // The list's types name up to four names of the table.
-    match names >= 44 && rng.chance(50) {
+    let ty = match names >= 44 && rng.chance(50) {
         true => rng.pick(type_list()).clone(),
         false => random_type(rng, 3, &types, true),
+    };
+    match rng.chance(20) {
+        true => array(*rng.pick(&SIZES), &ty),
+        false => ty,
     }
 }
 

@@ -15,7 +15,7 @@ extern "C" {
 
 /// The sources that judge or write, by the end of their paths; the generator's are of no concern. `cut.rs` is the Rust's own
 /// text.
-const FILES: [&str; 26] = [
+const FILES: [&str; 27] = [
     "/cut.rs",
     "/oracle/src/rust.rs",
     "/oracle/src/stubs.rs",
@@ -25,6 +25,7 @@ const FILES: [&str; 26] = [
     "/oracle/src/answer.rs",
     "/oracle/src/domain.rs",
     "/oracle/src/diagnostic.rs",
+    "/reading/src/places.rs",
     "/words/access.rs",
     "/words/assign.rs",
     "/words/binary.rs",

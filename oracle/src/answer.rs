@@ -1,10 +1,10 @@
 //! What the Rust says of a table and a question.
 
 use crate::diagnostic::diagnostic;
-use crate::domain::outside;
+use crate::domain::{outside, outside_before};
 use crate::question::{build, Asked};
 use crate::rust::{Judged, Ty};
-use crate::table::{fill, has_superclass, Filled};
+use crate::table::{fill, Filled};
 use crate::types::encode;
 use reading::words::{self, lent, refusal};
 use reading::{print_answer, split_input, Answer, Diagnostic, Said, BUFFER};
@@ -38,8 +38,8 @@ pub struct Run {
 impl Run {
     /// A run where the Rust is the yardstick. No message has been read.
     pub fn inside(table: &[u8], question: &[u8]) -> Result<Run, Outside> {
-        if has_superclass(table) {
-            return Err(Outside::Superclass);
+        if let Some(why) = outside_before(table, question) {
+            return Err(why);
         }
         let run = Run::of(table, question);
         match outside(&run, table) {

@@ -45,6 +45,7 @@ fn outside(why: Outside) -> &'static str {
         Outside::VarargNotLast => "a vararg that is not last",
         Outside::UnnamedArguments => "two unnamed arguments",
         Outside::NamedNoMatch => "a named argument and no match",
+        Outside::LargeArray => "an Array of kind 22",
     }
 }
 
@@ -79,7 +80,7 @@ pub fn required() -> Vec<Item> {
     items
 }
 
-pub const RULINGS: [&str; 36] = [
+pub const RULINGS: [&str; 38] = [
     "an exact match",
     "an accepted match",
     "a type variable accepted",
@@ -114,6 +115,8 @@ pub const RULINGS: [&str; 36] = [
     "an empty list",
     "a subclass accepted",
     "a comparison with a class above",
+    "an Array of another width accepted",
+    "a List accepted by a large Array",
     "an operator method of a superclass",
     "protected access from a subclass",
 ];

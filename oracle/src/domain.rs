@@ -1,9 +1,11 @@
-//! The compared domain: where the Rust is the yardstick. It is decided from a run's visited nodes and their types; no
-//! message is read.
+//! The compared domain: where the Rust is the yardstick. It is decided from an accepted table's and question's bytes, then
+//! from a run's visited nodes and their types; no message is read.
 
 use crate::answer::Run;
 use crate::rust::{Checker, Expr, ParamSym, Symbol, SymbolKind, Ty};
-use crate::table::owners;
+use crate::table::{has_superclass, owners};
+use reading::places::{in_question, in_table, parts};
+use reading::words::types::LARGE_ARRAY;
 use std::collections::HashMap;
 
 /// Why the Rust is no yardstick of an accepted table and question.
@@ -21,20 +23,38 @@ pub enum Outside {
     UnnamedArguments,
     /// ".. and either some overload matches or no argument is named". Asked of the same calls, also where none fits.
     NamedNoMatch,
+    /// Document 02, order 5: "runs beside the Rust leave kind 22 out". Asked of every type in the table's records and the
+    /// question's leaves, visited or not.
+    LargeArray,
 }
 
 impl Outside {
-    pub const ALL: [Outside; 5] = [
+    pub const ALL: [Outside; 6] = [
         Outside::Superclass,
         Outside::Spelling,
         Outside::VarargNotLast,
         Outside::UnnamedArguments,
         Outside::NamedNoMatch,
+        Outside::LargeArray,
     ];
 }
 
-/// Why a run on an accepted table without superclasses is outside the domain. Of several calls the one that was finished
-/// first says: up to there the Rust's types are right.
+/// Why the Rust is not run on an accepted table and question.
+pub fn outside_before(table: &[u8], question: &[u8]) -> Option<Outside> {
+    let large = |ty: &[u8]| parts(ty).iter().any(|part| part[0] == LARGE_ARRAY);
+    let in_table = || in_table(table).into_iter().any(|place| large(&table[place]));
+    let in_question = || in_question(question).into_iter().any(|place| large(&question[place]));
+    if has_superclass(table) {
+        Some(Outside::Superclass)
+    } else if in_table() || in_question() {
+        Some(Outside::LargeArray)
+    } else {
+        None
+    }
+}
+
+/// Why a run is outside the domain, of an accepted table and question of which `outside_before` says nothing. Of several
+/// calls the one that was finished first says: up to there the Rust's types are right.
 pub fn outside(run: &Run, table: &[u8]) -> Option<Outside> {
     let visited = Visited::of(run);
     if visited.spells_an_owner(table) {

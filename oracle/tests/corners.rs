@@ -1,4 +1,4 @@
-//! Every sentence of document 01's "Corners in ..", and of document 02's orders 2 to 4, as a test that fails if the
+//! Every sentence of document 01's "Corners in ..", and of document 02's orders 2 to 5, as a test that fails if the
 //! sentence is false. Tests made by `sentences!` run the named examples of that sentence, whose answers were written by
 //! hand, through the Rust inside its domain and through the second reading elsewhere.
 
@@ -120,6 +120,31 @@ sentences! {
     a_method_call_takes_its_arguments_as_a_call_does
     builtins_take_their_arguments_alike
     where_several_fit_and_none_matches_there_is_one_report
+    every_size_in_the_kind_that_it_asks_for
+    every_size_of_the_old_width_reads_as_it_did
+    a_kind_22_with_a_smaller_size_or_another_flag_counts_as_malformed
+    a_malformed_large_array_in_every_part_of_a_type
+    a_large_array_cut_behind_each_of_its_bytes
+    a_large_array_at_the_192nd_byte
+    a_large_array_with_fewer_than_192_bytes_left_is_cut
+    the_longest_type_with_a_large_array
+    arrays_of_both_kinds_in_each_other
+    ids_in_a_large_array
+    error_in_a_large_array
+    kinds_from_23_upward_are_malformed
+    the_lowest_number_beside_a_large_array
+    list_and_array_assign_to_array_by_element_type_whatever_the_widths
+    named_array_list_and_mutable_list_assign_to_every_array
+    nullables_around_a_large_array
+    elements_of_large_arrays_decide_at_every_depth
+    a_class_in_a_large_array_goes_where_its_superclass_is_expected
+    what_holds_a_large_array_and_is_no_array_is_compared_whole
+    equal_bytes_score_2_and_an_array_of_another_width_1
+    large_arrays_as_arguments_of_every_form
+    members_of_a_large_array
+    comparisons_of_large_arrays
+    other_operators_on_large_arrays
+    unary_operators_on_large_arrays
     limits_of_tables
     lengths_and_letters_of_names
     every_built_in_name_is_a_key
@@ -153,7 +178,7 @@ fn every_sentence_with_an_example_is_listed() {
 }
 
 /// Sentences of which no example is inside the Rust's domain: their examples need a superclass, two unnamed arguments, a
-/// vararg that is not last, or a named argument where nothing matches.
+/// vararg that is not last, a named argument where nothing matches, or a kind 22.
 const BY_THE_WORDS_ALONE: &[&str] = &[
     "named_a_assigns_to_named_b_if_b_is_met_climbing_from_a",
     "the_climb_stops_at_a_class_without_an_operator_set",
@@ -173,6 +198,19 @@ const BY_THE_WORDS_ALONE: &[&str] = &[
     "each_parameter_is_taken_once_in_turn",
     "a_vararg_that_is_not_last_takes_one_argument_and_lifts_no_limit",
     "mismatches_come_in_argument_order_at_their_own_nodes",
+    "arrays_of_both_kinds_in_each_other",
+    "list_and_array_assign_to_array_by_element_type_whatever_the_widths",
+    "named_array_list_and_mutable_list_assign_to_every_array",
+    "nullables_around_a_large_array",
+    "elements_of_large_arrays_decide_at_every_depth",
+    "a_class_in_a_large_array_goes_where_its_superclass_is_expected",
+    "what_holds_a_large_array_and_is_no_array_is_compared_whole",
+    "equal_bytes_score_2_and_an_array_of_another_width_1",
+    "large_arrays_as_arguments_of_every_form",
+    "members_of_a_large_array",
+    "comparisons_of_large_arrays",
+    "other_operators_on_large_arrays",
+    "unary_operators_on_large_arrays",
 ];
 
 #[test]

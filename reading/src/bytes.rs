@@ -24,8 +24,18 @@ pub fn pointer(inner: &[u8]) -> Bytes {
     with(13, &[inner])
 }
 
-pub fn array(size: Option<u32>, inner: &[u8]) -> Bytes {
-    with(14, &[&[size.is_some() as u8], &size.unwrap_or(0).to_le_bytes(), inner])
+/// An Array of the kind that its size asks for: from 2^32 on a large one.
+pub fn array(size: Option<u64>, inner: &[u8]) -> Bytes {
+    let number = size.unwrap_or(0);
+    match u32::try_from(number) {
+        Ok(small) => array_body(14, size.is_some() as u8, &small.to_le_bytes(), inner),
+        Err(_) => array_body(22, 1, &number.to_le_bytes(), inner),
+    }
+}
+
+/// An Array whose body may be malformed.
+pub fn array_body(kind: u8, flag: u8, size: &[u8], inner: &[u8]) -> Bytes {
+    with(kind, &[&[flag], size, inner])
 }
 
 pub fn list(inner: &[u8]) -> Bytes {

@@ -1,6 +1,7 @@
 //! Document 01's examples, its marked cases and its corners as cases, and those of the orders of document 02, each with
 //! the answer that the documents have for it, written by hand. The stored sample begins with them.
 
+mod array_sizes;
 mod name_counts;
 mod own_parameters;
 mod question_edges;
@@ -129,6 +130,7 @@ pub fn all() -> Vec<Example> {
     subclasses::add(&mut list);
     name_counts::add(&mut list);
     own_parameters::add(&mut list);
+    array_sizes::add(&mut list);
     table_edges::add(&mut list);
     question_edges::add(&mut list);
     list.all
@@ -809,7 +811,7 @@ fn table_refusals(list: &mut List) {
     put("table.2-function-flag-2", vec![4, 0, 0, 0, 0, 0, 2, 0, 0], 2);
     put("table.2-function-of-17-parameters", vec![4, 0, 0, 0, 0, 0, 0, 17, 0], 2);
     put("table.2-parameter-flag-4", vec![4, 0, 0, 0, 0, 0, 0, 1, 0, 1, 0, 4, 0], 2);
-    put("table.2-type-kind-22", vec![5, 0, 0, 0, 0, 22], 2);
+    put("table.2-type-kind-23", vec![5, 0, 0, 0, 0, 23], 2);
     put("table.2-array-flag-2", vec![5, 0, 0, 0, 0, 14, 2, 0, 0, 0, 0, 0], 2);
     put("table.2-array-flag-0-with-a-size", vec![5, 0, 0, 0, 0, 14, 0, 1, 0, 0, 0, 0], 2);
     put("table.array-flag-1-with-size-0", vec![5, 0, 0, 0, 0, 14, 1, 0, 0, 0, 0, 0], 0);
@@ -882,8 +884,8 @@ fn table_refusals(list: &mut List) {
     put("table.7-a-body-that-crosses-the-192nd-byte-is-not-examined", field(&nullables(190, &[17, 99, 99])), 7);
     put("table.4-a-body-that-ends-at-the-192nd-byte-is-examined", field(&nullables(189, &[17, 99, 99])), 4);
     put("table.7-kind-21-at-the-192nd-byte", field(&nullables(191, &[21])), 7);
-    put("table.2-kind-22-at-the-192nd-byte", field(&nullables(191, &[22])), 2);
-    put("table.7-kind-22-at-the-193rd-byte-is-not-read", field(&nullables(192, &[22])), 7);
+    put("table.2-kind-23-at-the-192nd-byte", field(&nullables(191, &[23])), 2);
+    put("table.7-kind-23-at-the-193rd-byte-is-not-read", field(&nullables(192, &[23])), 7);
     put(
         "table.5-a-repeated-parameter-whose-type-has-no-end",
         joined(&[&[4, 0, 0, 0, 0, 0, 0, 2, 0, 1, 0, 0, 0, 1, 0, 0], &nullables(200, &[])]),
@@ -927,7 +929,7 @@ fn question_refusals(list: &mut List) {
     put("question.8-a-cut-tree", question(&[1, 0, 0, 0]), R8);
     put("question.8-a-cut-id", question(&[4, 0]), R8);
     put("question.8-a-cut-type", question(&[0, 12]), R8);
-    put("question.8-type-kind-22", question(&[0, 22]), R8);
+    put("question.8-type-kind-23", question(&[0, 23]), R8);
     put("question.10-undefined-id-of-a-member", question(&member(40, &leaf(&[INT]))), R10);
     put("question.10-id-65535-of-a-call", question(&call(NONE, &[])), R10);
     put("question.10-undefined-id-in-a-leaf", question(&leaf(&named(40))), R10);
@@ -960,7 +962,7 @@ fn question_refusals(list: &mut List) {
         question(&leaf(&[&[16, 18, 17][..], &nullables(190, &[INT])].concat())),
         R8,
     );
-    put("question.11-nothing-behind-the-192nd-byte-is-read", question(&leaf(&nullables(192, &[22, 22, 22]))), R11);
+    put("question.11-nothing-behind-the-192nd-byte-is-read", question(&leaf(&nullables(192, &[23, 23, 23]))), R11);
     put(
         "question.11-a-body-that-crosses-the-192nd-byte-is-not-examined",
         question(&leaf(&nullables(190, &[17, 99, 99]))),

@@ -8,6 +8,7 @@ pub mod examples;
 pub mod gen;
 pub mod hex;
 pub mod name;
+pub mod places;
 pub mod rng;
 pub mod words;
 

@@ -73,10 +73,10 @@ fn every_other_case_has_few_unnamed_arguments() {
     }
 }
 
-/// The profile has the last place of each turn of the mixed cases.
+/// The profile has the last place but one of each turn of the mixed cases.
 #[test]
 fn the_mixed_cases_have_the_profile() {
     for round in 0..20 {
-        assert_eq!(mixed(3, 14 * round + 13), case(Profile::Arguments, 3, round));
+        assert_eq!(mixed(3, 15 * round + 13), case(Profile::Arguments, 3, round));
     }
 }

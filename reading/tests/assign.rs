@@ -1,4 +1,5 @@
-//! Document 02, order 2, over many tables of classes: who is met is found here without any climb.
+//! Document 02, order 2, over many tables of classes: who is met is found here without any climb. With order 5's Arrays of
+//! both kinds.
 
 use reading::bytes::*;
 use reading::name::NONE;
@@ -65,11 +66,19 @@ fn met(superclasses: &[Option<usize>]) -> Vec<Vec<bool>> {
 
 type Wrap = fn(&[u8]) -> Bytes;
 
+/// The least size of kind 22.
+const LARGE: u64 = 1 << 32;
+
 /// Pairs of wrappings between which assignability asks itself for what they hold.
-const ASKED: [(Wrap, Wrap); 8] = [
+const ASKED: [(Wrap, Wrap); 13] = [
     (|x| x.to_vec(), |x| x.to_vec()),
     (|x| array(None, x), |x| array(Some(7), x)),
     (list, |x| array(None, x)),
+    (list, |x| array(Some(LARGE), x)),
+    (|x| array(None, x), |x| array(Some(LARGE), x)),
+    (|x| array(Some(LARGE), x), |x| array(Some(7), x)),
+    (|x| array(Some(LARGE), x), |x| array(Some(LARGE + 1), x)),
+    (|x| nullable(&list(&array(Some(LARGE), x))), |x| array(Some(LARGE), &nullable(&array(None, x)))),
     (|x| nullable(x), |x| x.to_vec()),
     (|x| x.to_vec(), |x| nullable(x)),
     (|x| nullable(&array(None, x)), |x| nullable(&array(None, &nullable(x)))),
@@ -78,8 +87,15 @@ const ASKED: [(Wrap, Wrap); 8] = [
 ];
 
 /// Wrappings that are compared whole.
-const WHOLE: [Wrap; 5] =
-    [pointer, |x| map(x, x), |x| function(&[], x), |x| function(&[x], &[INT]), |x| array(None, &pointer(x))];
+const WHOLE: [Wrap; 7] = [
+    pointer,
+    |x| map(x, x),
+    |x| function(&[], x),
+    |x| function(&[x], &[INT]),
+    |x| array(None, &pointer(x)),
+    |x| array(Some(LARGE), &pointer(x)),
+    |x| pointer(&array(Some(LARGE), x)),
+];
 
 #[test]
 fn a_class_assigns_to_itself_and_to_the_classes_that_are_met() {
@@ -122,8 +138,10 @@ fn a_list_and_an_array_go_to_and_from_the_list_names_alone() {
             let is_name = (1..=3).contains(&place);
             assert_eq!(can_assign_to(&symbols, &ty, &list(&[INT])), is_name);
             assert_eq!(can_assign_to(&symbols, &list(&[INT]), &ty), is_name);
-            assert_eq!(can_assign_to(&symbols, &ty, &array(None, &[INT])), place == 2 || place == 3);
-            assert!(!can_assign_to(&symbols, &array(None, &[INT]), &ty));
+            for size in [None, Some(7), Some(LARGE), Some(u64::MAX)] {
+                assert_eq!(can_assign_to(&symbols, &ty, &array(size, &[INT])), place == 2 || place == 3);
+                assert!(!can_assign_to(&symbols, &array(size, &[INT]), &ty));
+            }
             below += (!is_name && (1..=3).any(|name| met[place][name])) as usize;
             names += is_name as usize;
         }

@@ -90,8 +90,8 @@ fn without_superclasses_only_they_are_missing() {
 #[test]
 fn every_other_round_is_without_superclasses() {
     let (mut even, mut odd) = (0, 0);
-    for index in 0..14 * 200 {
-        let (place, round) = (index % 14, index / 14);
+    for index in 0..15 * 200 {
+        let (place, round) = (index % 15, index / 15);
         if [0, 1, 3, 4, 5, 10, 11].contains(&place) {
             let counted = if round % 2 == 0 { &mut even } else { &mut odd };
             *counted += has_superclass(&mixed(3, index).table) as usize;
@@ -111,7 +111,7 @@ fn the_second_round_of_a_sweep_is_without_superclasses() {
             assert_eq!((without_superclasses(&first.table), first.question), (second.table, second.question));
         }
     }
-    assert_eq!(PROFILES.iter().filter(|(p, _)| p.count().is_some()).count(), 9);
+    assert_eq!(PROFILES.iter().filter(|(p, _)| p.count().is_some()).count(), 10);
 }
 
 /// The sweep over wrappings: how many of its first round's answers are others without superclasses.

@@ -1,4 +1,4 @@
-/* The C interface on document 01's sample, `!!` on an Int, and on a test load. From the repository's root:
+/* The C interface on document 01's sample, `!!` on an Int, on a leaf of kind 22, and on a test load. From the repository's root:
    cc -Iinclude tests/c/judge.c crates/aura_c/out/libaura_c.a -o crates/aura_c/out/judge_c && crates/aura_c/out/judge_c */
 #include "aura_judge.h"
 
@@ -14,6 +14,21 @@ static int is_zero(const uint8_t *bytes, size_t length) {
     while (length > 0)
         if (bytes[--length] != 0) return 0;
     return 1;
+}
+
+/* A leaf of the type Array(Int, 4294967296): the answer's type has its bytes. */
+static int large_array(void) {
+    const uint8_t question[] = {255, 255, 255, 255, 0, 0, 22, 1, 0, 0, 0, 0, 1, 0, 0, 0, 0};
+    uint8_t diagnostics[5], answer[AURA_JUDGE_ANSWER_SIZE];
+    const size_t length = sizeof question - 6;
+
+    memset(answer, 7, sizeof answer);
+    if (aura_judge(question, 0, question, sizeof question, diagnostics, sizeof diagnostics, answer, sizeof answer) != 0)
+        return wrong("a large Array is refused");
+    if (answer[1] != 1 || answer[2] != length || answer[3] != 0 || memcmp(answer + 12, question + 6, length) != 0
+        || !is_zero(answer + 12 + length, sizeof answer - 12 - length))
+        return wrong("another type than a large Array");
+    return 0;
 }
 
 /* A load of two nodes, judged; then a node count and a buffer that are refused. */
@@ -67,7 +82,7 @@ int main(void) {
         || !is_zero(diagnostics, sizeof diagnostics) || !is_zero(answer, AURA_JUDGE_ANSWER_SIZE - 1)
         || answer[AURA_JUDGE_ANSWER_SIZE - 1] != 7)
         return wrong("too short an answer");
-    if (load() != 0) return 1;
+    if (large_array() != 0 || load() != 0) return 1;
     printf("tests/c/judge.c: as the header says\n");
     return 0;
 }

@@ -11,12 +11,16 @@ use Rattle.operators.specs.Operand.{is_kind}
 use Rattle.operators.specs.declared.assign.Next.TheVariants.{Yes, Left, Right, Both, Climb}
 use Rattle.operators.specs.declared.assign.Next.{Next}
 use Rattle.ty.proofs.Choice.{by_choice, and_left, and_right}
-use Rattle.ty.specs.Bytes.{Ty, kind_of, is_array}
-use Rattle.ty.specs.Kind.{nullable_kind, list_kind, array_kind, named_kind}
+use Rattle.ty.specs.Bytes.{Ty, kind_of, is_array_kind, is_array}
+use Rattle.ty.specs.Kind.{nullable_kind, list_kind, named_kind}
 
 -- a type has one kind
 pub one_kind : {A : Type 0} (k m : ℕ) (t : Ty) → eqb k m ≡ false → is_kind k t ≡ true → is_kind m t ≡ true → A
 one_kind k m t d e h = absurd (false≢true (sym d ∙ rw (← eqb-true (kind_of t) k e) h))
+
+-- and an Array is of no kind but its two
+pub no_array : {A : Type 0} (k : ℕ) (t : Ty) → is_array_kind k ≡ false → is_kind k t ≡ true → is_array t ≡ true → A
+no_array k t d e h = absurd (false≢true (sym d ∙ rw (← eqb-true (kind_of t) k e) h))
 
 -- a step is yes, or the one that is named
 abbrev pub YesOr : Next → Next → Type 0
@@ -39,9 +43,9 @@ module _ (a b : Ty) where
   unfolding assign_step
   step_right h =
       by_choice (YesOr Right) _ (λ _. inl refl) λ _.
-      by_choice (YesOr Right) _ (λ e. one_kind nullable_kind array_kind b refl h (and_right (is_kind list_kind a) _ e)) λ _.
+      by_choice (YesOr Right) _ (λ e. no_array nullable_kind b refl h (and_right (is_kind list_kind a) _ e)) λ _.
       by_choice (YesOr Right) _ (λ _. inl refl) λ _.
-      by_choice (YesOr Right) _ (λ e. one_kind nullable_kind array_kind b refl h (and_right (is_array a) _ e)) λ _.
+      by_choice (YesOr Right) _ (λ e. no_array nullable_kind b refl h (and_right (is_array a) _ e)) λ _.
       by_choice (YesOr Right) _ (λ _. inl refl) λ _.
       by_choice (YesOr Right) _ (λ _. inl refl) λ _.
       by_choice (YesOr Right) _ (λ _. inr refl) (λ e. absurd (false≢true (sym e ∙ h)))
@@ -52,7 +56,7 @@ module _ (a b : Ty) where
       by_choice (YesOr Left) _ (λ _. inl refl) λ _.
       by_choice (YesOr Left) _ (λ e. one_kind nullable_kind list_kind a refl h (and_left _ _ e)) λ _.
       by_choice (YesOr Left) _ (λ _. inl refl) λ _.
-      by_choice (YesOr Left) _ (λ e. one_kind nullable_kind array_kind a refl h (and_left _ _ e)) λ _.
+      by_choice (YesOr Left) _ (λ e. no_array nullable_kind a refl h (and_left _ _ e)) λ _.
       by_choice (YesOr Left) _ (λ _. inl refl) λ _.
       by_choice (YesOr Left) _ (λ _. inl refl) λ _.
       by_choice (YesOr Left) _ (λ e. absurd (false≢true (sym k ∙ e))) λ _.
@@ -64,7 +68,7 @@ module _ (a b : Ty) where
       by_choice (YesOr Climb) _ (λ _. inl refl) λ _.
       by_choice (YesOr Climb) _ (λ e. one_kind named_kind list_kind a refl h (and_left _ _ e)) λ _.
       by_choice (YesOr Climb) _ (λ _. inl refl) λ _.
-      by_choice (YesOr Climb) _ (λ e. one_kind named_kind array_kind a refl h (and_left _ _ e)) λ _.
+      by_choice (YesOr Climb) _ (λ e. no_array named_kind a refl h (and_left _ _ e)) λ _.
       by_choice (YesOr Climb) _ (λ _. inl refl) λ _.
       by_choice (YesOr Climb) _ (λ _. inl refl) λ _.
       by_choice (YesOr Climb) _ (λ e. one_kind named_kind nullable_kind b refl k e) λ _.

@@ -7,10 +7,11 @@ use mathlib.Core.Logic.{◌⊎◌, inl, inr}
 use Prim.Native.Nat.{ℕ, zero, suc, ◌+◌, ◌<◌}
 use native.Mathlib.Nat.{not-suc-le-zero}
 use native.Mathlib.Omega.{arith}
-use lib.ListN.{length, length-drop}
+use lib.ListN.{length}
 use lib.Dec.{eqb}
 use borrow.Author.Tests.{eqb-true}
-use Rattle.ty.proofs.Choice.{by_choice, and_left, and_right}
+use Rattle.ty.proofs.Choice.{by_choice, and_left, and_right, or_right, or_false}
+use Rattle.ty.proofs.Held.{inner_shorter}
 use Rattle.ty.specs.Kind.{no_kind, nullable_kind, list_kind, named_kind}
 use Rattle.ty.specs.Bytes.{Ty, kind_of, name_of, is_array, inner_of}
 use Rattle.operators.specs.Assign.{assign_step, answer_by, assign_in, can_assign}
@@ -20,12 +21,10 @@ use Rattle.operators.specs.declared.assign.Next.TheVariants.{Yes, No, Left, Righ
 
 -- a test that may be left out
 pub or_yes : (s t : Bool) → t ≡ true → true ≡ s || t
-or_yes true t e = refl
-or_yes false t e = sym e
+or_yes s t e = sym (or_right s t e)
 
 pub or_no : (s t : Bool) → t ≡ false → s ≡ s || t
-or_no true t e = refl
-or_no false t e = sym e
+or_no s t e = sym (or_false s t e)
 
 pub ruleset either_way = (or_yes, or_no)
 
@@ -37,11 +36,6 @@ some (x ∷ a) k h e = omega arith
 array : (a : Ty) → is_array a ≡ true → 0 < length a
 array [] e = absurd (false≢true e)
 array (x ∷ a) e = omega arith
-
-pub inner_shorter : (a : Ty) → 0 < length a → length (inner_of a) < length a
-unfolding inner_of
-inner_shorter a h =
-    by_choice (λ (t : Ty). length t < length a) (is_array a) (λ e. simp length-drop (omega arith)) (λ e. simp length-drop (omega arith))
 
 -- why a step goes where it goes
 unfoldable pub Reason : Ty → Ty → Next → Type 0

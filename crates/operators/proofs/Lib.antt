@@ -3,6 +3,7 @@ pub mod Assigns
 pub mod AssignSteps
 pub mod NullablesOpened
 pub mod Order2
+pub mod Order5Assign
 pub mod Climbs
 pub mod Each
 pub mod MethodLookups

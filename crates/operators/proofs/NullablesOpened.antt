@@ -10,18 +10,19 @@ use mathlib.Core.Path.{◌≡◌, refl, sym, ap, ◌∙◌}
 use native.Mathlib.Nat.{not-suc-le-zero}
 use native.Mathlib.Omega.{arith}
 use Rattle.operators.proofs.Assigns.{yes_is, no_is, both_is, climb_is, both_shorter}
-use Rattle.operators.proofs.Assigns.{Reason, reason_by, some, inner_shorter, assigns_step, assigns_by}
-use Rattle.operators.proofs.AssignSteps.{one_kind, yes_or, step_right, step_left}
+use Rattle.operators.proofs.Assigns.{Reason, reason_by, some, assigns_step, assigns_by}
+use Rattle.operators.proofs.AssignSteps.{one_kind, no_array, yes_or, step_right, step_left}
 use Rattle.operators.specs.Assign.{is_named, is_growing, is_list_name, assigns_at_once, assign_step, answer_by, can_assign}
 use Rattle.operators.specs.Inside.Nullables.{nullables}
 use Rattle.operators.specs.Operand.{is_kind, numbers}
 use Rattle.operators.specs.declared.assign.Next.TheVariants.{Yes, Left, Right}
 use Rattle.operators.specs.declared.assign.Next.{Next}
-use Rattle.ty.proofs.Choice.{by_choice, choose_yes, and_left, and_right, or_cases}
+use Rattle.ty.proofs.Choice.{by_choice, choose_yes, and_left, and_right, or_left, or_right, or_cases}
+use Rattle.ty.proofs.Held.{inner_shorter}
 use Rattle.ty.proofs.Same.{same_eq, same_refl}
 use Rattle.ty.specs.Bytes.{Ty, kind_of, is_array, is_numeric, inner_of, same_bytes}
 use Rattle.ty.specs.Choose.{choose}
-use Rattle.ty.specs.Kind.{double_kind, nullable_kind, any_kind, error_kind, list_kind, array_kind, named_kind}
+use Rattle.ty.specs.Kind.{double_kind, nullable_kind, any_kind, error_kind, list_kind, named_kind}
 use Rattle.ty.specs.Name.{list_id, array_list_id}
 
 -- ---- how many there are, one by one
@@ -61,17 +62,10 @@ unfolding choose
 inside_none [] e = rw nullables_none
 inside_none (k ∷ t) e = rw (nullables_first k t, e)
 
-or_first : (s t : Bool) → s ≡ true → s || t ≡ true
-or_first s t e = rw e
-
-or_second : (s t : Bool) → t ≡ true → s || t ≡ true
-or_second true t e = refl
-or_second false t e = e
-
 not_numeric : {A : Type 0} (t : Ty) → is_kind nullable_kind t ≡ true → is_numeric t ≡ true → A
 not_numeric t h e = absurd (false≢true (sym (ap (λ (k : ℕ). leb k double_kind) (eqb-true (kind_of t) nullable_kind h)) ∙ e))
 
-growing_named : (t : Ty) → is_growing t ≡ true → is_kind named_kind t ≡ true
+pub growing_named : (t : Ty) → is_growing t ≡ true → is_kind named_kind t ≡ true
 growing_named t e = or_cases (is_named array_list_id t) _ e (λ i. and_left _ _ i) (λ i. and_left _ _ i)
 
 list-named : (t : Ty) → is_list_name t ≡ true → is_kind named_kind t ≡ true
@@ -84,19 +78,19 @@ module _ (below : ℕ → ℕ → Bool) where
   at_once a b e = assigns_by below a b Yes (sym (choose_yes _ _ _ e))
 
   from-error : (a b : Ty) → is_kind error_kind a ≡ true → can_assign below a b ≡ true
-  from-error a b e = at_once a b (or_second (same_bytes a b) _ (or_first _ _ (or_second (is_kind any_kind b) _ (or_second (is_kind error_kind b) _ e))))
+  from-error a b e = at_once a b (or_right (same_bytes a b) _ (or_left _ _ (or_right (is_kind any_kind b) _ (or_right (is_kind error_kind b) _ e))))
 
   from-any : (a b : Ty) → is_kind any_kind a ≡ true → can_assign below a b ≡ true
-  from-any a b e = at_once a b (or_second (same_bytes a b) _ (or_second (is_kind any_kind b || (is_kind error_kind b || is_kind error_kind a)) _ (or_first _ _ e)))
+  from-any a b e = at_once a b (or_right (same_bytes a b) _ (or_right (is_kind any_kind b || (is_kind error_kind b || is_kind error_kind a)) _ (or_left _ _ e)))
 
   to_any : (a b : Ty) → is_kind any_kind b ≡ true → can_assign below a b ≡ true
-  to_any a b e = at_once a b (or_second (same_bytes a b) _ (or_first _ _ (or_first _ _ e)))
+  to_any a b e = at_once a b (or_right (same_bytes a b) _ (or_left _ _ (or_left _ _ e)))
 
   to_error : (a b : Ty) → is_kind error_kind b ≡ true → can_assign below a b ≡ true
-  to_error a b e = at_once a b (or_second (same_bytes a b) _ (or_first _ _ (or_second (is_kind any_kind b) _ (or_first _ _ e))))
+  to_error a b e = at_once a b (or_right (same_bytes a b) _ (or_left _ _ (or_right (is_kind any_kind b) _ (or_left _ _ e))))
 
-  same_goes : (a b : Ty) → a ≡ b → can_assign below a b ≡ true
-  same_goes a b e = at_once a b (or_first (same_bytes a b) _ (rw e (same_refl b)))
+  pub same_goes : (a b : Ty) → a ≡ b → can_assign below a b ≡ true
+  same_goes a b e = at_once a b (or_left (same_bytes a b) _ (rw e (same_refl b)))
 
   -- types that are the same under all their Nullables assign to each other
   inside_goes : (n : ℕ) (a b : Ty) → length a + length b < n → inside a ≡ inside b → can_assign below a b ≡ true
@@ -133,11 +127,11 @@ module _ (below : ℕ → ℕ → Bool) where
     right_one h =
         assigns_step below a b ∙ (
         by_choice (To a (inner_of b)) _ (λ e. sym (right_at_once h e)) λ _.
-        by_choice (To a (inner_of b)) _ (λ e. one_kind nullable_kind array_kind b refl h (and_right (is_kind list_kind a) _ e)) λ _.
-        by_choice (To a (inner_of b)) _ (λ e. one_kind nullable_kind array_kind b refl h (and_right (is_growing a) _ e)) λ _.
-        by_choice (To a (inner_of b)) _ (λ e. one_kind nullable_kind array_kind b refl h (and_right (is_array a) _ e)) λ _.
+        by_choice (To a (inner_of b)) _ (λ e. no_array nullable_kind b refl h (and_right (is_kind list_kind a) _ e)) λ _.
+        by_choice (To a (inner_of b)) _ (λ e. no_array nullable_kind b refl h (and_right (is_growing a) _ e)) λ _.
+        by_choice (To a (inner_of b)) _ (λ e. no_array nullable_kind b refl h (and_right (is_array a) _ e)) λ _.
         by_choice (To a (inner_of b)) _ (λ e. no_list_name (and_right (is_list_name a) _ e)) λ _.
-        by_choice (To a (inner_of b)) _ (λ e. no_list_name (or_second (is_kind list_kind b) _ (and_right (is_kind list_kind a) _ e))) λ _.
+        by_choice (To a (inner_of b)) _ (λ e. no_list_name (or_right (is_kind list_kind b) _ (and_right (is_kind list_kind a) _ e))) λ _.
         by_choice (To a (inner_of b)) _ (λ _. refl) (λ e. absurd (false≢true (sym e ∙ h))))
       where
         no_list_name : {A : Type 0} → is_kind list_kind b || is_list_name b ≡ true → A
@@ -160,7 +154,7 @@ module _ (below : ℕ → ℕ → Bool) where
         by_choice (To (inner_of a) b) _ (λ e. sym (left_at_once h n e)) λ _.
         by_choice (To (inner_of a) b) _ (λ e. one_kind nullable_kind list_kind a refl h (and_left _ _ e)) λ _.
         by_choice (To (inner_of a) b) _ (λ e. one_kind nullable_kind named_kind a refl h (growing_named a (and_left _ _ e))) λ _.
-        by_choice (To (inner_of a) b) _ (λ e. one_kind nullable_kind array_kind a refl h (and_left _ _ e)) λ _.
+        by_choice (To (inner_of a) b) _ (λ e. no_array nullable_kind a refl h (and_left _ _ e)) λ _.
         by_choice (To (inner_of a) b) _ (λ e. one_kind nullable_kind named_kind a refl h (list-named a (and_left _ _ e))) λ _.
         by_choice (To (inner_of a) b) _ (λ e. one_kind nullable_kind list_kind a refl h (and_left _ _ e)) λ _.
         by_choice (To (inner_of a) b) _ (λ e. absurd (false≢true (sym n ∙ e))) λ _.

@@ -10,7 +10,7 @@ use native.Mathlib.Omega.{arith}
 use Rattle.below.proofs.Belows.{below_then_met, met-below, none_below}
 use Rattle.below.specs.Below.{is_below}
 use Rattle.operators.proofs.Assigns.{Reason, reason_by, by_reason, Shorter, left_shorter, right_shorter, both_shorter, assigns_by}
-use Rattle.operators.proofs.AssignSteps.{one_kind, yes_or, step_arrays, step_right, step_left, step_climb}
+use Rattle.operators.proofs.AssignSteps.{one_kind, no_array, yes_or, step_arrays, step_right, step_left, step_climb}
 use Rattle.operators.specs.Assign.{assign_step, can_assign, assigns}
 use Rattle.operators.specs.Operand.{is_kind}
 use Rattle.operators.specs.Order2.{ClassMet, named, arrays, list-array, to_nullable, from-nullable, assigns_unrelated, SubclassAssigns}
@@ -20,7 +20,7 @@ use Rattle.record.specs.TableRefused.{table_fault}
 use Rattle.symbol.specs.Lookup.{symbols_of}
 use Rattle.symbol.specs.Symbols.{Symbols}
 use Rattle.ty.specs.Bytes.{Ty, name_of, is_array, inner_of}
-use Rattle.ty.specs.Kind.{nullable_kind, list_kind, array_kind, named_kind}
+use Rattle.ty.specs.Kind.{nullable_kind, list_kind, named_kind}
 
 -- no class is below another
 abbrev unrelated : ℕ → ℕ → Bool
@@ -92,8 +92,8 @@ module _ (S : Symbols) where
   -- also under a Nullable that is expected
   opened : {a b : Ty} → is_kind nullable_kind b ≡ true → ClassMet S a b → ClassMet S a (inner_of b)
   opened {a} {b} k (named h i m) = one_kind nullable_kind named_kind b refl k i
-  opened {a} {b} k (arrays h i m) = one_kind nullable_kind array_kind b refl k i
-  opened {a} {b} k (list-array h i m) = one_kind nullable_kind array_kind b refl k i
+  opened {a} {b} k (arrays h i m) = no_array nullable_kind b refl k i
+  opened {a} {b} k (list-array h i m) = no_array nullable_kind b refl k i
   opened k (to_nullable h m) = m
   opened k (from-nullable h m) = from-nullable h (opened k m)
 

@@ -5,6 +5,7 @@ pub mod Binary
 pub mod Unary
 pub mod Assign
 pub mod Order2
+pub mod Order5Assign
 pub mod Out
 pub mod Diag
 pub mod Made

@@ -70,13 +70,14 @@ fn step(a: &[u8], b: &[u8]) -> Next
     let k = ty::kind_of(a);
     let m = ty::kind_of(b);
     let list = is_list_name(b);
-    if (k == Kind::List.number()) & (m == Kind::Array.number()) {
+    let array = ty::is_array_kind(m);
+    if (k == Kind::List.number()) & array {
         return Next::Both;
     }
-    if is_growing(a) & (m == Kind::Array.number()) {
+    if is_growing(a) & array {
         return Next::Yes;
     }
-    if (k == Kind::Array.number()) & (m == Kind::Array.number()) {
+    if ty::is_array_kind(k) & array {
         return Next::Both;
     }
     if is_list_name(a) & ((m == Kind::List.number()) | list) {

@@ -10,7 +10,8 @@ use Rattle.question.specs.QuestionRefused.{header_fault, node_ids, shape_fault, 
 use Rattle.question.specs.Tree.{leaf, binary, unary, named, member, call, method, nil, cons}
 use Rattle.ty.specs.Choose.{choose}
 use Rattle.ty.specs.Name.{all_defined}
-use Rattle.ty.specs.Read.{body_length, child_count, id_in, item_of, item_at, no_end, read_from, read_type}
+use Rattle.ty.specs.Bytes.{size_width}
+use Rattle.ty.specs.Read.{body_length, child_count, number_at, id_in, item_of, item_at, no_end, read_from, read_type}
 use Rattle.ty.specs.Ids.{own_ids, ids_from, ids_in}
 
 -- the number of a question under so many table names
@@ -94,7 +95,7 @@ record Numbers : Type 0 where
   nodes_past_cut : number 0 (under (nest 64 (0 ∷ []))) ≡ 8
 
 numbers : Numbers
-unfolding choose nest header_of leaf_of node_of node_in node_at own_bytes children first rest take_row drop_row onto row_at tree_of header_fault node_ids shape_fault node_fault all_defined more_fault end_fault nodes_fault tree_fault question_fault body_length child_count id_in item_of item_at no_end read_from read_type own_ids ids_from ids_in
+unfolding choose nest header_of leaf_of node_of node_in node_at own_bytes children first rest take_row drop_row onto row_at tree_of header_fault node_ids shape_fault node_fault all_defined more_fault end_fault nodes_fault tree_fault question_fault size_width body_length child_count number_at id_in item_of item_at no_end read_from read_type own_ids ids_from ids_in
 numbers =
     record {
       sample = refl;
@@ -141,5 +142,5 @@ numbers =
 tree_of_lem : tree_of (under (1 ∷ 0 ∷ 5 ∷ 6 ∷ 0 ∷ 2 ∷ 0 ∷ 0 ∷ 4 ∷ 22 ∷ 0 ∷ 0 ∷ 12 ∷ 8 ∷ 6 ∷ 29 ∷ 0 ∷ 1 ∷ 0 ∷ 6 ∷ 3 ∷ 7 ∷ 0 ∷ 2 ∷ 1 ∷ 0 ∷ 3 ∷ []))
     ≡ binary 0 (call 6 (cons (leaf (0 ∷ [])) (cons (member 22 (leaf (12 ∷ 8 ∷ []))) nil)))
     (method 29 (leaf (6 ∷ [])) (cons (named 7 (unary 1 (leaf (3 ∷ [])))) nil))
-unfolding choose header_of leaf_of node_of node_in node_at own_bytes children first rest take_row drop_row onto row_at tree_of header_fault node_ids shape_fault node_fault all_defined more_fault end_fault nodes_fault tree_fault question_fault body_length child_count id_in item_of item_at no_end read_from read_type own_ids ids_from ids_in
+unfolding choose header_of leaf_of node_of node_in node_at own_bytes children first rest take_row drop_row onto row_at tree_of header_fault node_ids shape_fault node_fault all_defined more_fault end_fault nodes_fault tree_fault question_fault size_width body_length child_count number_at id_in item_of item_at no_end read_from read_type own_ids ids_from ids_in
 tree_of_lem = refl

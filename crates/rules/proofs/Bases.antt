@@ -6,8 +6,8 @@ use lib.Dec.{eqb}
 use borrow.Author.Tests.{eqb-true}
 use Rattle.ty.proofs.Choice.{or_cases}
 use Rattle.ty.specs.Choose.{choose}
-use Rattle.ty.specs.Kind.{any_kind, nullable_kind, list_kind, error_kind, array_kind}
-use Rattle.ty.specs.Bytes.{Ty, kind_of, inner_of, non_null}
+use Rattle.ty.specs.Kind.{any_kind, nullable_kind, list_kind, error_kind}
+use Rattle.ty.specs.Bytes.{Ty, kind_of, is_array_kind, inner_of, non_null}
 use Rattle.rules.specs.Member.{is_nullable_object}
 use Rattle.rules.specs.Inside.MemberRuled.{HoldsSame}
 
@@ -18,10 +18,10 @@ unknown true false e h = sym h
 unknown false true e h = refl
 unknown false false e h = e
 
-any_empty : (k : ℕ) → k ≡ any_kind → eqb k list_kind || eqb k array_kind ≡ true → ⊥
+any_empty : (k : ℕ) → k ≡ any_kind → eqb k list_kind || is_array_kind k ≡ true → ⊥
 any_empty k e h = false≢true (rw e at h)
 
-error_empty : (k : ℕ) → k ≡ error_kind → eqb k list_kind || eqb k array_kind ≡ true → ⊥
+error_empty : (k : ℕ) → k ≡ error_kind → eqb k list_kind || is_array_kind k ≡ true → ⊥
 error_empty k e h = false≢true (rw e at h)
 
 not-nullable : (t : Ty) → eqb (kind_of t) nullable_kind ≡ false → non_null t ≡ t

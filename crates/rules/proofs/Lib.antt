@@ -1,5 +1,6 @@
 pub mod MemberLookups
 pub mod MemberRuling
 pub mod Bases
+pub mod Order5Member
 pub mod Packages
 pub mod Owners

@@ -1,4 +1,5 @@
 pub mod Accept
 pub mod Access
 pub mod Member
+pub mod Order5Member
 pub mod Inside

@@ -166,7 +166,7 @@ fn kind_member(table: &Table<'_>, base: &[u8], id: u16) -> OneReport
     if kind == Kind::String.number() {
         return string_member(id);
     }
-    if (kind == Kind::List.number()) | (kind == Kind::Array.number()) {
+    if (kind == Kind::List.number()) | ty::is_array_kind(kind) {
         return element_member(id);
     }
     if kind == Kind::Map.number() {

@@ -13,11 +13,11 @@ use native.Mathlib.Omega.{arith}
 use Rattle.ty.proofs.Choice.{by_choice}
 use Rattle.ty.proofs.Moved.{reads_alike, reads_taken}
 use Rattle.ty.proofs.TypeSizes.{whole}
-use Rattle.ty.specs.Bytes.{Ty, plain_ty, kind_of, id_at, same_bytes}
+use Rattle.ty.specs.Bytes.{Ty, plain_ty, kind_of, id_at, same_bytes, size_width}
 use Rattle.ty.specs.Choose.{choose}
 use Rattle.ty.specs.Kind.{error_kind}
 use Rattle.ty.specs.Name.{id_defined, first_table_id, all_defined}
-use Rattle.ty.specs.Read.{body_length, child_count, id_in, item_of, item_at, no_end, read_from, read_type, longest_type}
+use Rattle.ty.specs.Read.{body_length, child_count, number_at, id_in, item_of, item_at, no_end, read_from, read_type, longest_type}
 use Rattle.ty.proofs.Reading.{whole_parts}
 use Rattle.ty.specs.Read.{whole_read}
 use Rattle.record.proofs.Accepts.{CleanFrom, accepted_clean, accepted_short}
@@ -60,7 +60,7 @@ no_error_lem (b ∷ s) n top q e =
     true≢false (sym (whole_parts n 1 top 0 false true (sym q ∙ r)).2)
   where
     error-read : read_type (error_kind ∷ []) longest_type ≡ whole_read 1 0 true
-    error-read = unfold choose body_length child_count id_in item_of item_at no_end read_from read_type in refl
+    error-read = unfold choose size_width body_length child_count number_at id_in item_of item_at no_end read_from read_type in refl
 
 pub type_good : (s : List ℕ) (k : ℕ) → TypeAt s k → TypeGood (take (type_length (drop k s)) (drop k s))
 type_good s k t =

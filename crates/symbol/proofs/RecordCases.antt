@@ -6,7 +6,8 @@ use mathlib.Core.Path.{◌≡◌, refl}
 use Rattle.symbol.proofs.TableCases.{names, class_a, class_b, operators_a, functions, field_a, others, endless, open_function}
 use Rattle.record.specs.Layout.{param_fields, fields_of, good_name, fields_from, any_field, each_field, lengths, is_malformed, is_endless, has_error, ids_used, param_names, record_kind, record_size}
 use Rattle.ty.specs.Choose.{choose}
-use Rattle.ty.specs.Read.{body_length, child_count, id_in, item_of, item_at, no_end, read_from, read_type}
+use Rattle.ty.specs.Bytes.{size_width}
+use Rattle.ty.specs.Read.{body_length, child_count, number_at, id_in, item_of, item_at, no_end, read_from, read_type}
 use Rattle.ty.specs.Ids.{own_ids, ids_from, ids_in}
 
 -- what a record is: kind, length, ids, parameters' names, malformed, endless, Error
@@ -33,7 +34,7 @@ pub record Kinds : Type 0 where
   pub no_kind_lem : Is (9 ∷ 0 ∷ []) 0 2 [] [] true false false
 
 pub kinds : Kinds
-unfolding choose body_length child_count id_in item_of item_at no_end read_from read_type own_ids ids_from ids_in param_fields fields_of good_name fields_from any_field each_field lengths record_kind record_size names class_a class_b operators_a functions field_a others endless open_function
+unfolding choose size_width body_length child_count number_at id_in item_of item_at no_end read_from read_type own_ids ids_from ids_in param_fields fields_of good_name fields_from any_field each_field lengths record_kind record_size names class_a class_b operators_a functions field_a others endless open_function
 kinds =
     record {
       a_name = record { is_kind_lem = refl; is_long = refl; uses = refl; named = refl; is_bad = refl; is_open = refl; errs = refl };

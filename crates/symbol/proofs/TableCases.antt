@@ -6,9 +6,9 @@ use mathlib.Core.List.{List, [], ◌∷◌, ◌++◌}
 use mathlib.Core.Option.{some}
 use lib.ListN.{replicate}
 use Rattle.ty.specs.Choose.{choose}
-use Rattle.ty.specs.Bytes.{same_bytes}
+use Rattle.ty.specs.Bytes.{same_bytes, size_width}
 use Rattle.ty.specs.Name.{all_defined}
-use Rattle.ty.specs.Read.{body_length, child_count, id_in, item_of, item_at, no_end, read_from, read_type}
+use Rattle.ty.specs.Read.{body_length, child_count, number_at, id_in, item_of, item_at, no_end, read_from, read_type}
 use Rattle.ty.specs.Ids.{own_ids, ids_from, ids_in}
 use Rattle.record.specs.Spelling.{builtin_names, spelled}
 use Rattle.record.specs.Layout.{param_fields, fields_of, good_name, fields_from, any_field, each_field, lengths, record_kind, record_size, value_in, bytes_in}
@@ -117,7 +117,7 @@ pub record Cases : Type 0 where
       (symbols_of table).functions_of 65535 41 ≡ record { builtin = true; visibility = 0; params = []; result = 11 ∷ [] } ∷ []
 
 pub cases : Cases
-unfolding choose same_bytes body_length child_count id_in item_of item_at no_end read_from read_type own_ids ids_from ids_in builtin_names spelled param_fields fields_of good_name fields_from any_field each_field lengths record_kind record_size value_in bytes_in records_from of_kind key_of keyed all_defined occurs repeats key_repeated is_late record_fault first_fault table_fault params_by overload_from overload_of symbols_in climbs is_subclass names class_a class_b operators_a functions field_a others table twice endless open_function
+unfolding choose same_bytes size_width body_length child_count number_at id_in item_of item_at no_end read_from read_type own_ids ids_from ids_in builtin_names spelled param_fields fields_of good_name fields_from any_field each_field lengths record_kind record_size value_in bytes_in records_from of_kind key_of keyed all_defined occurs repeats key_repeated is_late record_fault first_fault table_fault params_by overload_from overload_of symbols_in climbs is_subclass names class_a class_b operators_a functions field_a others table twice endless open_function
 cases =
     record {
       empty = refl;

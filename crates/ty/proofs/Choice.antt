@@ -34,6 +34,23 @@ or_else true t e h = e
 or_else false true e h = refl
 or_else false false e h = h
 
+-- one or the other
+pub or_left : (s t : Bool) → s ≡ true → s || t ≡ true
+or_left s t e = rw e
+
+pub or_right : (s t : Bool) → t ≡ true → s || t ≡ true
+or_right true t e = refl
+or_right false t e = e
+
+-- one that does not hold may be left out
+pub or_false : (s t : Bool) → t ≡ false → s || t ≡ s
+or_false true t e = refl
+or_false false t e = e
+
+pub and_true : (t : Bool) → t && true ≡ t
+and_true true = refl
+and_true false = refl
+
 -- what follows from each of two follows from one or the other
 pub or_cases : {P : Type 0} (s t : Bool) → s || t ≡ true → (s ≡ true → P) → (t ≡ true → P) → P
 or_cases true t e f g = f refl

@@ -3,9 +3,11 @@ pub mod Laws
 pub mod Same
 pub mod Reading
 pub mod Bodies
+pub mod OneByte
 pub mod Moved
 pub mod Held
 pub mod Ends
+pub mod Order5
 pub mod Ids
 pub mod TypeExamples
 pub mod TypeSizes

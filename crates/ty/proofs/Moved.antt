@@ -9,13 +9,13 @@ use mathlib.Core.List.{List, ◌++◌}
 use mathlib.Core.Path.{◌≡◌, refl, sym, ap, ◌∙◌}
 use native.Mathlib.Omega.{arith}
 use Rattle.std.specs.Prelude.{Result, Ok, Err}
-use Rattle.ty.proofs.Bodies.{same_item, array_body, function_body, id_body}
+use Rattle.ty.proofs.Bodies.{same_item, width_least, array_body, function_body, id_body}
 use Rattle.ty.proofs.Choice.{by_choice, chosen, passed}
 use Rattle.ty.proofs.Reading.{Within, within, whole_parts}
 use Rattle.ty.proofs.TypeSizes.{ends_behind, never_whole, whole}
-use Rattle.ty.specs.Bytes.{id_at}
-use Rattle.ty.specs.Kind.{error_kind}
-use Rattle.ty.specs.Read.{body_length, child_count, good_body, id_in, item_of, four_zeros, item_at, no_end, after, read_from, read_type, whole_read, item_read}
+use Rattle.ty.specs.Bytes.{id_at, size_width}
+use Rattle.ty.specs.Kind.{error_kind, large_array_kind}
+use Rattle.ty.specs.Read.{body_length, child_count, good_body, id_in, item_of, number_at, size_at, item_at, no_end, after, read_from, read_type, whole_read, item_read}
 use Rattle.ty.specs.declared.read.Item.{Item}
 use Rattle.ty.specs.declared.read.ItemFault.{ItemFault}
 use Rattle.ty.specs.declared.read.ItemFault.TheVariants.{Broken, Out}
@@ -26,29 +26,28 @@ module _ (s s' : List ℕ) (n n' d d' : ℕ) (q : n + d ≡ n' + d') (same : (i 
   same_id : (i j : ℕ) → i + d ≡ j + d' → i + 2 ≤ n → id_at s i ≡ id_at s' j
   same_id i j p h = rw (same i j p (omega arith), same (i + 1) (j + 1) (omega arith) (omega arith))
 
-  same_zeros : (i j : ℕ) → i + d ≡ j + d' → i + 4 ≤ n → four_zeros s i ≡ four_zeros s' j
-  same_zeros i j p h =
-      rw (
-        same i j p (omega arith),
-        same (i + 1) (j + 1) (omega arith) (omega arith),
-        same (i + 2) (j + 2) (omega arith) (omega arith),
-        same (i + 3) (j + 3) (omega arith) (omega arith),
-      )
+  same_number : (w i j : ℕ) → i + d ≡ j + d' → i + w ≤ n → number_at w s i ≡ number_at w s' j
+  unfolding number_at
+  same_number zero i j p h = refl
+  same_number (suc w) i j p h = rw (same i j p (omega arith), same_number w (i + 1) (j + 1) (omega arith) (omega arith))
 
   -- the item at the same place
-  same_part : (end' at at' : ℕ) → n' ≤ end' → at + d ≡ at' + d' → at + 1 + body_length (get_or s at 0) ≤ n → ltb error_kind (get_or s at 0) ≡ false
-      → item_of (get_or s at 0) (get_or s (at + 1) 0) (four_zeros s (at + 2)) (id_at s (at + 1)) (at' + 1 + body_length (get_or s at 0)) ≡ item_at s' end' at'
+  same_part : (end' at at' : ℕ) → n' ≤ end' → at + d ≡ at' + d' → at + 1 + body_length (get_or s at 0) ≤ n → ltb large_array_kind (get_or s at 0) ≡ false
+      → item_of (get_or s at 0) (get_or s (at + 1) 0) (size_at s at) (id_at s (at + 1)) (at' + 1 + body_length (get_or s at 0)) ≡ item_at s' end' at'
   unfolding item_at
   same_part end' at at' w p h k =
       rw (← same at at' p (omega arith))
       (passed (leb end' at') _ (Err Out) _ (lt-leb end' at' (omega arith))
-      (passed (ltb error_kind (get_or s at 0)) _ (Err Broken) _ k
+      (passed (ltb large_array_kind (get_or s at 0)) _ (Err Broken) _ k
       (passed (ltb (end' - (at' + 1)) (body_length (get_or s at 0))) _ (Err Out) _ (le-ltb (end' - (at' + 1)) (body_length (get_or s at 0)) (omega arith))
-      (same_item (get_or s at 0) (get_or s (at + 1) 0) (get_or s' (at' + 1) 0) (four_zeros s (at + 2)) (four_zeros s' (at' + 2)) (id_at s (at + 1)) (id_at s' (at' + 1))
+      (same_item (get_or s at 0) (get_or s (at + 1) 0) (get_or s' (at' + 1) 0) (size_at s at) (number_at (size_width (get_or s at 0)) s' (at' + 2)) (id_at s (at + 1)) (id_at s' (at' + 1))
       (at' + 1 + body_length (get_or s at 0))
-      (λ e. let l = array_body (get_or s at 0) e in same (at + 1) (at' + 1) (omega arith) (omega arith))
+      (λ e.
+      let l = array_body (get_or s at 0) e in
+      let b = width_least (get_or s at 0) in
+      same (at + 1) (at' + 1) (omega arith) (omega (arith, l, b)))
       (λ e. let l = function_body (get_or s at 0) e in same (at + 1) (at' + 1) (omega arith) (omega arith))
-      (λ e. let l = array_body (get_or s at 0) e in same_zeros (at + 2) (at' + 2) (omega arith) (omega arith))
+      (λ e. let l = array_body (get_or s at 0) e in same_number (size_width (get_or s at 0)) (at + 2) (at' + 2) (omega arith) (omega (arith, l)))
       (λ e. let l = id_body (get_or s at 0) e in same_id (at + 1) (at' + 1) (omega arith) (omega arith))))))
 
   -- an item that lies before the end n is found in s' too
@@ -76,7 +75,7 @@ module _ (s s' : List ℕ) (n n' d d' : ℕ) (q : n + d ≡ n' + d') (same : (i 
       (eqb (get_or s at 0) error_kind)
       (λ h.
       let l : at + 1 + body_length (get_or s at 0) + d - d' ≡ at' + 1 + body_length (get_or s at 0) = omega arith in
-      rw (l, ← same_part end' at at' w p h k) (chosen (good_body (get_or s at 0) (get_or s (at + 1) 0) (four_zeros s (at + 2))) _ _ (Err Broken) g refl)))
+      rw (l, ← same_part end' at at' w p h k) (chosen (good_body (get_or s at 0) (get_or s (at + 1) 0) (size_at s at)) _ _ (Err Broken) g refl)))
       (λ _. moved_fault end' at' Broken)
 
   module _ (limit limit' t : ℕ) (e' : Bool) (w : n' ≤ min (length s') limit') where
@@ -152,3 +151,15 @@ reads_dropped s limit f m n top e h r =
     let q : i ≡ m + j = omega arith in
     rw q (sym (get_or-drop m s j 0)))
     limit limit top e l f (suc (min (length (drop m s)) limit)) m 0 1 0 false h (omega arith) (omega arith) r
+
+-- and the other way round: the type of the bytes from m on is what is read from m on, with fuel f for it
+pub reads_behind : (s : List ℕ) (limit f m n top : ℕ) (e : Bool) → m + n ≤ limit → n < f → read_type (drop m s) limit ≡ whole_read n top e
+    → read_from f s limit m 1 0 false ≡ whole_read (m + n) top e
+unfolding read_type
+reads_behind s limit f m n top e h l r =
+    let b = whole (drop m s) limit n top e r in
+    go (drop m s) s n (m + n) m 0 (omega arith)
+    (λ i j p k.
+    let q : j ≡ m + i = omega arith in
+    rw q (get_or-drop m s i 0))
+    limit limit top e (omega (arith, b.0, b.2, length-drop m s)) (suc (min (length (drop m s)) limit)) f 0 m 1 0 false (omega arith) (omega arith) (omega arith) r

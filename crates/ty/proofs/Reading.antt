@@ -3,15 +3,16 @@ use Prim.Native.Nat.{ℕ, zero, suc, ◌+◌, ◌-◌, ◌≤◌, ◌<◌, min, 
 use borrow.Author.Tests.{leb-true, leb-false, ltb-false, ne_eqb, eq-eqb}
 use lib.Dec.{eqb, leb}
 use lib.ListN.{length, get_or}
-use mathlib.Core.Bool.{Bool, true, false, ◌&&◌, ◌||◌, not}
+use mathlib.Core.Bool.{Bool, true, false, ◌||◌, not}
 use mathlib.Core.List.{List}
 use mathlib.Core.Path.{◌≡◌, refl, ap, ◌∙◌}
 use native.Mathlib.Omega.{arith}
 use Rattle.std.specs.Prelude.{Result, Ok, Err}
 use Rattle.ty.proofs.Choice.{by_choice, and_right, or_else}
 use Rattle.ty.specs.Choose.{choose}
-use Rattle.ty.specs.Kind.{array_kind, function_kind}
-use Rattle.ty.specs.Read.{body_length, child_count, good_body, item_of, four_zeros, item_at, no_end, after, read_from, read_type, whole_read, item_read}
+use Rattle.ty.specs.Bytes.{is_array_kind}
+use Rattle.ty.specs.Kind.{function_kind}
+use Rattle.ty.specs.Read.{body_length, child_count, good_array, good_body, item_of, size_at, item_at, no_end, after, read_from, read_type, whole_read, item_read}
 use Rattle.ty.specs.declared.read.Item.{Item}
 use Rattle.ty.specs.declared.read.ItemFault.{ItemFault}
 use Rattle.ty.specs.declared.read.ItemFault.TheVariants.{Broken, Out}
@@ -41,16 +42,16 @@ unfoldable pub Within : ℕ → ℕ → Result Item ItemFault → Type 0
 Within at end (Ok r) = (at < r.next) × (r.next ≤ end) × (r.children ≤ 17)
 Within at end (Err fault) = Unit
 
-few : (k c : ℕ) (z : Bool) → good_body k c z ≡ true → child_count k c ≤ 17
+few : (k c n : ℕ) → good_body k c n ≡ true → child_count k c ≤ 17
 unfolding child_count
-few k c z g =
-    by_choice (λ n. n ≤ 17) (eqb k function_kind)
+few k c n g =
+    by_choice (λ m. m ≤ 17) (eqb k function_kind)
     (λ e.
-    let h : c ≤ 16 = leb-true c 16 (or_else (eqb k function_kind) (leb c 16) (and_right (not (eqb k array_kind) || (eqb c 1 || (eqb c 0 && z))) _ g) e) in
+    let h : c ≤ 16 = leb-true c 16 (or_else (eqb k function_kind) (leb c 16) (and_right (not (is_array_kind k) || good_array k c n) _ g) e) in
     omega arith)
     λ _.
-    by_choice (λ n. n ≤ 17) _ (λ _. omega arith) λ _.
-    by_choice (λ n. n ≤ 17) _ (λ _. omega arith) (λ _. omega arith)
+    by_choice (λ m. m ≤ 17) _ (λ _. omega arith) λ _.
+    by_choice (λ m. m ≤ 17) _ (λ _. omega arith) (λ _. omega arith)
 
 part : (at end next c i : ℕ) (e : Bool) → at < next → next ≤ end → c ≤ 17 → Within at end (item_read next c i e)
 unfolding Within
@@ -74,7 +75,7 @@ within s end at =
     (λ g.
     let h : at < end = leb-false end at e₁ in
     let k : body_length (get_or s at 0) ≤ end - (at + 1) = ltb-false (end - (at + 1)) (body_length (get_or s at 0)) e₂ in
-    part at end _ _ _ _ (omega arith) (omega arith) (few (get_or s at 0) (get_or s (at + 1) 0) (four_zeros s (at + 2)) g))
+    part at end _ _ _ _ (omega arith) (omega arith) (few (get_or s at 0) (get_or s (at + 1) 0) (size_at s at) g))
     (λ _. broken at end)
 
 -- where the reading stands: what is to be found is what is found from here, and there is fuel for what is left

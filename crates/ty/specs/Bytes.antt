@@ -1,7 +1,7 @@
 -- What is read off a type's first bytes. A type is its bytes (document 01, "Types as bytes"); each definition holds of any list of bytes.
 use Rattle.std.specs.Prelude.{ℕ, ◌+◌, ◌*◌, ◌/◌, ◌%◌, Bool, true, false, ◌&&◌, ◌||◌, List, [], ◌∷◌, get_or, drop, leb, eqb}
 use Rattle.ty.specs.Choose.{choose}
-use Rattle.ty.specs.Kind.{byte_kind, double_kind, boolean_kind, string_kind, any_kind, nullable_kind, array_kind, no_kind}
+use Rattle.ty.specs.Kind.{byte_kind, double_kind, boolean_kind, string_kind, any_kind, nullable_kind, array_kind, large_array_kind, no_kind}
 
 abbrev pub Ty : Type 0
 Ty = List ℕ
@@ -41,12 +41,20 @@ is_integer s = leb (kind_of s) byte_kind
 abbrev pub is_boolean : Ty → Bool
 is_boolean s = eqb (kind_of s) boolean_kind
 
+-- the two kinds of an Array
+abbrev pub is_array_kind : ℕ → Bool
+is_array_kind k = eqb k array_kind || eqb k large_array_kind
+
 abbrev pub is_array : Ty → Bool
-is_array s = eqb (kind_of s) array_kind
+is_array s = is_array_kind (kind_of s)
+
+-- how many bytes an Array's size has: of kind 14 a "4-byte size", and of kind 22 "an 8-byte size"
+unfoldable pub size_width : ℕ → ℕ
+size_width k = choose (eqb k large_array_kind) 8 4
 
 -- what a Nullable, Pointer, List or Array holds: its child, behind an Array's flag and size
 unfoldable pub inner_of : Ty → Ty
-inner_of s = choose (is_array s) (drop 6 s) (drop 1 s)
+inner_of s = choose (is_array s) (drop (2 + size_width (kind_of s)) s) (drop 1 s)
 
 -- `is_string`: String, or a Nullable of it
 abbrev pub is_string : Ty → Bool

@@ -1,4 +1,5 @@
--- The kinds of a type. Document 01, "Types as bytes": kinds follow enum `Ty` from 0 (Int) to 21 (Error).
+-- The kinds of a type. Document 01, "Types as bytes": kinds follow enum `Ty` from 0 (Int) to 21 (Error). Document 02, order 5: "Type kind 22 is an Array with
+-- a flag of 1 and an 8-byte size".
 use Rattle.std.specs.Prelude.{ℕ}
 
 abbrev pub int_kind : ℕ
@@ -66,6 +67,9 @@ module_kind = 20
 
 abbrev pub error_kind : ℕ
 error_kind = 21
+
+abbrev pub large_array_kind : ℕ
+large_array_kind = 22
 
 -- what no type has: the kind of no bytes
 abbrev pub no_kind : ℕ

@@ -1,12 +1,12 @@
--- The kinds of a type as the code has them, and the number that stands for each on the wire. Document 01, "Types as bytes".
+-- The kinds of a type as the code has them, and the number that stands for each on the wire. Document 01, "Types as bytes"; document 02, order 5.
 use Rattle.std.specs.Prelude.{ℕ, Bool, eqb}
 use Rattle.ty.specs.Bytes.{Ty, kind_of}
 use Rattle.ty.specs.Kind.{int_kind, long_kind, short_kind, byte_kind, float_kind, double_kind, boolean_kind, char_kind}
 use Rattle.ty.specs.Kind.{string_kind, any_kind, nothing_kind, unit_kind, nullable_kind, pointer_kind, array_kind, list_kind}
-use Rattle.ty.specs.Kind.{map_kind, named_kind, function_kind, type_var_kind, module_kind, error_kind}
+use Rattle.ty.specs.Kind.{map_kind, named_kind, function_kind, type_var_kind, module_kind, error_kind, large_array_kind}
 use Rattle.ty.specs.declared.Kind.{Kind}
 use Rattle.ty.specs.declared.Kind.TheVariants.{Int, Long, Short, Byte, Float, Double, Boolean, Char, String, Any, Nothing}
-use Rattle.ty.specs.declared.Kind.TheVariants.{Unit, Nullable, Pointer, Array, List, Map, Named, Function, TypeVar, Module, Error}
+use Rattle.ty.specs.declared.Kind.TheVariants.{Unit, Nullable, Pointer, Array, List, Map, Named, Function, TypeVar, Module, Error, LargeArray}
 
 -- the byte that stands for a kind
 abbrev pub kind_number : Kind → ℕ
@@ -32,6 +32,7 @@ kind_number Function = function_kind
 kind_number TypeVar = type_var_kind
 kind_number Module = module_kind
 kind_number Error = error_kind
+kind_number LargeArray = large_array_kind
 
 -- a type is of a kind where its first byte is the kind's
 abbrev pub is_of_kind : Ty → Kind → Bool

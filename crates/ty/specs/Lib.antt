@@ -6,3 +6,4 @@ pub mod KindNumber
 pub mod Read
 pub mod Slice
 pub mod Ids
+pub mod Order5

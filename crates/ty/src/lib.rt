@@ -5,13 +5,14 @@ pub mod name;
 pub mod read;
 
 ghost use Rattle.std.specs.Prelude.{◌≡◌, drop, get_or};
-ghost use Rattle.ty.specs.Bytes.{kind_of, id_at, name_of, is_numeric, is_integer, is_boolean, is_nullable, is_string, is_array, non_null, inner_of, same_bytes};
+ghost use Rattle.ty.specs.Bytes.{kind_of, id_at, name_of, is_numeric, is_integer, is_boolean, is_nullable, is_string, is_array, is_array_kind};
+ghost use Rattle.ty.specs.Bytes.{size_width, non_null, inner_of, same_bytes};
 ghost use Rattle.ty.specs.KindNumber.{kind_number, is_of_kind};
 
 pub use name::{NameId, id_number, known_id};
 pub use read::{TypeFault, TypeRead};
 
-// The kinds of a type, in the order of their numbers (enum `Ty`).
+// The kinds of a type, in the order of their numbers (enum `Ty`); an Array whose size has eight bytes stands behind them.
 #[derive(Clone, Copy, PartialEq, Eq)]
 pub enum Kind {
     Int,
@@ -36,6 +37,7 @@ pub enum Kind {
     TypeVar,
     Module,
     Error,
+    LargeArray,
 }
 
 // A number that stands for none of an enum's values.
@@ -125,19 +127,38 @@ pub fn is_boolean(s: &[u8]) -> bool
     is_kind(s, Kind::Boolean)
 }
 
+// The two kinds of an Array, by a kind that was read.
+pub fn is_array_kind(k: u8) -> bool
+    ensures { result ≡ is_array_kind k }
+{
+    (k == Kind::Array as u8) | (k == Kind::LargeArray as u8)
+}
+
 pub fn is_array(s: &[u8]) -> bool
     ensures { result ≡ is_array s.now }
 {
-    is_kind(s, Kind::Array)
+    is_array_kind(kind_of(s))
+}
+
+// How many bytes an Array's size has.
+#[tactic(auto, unfolding(crate::specs::Bytes::size_width, crate::specs::Choose::choose))]
+fn size_width(k: u8) -> usize
+    ensures { result ≡ size_width k }
+{
+    if k == Kind::LargeArray as u8 {
+        return 8;
+    }
+    4
 }
 
 // What a Nullable, a Pointer, a List or an Array holds.
-#[tactic(auto, unfolding(crate::specs::Bytes::inner_of, crate::specs::Choose::choose))]
+#[tactic(auto, unfolding(crate::specs::Bytes::inner_of, crate::specs::Bytes::size_width, crate::specs::Choose::choose))]
 pub fn inner(s: &[u8]) -> &[u8]
     ensures { result.now ≡ inner_of s.now }
 {
-    if is_array(s) {
-        return tail(s, 6);
+    let k = kind_of(s);
+    if is_array_kind(k) {
+        return tail(s, 2 + size_width(k));
     }
     tail(s, 1)
 }

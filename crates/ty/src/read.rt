@@ -1,11 +1,15 @@
 // Reading one type from the front of some bytes.
 ghost use Rattle.std.specs.Prelude.{◌≡◌, ◌≤◌};
-ghost use Rattle.ty.specs.Read.{body_length, child_count, good_body, id_in, item_of, four_zeros, item_at, read_type, no_end};
+ghost use Rattle.ty.specs.Bytes.{id_at, size_width};
+ghost use Rattle.ty.specs.Read.{body_length, child_count, good_array, good_body, id_in, number_at, item_at, read_type, no_end};
 
-use crate::{Kind, byte_at, id_at};
+use crate::{Kind, byte_at, id_at, is_array_kind, size_width};
 
 // The longest type in a table or a leaf.
 pub const LONGEST_TYPE: u16 = 192;
+
+// From here on an Array's size needs eight bytes.
+const LARGE_SIZE: u64 = 1 << 32;
 
 // A type that ends before byte len. `top` is the highest id that was examined, and 0 where none was: each table defines the name 0, so that no id and the id 0
 // ask the same of a table. `error` says whether Error was examined.
@@ -45,12 +49,12 @@ enum ItemFault {
 // Reading tests the kind's number: a match on an enum of it took 2.3 times as long in read_type, and no row of the benchmark may take over 5 in 100 more
 // than before (docs/DECISIONS.md, 46).
 
-#[tactic(auto, unfolding(crate::specs::Read::body_length, crate::specs::Choose::choose))]
+#[tactic(auto, unfolding(crate::specs::Read::body_length, crate::specs::Bytes::size_width, crate::specs::Choose::choose))]
 fn body_length(k: u8) -> usize
     ensures { result ≡ body_length k }
 {
-    if k == Kind::Array as u8 {
-        return 5;
+    if is_array_kind(k) {
+        return 1 + size_width(k);
     }
     if (k == Kind::Named as u8) | (k == Kind::Module as u8) {
         return 2;
@@ -74,58 +78,73 @@ fn child_count(k: u8, c: u8) -> usize
     if k == Kind::Map as u8 {
         return 2;
     }
-    if (k >= Kind::Nullable as u8) & (k <= Kind::List as u8) {
+    if ((k >= Kind::Nullable as u8) & (k <= Kind::List as u8)) | is_array_kind(k) {
         return 1;
     }
     0
 }
 
-fn good_body(k: u8, c: u8, z: bool) -> bool
-    ensures { result ≡ good_body k c z }
+// The number in an Array's size, which begins at `at`. Bytes past the end count as 0.
+#[tactic(auto, unfolding(crate::specs::Read::number_at, crate::specs::Bytes::size_width, crate::specs::Choose::choose))]
+fn size_at(s: &[u8], k: u8, at: usize) -> u64
+    requires { at ≤ 65537 }
+    ensures { result ≡ number_at (size_width k) s.now at }
 {
-    ((!(k == Kind::Array as u8)) | ((c == 1) | ((c == 0) & z)))
-        & ((!(k == Kind::Function as u8)) | (c <= 16))
+    if k == Kind::LargeArray as u8 {
+        return u64::from_le_bytes([
+            byte_at(s, at),
+            byte_at(s, at + 1),
+            byte_at(s, at + 2),
+            byte_at(s, at + 3),
+            byte_at(s, at + 4),
+            byte_at(s, at + 5),
+            byte_at(s, at + 6),
+            byte_at(s, at + 7),
+        ]);
+    }
+    u32::from_le_bytes([
+        byte_at(s, at),
+        byte_at(s, at + 1),
+        byte_at(s, at + 2),
+        byte_at(s, at + 3),
+    ]) as u64
 }
 
-// The id in an item, and 0 where it has none: each table defines the name 0.
+// An Array with the flag c and the size n.
+#[tactic(auto, unfolding(crate::specs::Choose::choose))]
+fn good_array(k: u8, c: u8, n: u64) -> bool
+    ensures { result ≡ good_array k c n }
+{
+    if k == Kind::LargeArray as u8 {
+        return (c == 1) & (n >= LARGE_SIZE);
+    }
+    (c == 1) | ((c == 0) & (n == 0))
+}
+
+// A body that begins with c. An Array's size, which begins at `at`, is read where there is an Array.
+fn good_body(s: &[u8], k: u8, c: u8, at: usize) -> bool
+    requires { at ≤ 65537 }
+    ensures { result ≡ good_body k c (number_at (size_width k) s.now at) }
+{
+    if is_array_kind(k) {
+        return good_array(k, c, size_at(s, k, at));
+    }
+    (k != Kind::Function as u8) | (c <= 16)
+}
+
+// The id that begins at `at`, and 0 where the kind has none: each table defines the name 0.
 #[tactic(auto, unfolding(crate::specs::Read::id_in, crate::specs::Choose::choose))]
-fn id_in(k: u8, i: u16) -> u16
-    ensures { result ≡ id_in k i }
+fn id_in(s: &[u8], k: u8, at: usize) -> u16
+    ensures { result ≡ id_in k (id_at s.now at) }
 {
     if (k == Kind::Named as u8) | (k == Kind::Module as u8) {
-        return i;
+        return id_at(s, at);
     }
     0
 }
 
-// A kind with its body: c is the body's first byte, z says that an Array's size is 0, i is an id.
-#[tactic(auto, unfolding(crate::specs::Read::item_of, crate::specs::Choose::choose))]
-fn judged(k: u8, c: u8, z: bool, i: u16, next: usize) -> Result<Item, ItemFault>
-    ensures { result ≡ item_of k c z i next }
-{
-    if good_body(k, c, z) {
-        Ok(Item {
-            next,
-            children: child_count(k, c),
-            id: id_in(k, i),
-            error: k == Kind::Error as u8,
-        })
-    } else {
-        Err(ItemFault::Broken)
-    }
-}
-
-// Bytes past the end count as 0. A slice of these four is not there where the type ends before them.
-fn four_zeros(s: &[u8], at: usize) -> bool
-    requires { at ≤ 65537 }
-    ensures { result ≡ four_zeros s.now at }
-{
-    (byte_at(s, at) == 0)
-        & ((byte_at(s, at + 1) == 0) & ((byte_at(s, at + 2) == 0) & (byte_at(s, at + 3) == 0)))
-}
-
 // The kind with its body at `at`, within the first `end` bytes.
-#[tactic(auto, unfolding(crate::specs::Read::item_at, crate::specs::Choose::choose))]
+#[tactic(auto, unfolding(crate::specs::Read::item_at, crate::specs::Read::item_of, crate::specs::Choose::choose))]
 fn item_at(s: &[u8], end: usize, at: usize) -> Result<Item, ItemFault>
     requires { end ≤ 65535 }
     ensures { result ≡ item_at s.now end at }
@@ -134,20 +153,24 @@ fn item_at(s: &[u8], end: usize, at: usize) -> Result<Item, ItemFault>
         return Err(ItemFault::Out);
     }
     let k = byte_at(s, at);
-    if k > Kind::Error as u8 {
+    if k > Kind::LargeArray as u8 {
         return Err(ItemFault::Broken);
     }
     let n = body_length(k);
     if end - (at + 1) < n {
         return Err(ItemFault::Out);
     }
-    judged(
-        k,
-        byte_at(s, at + 1),
-        four_zeros(s, at + 2),
-        id_at(s, at + 1),
-        at + 1 + n,
-    )
+    let c = byte_at(s, at + 1);
+    if good_body(s, k, c, at + 2) {
+        Ok(Item {
+            next: at + 1 + n,
+            children: child_count(k, c),
+            id: id_in(s, k, at + 1),
+            error: k == Kind::Error as u8,
+        })
+    } else {
+        Err(ItemFault::Broken)
+    }
 }
 
 // What is found where the type does not end within the limit.

@@ -43,9 +43,9 @@ pub record Drawn : Type 0 where
   -- "7 Error in a type, or no end within 192 bytes." (a function whose result is Error; one whose result is 192 Nullable)
   seven : number (letter 120 ++ function 40 error 0 []) [] ≡ 7
   seven_endless : number (letter 120 ++ function 40 (replicate 192 12) 0 []) [] ≡ 7
-  -- "8 over 16,384 bytes, malformed, cut, or bytes behind the tree;" (none at all; a leaf of kind 22; a leaf and a byte)
+  -- "8 over 16,384 bytes, malformed, cut, or bytes behind the tree;" (none at all; a leaf of kind 23; a leaf and a byte)
   eight : number [] [] ≡ 8
-  eight_malformed : number [] (script (leaf (22 ∷ []))) ≡ 8
+  eight_malformed : number [] (script (leaf (23 ∷ []))) ≡ 8
   eight_behind : number [] (script (leaf int ++ (0 ∷ []))) ≡ 8
   -- "9 a 65th node;"
   nine : number [] (script (pointers 64 (leaf int))) ≡ 9

@@ -20,6 +20,7 @@ pub mod Demand3
 pub mod Samples
 pub mod Computed
 pub mod Marked
+pub mod LargeArrays
 pub mod Drawn
 pub mod Wrong
 pub mod Distinct

@@ -17,11 +17,11 @@ use Rattle.typing.proofs.Samples.{letter, class, no_super, operators, function, 
 use Rattle.typing.specs.Answer.{Answer, refused, answer_of, buffer_of}
 
 -- an argument of a type, with a name or without
-abbrev arg : Option ℕ → List ℕ → Arg
+abbrev pub arg : Option ℕ → List ℕ → Arg
 arg name t = record { name = name; ty = t; node = 0 }
 
 -- the scores of the ownerless functions of a name, `none` for no match
-scores_of : List ℕ → ℕ → List Arg → List (Option ℕ)
+unfoldable pub scores_of : List ℕ → ℕ → List Arg → List (Option ℕ)
 scores_of t id xs = map (λ o. score (symbols_of t) o xs) ((symbols_of t).functions_of no_id id)
 
 -- a number, and the lent bytes afterwards

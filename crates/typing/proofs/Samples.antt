@@ -45,6 +45,9 @@ unary op x = 2 ∷ op ∷ x
 abbrev pub named : ℕ → List ℕ → List ℕ
 named id x = 3 ∷ id ∷ 0 ∷ x
 
+abbrev pub member : ℕ → List ℕ → List ℕ
+member id x = 4 ∷ id ∷ 0 ∷ x
+
 abbrev pub call : ℕ → ℕ → List ℕ → List ℕ
 call id count args = 5 ∷ id ∷ 0 ∷ count ∷ args
 

@@ -1,7 +1,7 @@
 -- How long a rule's type is, where the table's types have at most 192 bytes.
 use Prim.Native.Nat.{ℕ, zero, suc, ◌+◌, ◌≤◌}
 use lib.Dec.{eqb, leb, ltb}
-use lib.ListN.{length, length-drop}
+use lib.ListN.{length}
 use mathlib.Core.Bool.{Bool, true, false, ◌&&◌}
 use mathlib.Core.List.Memᴰ
 use mathlib.Core.List.{List, [], ◌∷◌, Memᴰ}
@@ -23,9 +23,8 @@ use Rattle.operators.specs.OperatorMethod.{method_id, has_operator, first_result
 use Rattle.operators.specs.Out.{Report, Out, clean, plain, fails, checked, found}
 use Rattle.operators.specs.Unary.{unary_of, unary_out}
 use Rattle.symbol.specs.Symbols.{Overload, Symbols}
-use Rattle.ty.proofs.Choice.{by_choice}
-use Rattle.ty.proofs.Held.{non_null-length}
-use Rattle.ty.specs.Bytes.{Ty, kind_of, name_of, is_array, inner_of, non_null}
+use Rattle.ty.proofs.Held.{inner_length, non_null-length}
+use Rattle.ty.specs.Bytes.{Ty, kind_of, name_of, inner_of, non_null}
 use Rattle.ty.specs.Choose.{choose}
 use Rattle.ty.specs.Kind.{named_kind}
 use Rattle.ty.specs.Name.{no_id}
@@ -53,10 +52,6 @@ either false p q = q
 
 short_clean : {k : ℕ} (t : Ty) → length t ≤ k → Short k (clean t)
 short_clean t h = record { len = h }
-
-inner_length : (t : Ty) → length (inner_of t) ≤ length t
-unfolding inner_of
-inner_length t = by_choice (λ (u : Ty). length u ≤ length t) (is_array t) (λ e. simp length-drop (omega arith)) (λ e. simp length-drop (omega arith))
 
 -- calls
 tail_results : {o : Overload} {os : List Overload} → Results (o ∷ os) → Results os

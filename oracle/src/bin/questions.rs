@@ -13,7 +13,8 @@ use reading::words::question::question_number;
 use reading::words::table::{name_count, table_number};
 use std::io::{BufWriter, Write};
 
-const PROFILES: [Profile; 5] = [Profile::Damaged, Profile::Boundary, Profile::Random, Profile::Rich, Profile::Calls];
+const PROFILES: [Profile; 6] =
+    [Profile::Damaged, Profile::Boundary, Profile::Random, Profile::Rich, Profile::Calls, Profile::Arrays];
 
 fn main() -> std::io::Result<()> {
     let Args { seed, count, longest, stdin, stdout } = Args::of_process("questions");

@@ -12,8 +12,8 @@ use reading::words::table::table_number;
 use std::collections::HashSet;
 use std::io::{BufWriter, Write};
 
-const PROFILES: [Profile; 5] =
-    [Profile::Damaged, Profile::Boundary, Profile::Random, Profile::Rich, Profile::Operators];
+const PROFILES: [Profile; 6] =
+    [Profile::Damaged, Profile::Boundary, Profile::Random, Profile::Rich, Profile::Operators, Profile::Arrays];
 
 fn main() -> std::io::Result<()> {
     let Args { seed, count, longest, stdin, stdout } = Args::of_process("tables");

@@ -99,7 +99,7 @@ fn eight_before_ten(list: &mut List) {
         ("a-method-call-cut", vec![6, 40, 0]),
         ("17-arguments", vec![5, 40, 0, 17]),
         ("a-type-cut", vec![0, 16, 17, 40, 0]),
-        ("a-malformed-type", vec![0, 16, 17, 40, 0, 22]),
+        ("a-malformed-type", vec![0, 16, 17, 40, 0, 23]),
     ] {
         list.question(&format!("{}-behind-an-undefined-id", name), question(&tree), 8);
     }

@@ -16,7 +16,7 @@ pub fn type_of_length(rng: &mut Rng, len: usize) -> Bytes {
         let left = len - bytes.len();
         match rng.below(6) {
             // A wrapper with a body of its own.
-            0 if left > 6 => bytes.extend(array(Some(rng.next() as u32), &[])),
+            0 if left > 6 => bytes.extend(array(Some(rng.next() as u32 as u64), &[])),
             1 if left > 6 => bytes.extend(array(None, &[])),
             2 if left > 3 => bytes.extend([18, 0]),
             3 if left > 4 => bytes.extend([16, *rng.pick(&[INT, STRING])]),
@@ -427,7 +427,7 @@ pub fn boundary(rng: &mut Rng, index: u64) -> Pair {
         }
         // Array flags and sizes.
         25 => {
-            let mut ty = array(Some(rng.below(2) as u32 * rng.next() as u32), &[INT]);
+            let mut ty = array(Some((rng.below(2) as u32 * rng.next() as u32) as u64), &[INT]);
             ty[1] = rng.below(3) as u8;
             in_leaf_or_table(rng, &ty)
         }

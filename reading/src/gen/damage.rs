@@ -18,7 +18,7 @@ fn an_accepted(rng: &mut Rng) -> Pair {
 }
 
 /// A byte that is likely to matter.
-fn telling_byte(rng: &mut Rng) -> u8 {
+pub fn telling_byte(rng: &mut Rng) -> u8 {
     match rng.below(5) {
         0 => rng.byte(),
         1 => 255,

@@ -1,6 +1,8 @@
 //! Generated cases: the same bytes on every machine for a seed, a profile and an index.
 
 pub mod arguments;
+pub mod array_sizes;
+pub mod arrays;
 pub mod boundary;
 pub mod classes;
 pub mod damage;
@@ -8,10 +10,12 @@ pub mod load;
 pub mod model;
 pub mod names;
 pub mod own_parameters;
+mod place;
 pub mod sweep;
 pub mod typed;
 
 use crate::bytes::{without_superclasses, Bytes};
+use crate::places::with_sizes;
 use crate::rng::Rng;
 
 /// A table, a question, and the length of the diagnostics buffer to lend.
@@ -68,9 +72,13 @@ pub enum Profile {
     Arguments,
     /// Lists of up to two overloads of up to two parameters, with up to three arguments.
     OwnParameters,
+    /// Arrays of both kinds in every place, whole and broken; half of the cases with sizes below 2^32 alone.
+    Arrays,
+    /// Sizes at their limits where every other is expected; flags, cuts, and bodies around the 192nd byte.
+    ArraySizes,
 }
 
-pub const PROFILES: [(Profile, &str); 22] = [
+pub const PROFILES: [(Profile, &str); 24] = [
     (Profile::Rich, "rich"),
     (Profile::Calls, "calls"),
     (Profile::Wide, "wide"),
@@ -93,6 +101,8 @@ pub const PROFILES: [(Profile, &str); 22] = [
     (Profile::Names, "names"),
     (Profile::Arguments, "arguments"),
     (Profile::OwnParameters, "own-parameters"),
+    (Profile::Arrays, "arrays"),
+    (Profile::ArraySizes, "array-sizes"),
 ];
 
 impl Profile {
@@ -116,6 +126,7 @@ impl Profile {
             Profile::Below => Some(sweep::below_count()),
             Profile::Names => Some(names::names_count()),
             Profile::OwnParameters => Some(own_parameters::own_parameters_count()),
+            Profile::ArraySizes => Some(array_sizes::array_sizes_count()),
             _ => None,
         }
     }
@@ -164,14 +175,22 @@ pub fn case(profile: Profile, seed: u64, index: u64) -> Case {
         Profile::Names => names::names(at),
         Profile::Arguments => arguments::arguments(&mut rng, index),
         Profile::OwnParameters => own_parameters::own_parameters(at),
+        Profile::Arrays => arrays::arrays(&mut rng, index),
+        Profile::ArraySizes => array_sizes::array_sizes(at),
     };
     Case { table, question, buffer: buffer_length(&mut rng) }
 }
 
+/// Every size of an Array raised to one of kind 22, so that equal types are equal still.
+fn raised(size: Option<u64>) -> Option<u64> {
+    size.map(|size| arrays::LEAST | size)
+}
+
 /// The profiles without an end, mixed. In every other round those that have superclasses by the way have none, so that
-/// the Rust is a yardstick of the same shapes.
+/// the Rust is a yardstick of the same shapes. In every other of the rounds with superclasses, where the Rust mostly is none,
+/// their Arrays with a size are large.
 pub fn mixed(seed: u64, index: u64) -> Case {
-    const TURN: [(Profile, bool); 14] = [
+    const TURN: [(Profile, bool); 15] = [
         (Profile::Rich, true),
         (Profile::Calls, true),
         (Profile::Wide, false),
@@ -186,12 +205,16 @@ pub fn mixed(seed: u64, index: u64) -> Case {
         (Profile::Load, true),
         (Profile::Classes, false),
         (Profile::Arguments, false),
+        (Profile::Arrays, false),
     ];
     let round = index / TURN.len() as u64;
     let (profile, by_the_way) = TURN[(index % TURN.len() as u64) as usize];
     let mut case = case(profile, seed, round);
-    if by_the_way && round % 2 == 1 {
-        case.table = without_superclasses(&case.table);
+    match round % 4 {
+        _ if !by_the_way => {}
+        0 => (case.table, case.question) = with_sizes(&case.table, &case.question, &raised),
+        2 => {}
+        _ => case.table = without_superclasses(&case.table),
     }
     case
 }

@@ -68,7 +68,7 @@ pub fn random_type(rng: &mut Rng, depth: usize, types: &[u16], error: bool) -> B
         6 => {
             let size = match rng.below(4) {
                 0 => Some(3),
-                1 => Some(rng.next() as u32),
+                1 => Some(rng.next() as u32 as u64),
                 _ => None,
             };
             array(size, &inner)

@@ -1,6 +1,7 @@
 //! Names and the ids that they define (document 02, order 3): every id of a record and of a question at both ends of what
 //! the names before it define, with names behind it and without; every fault of a name among names.
 
+use super::place::{self, Part, Place};
 use crate::bytes::*;
 use crate::name::{BUILT_IN, NONE};
 use std::sync::OnceLock;
@@ -16,24 +17,6 @@ const MOST: usize = 2307;
 /// How many names stand before what is asked. With 216 the first undefined id is 256.
 const FEW: [usize; 4] = [0, 1, 2, 3];
 const MANY: [usize; 10] = [78, 79, 215, 216, 217, 630, 631, 2298, 2306, MOST];
-
-/// A place in the sweep, taken apart into choices.
-struct Place(usize);
-
-impl Place {
-    fn below(&mut self, n: usize) -> usize {
-        let choice = self.0 % n;
-        self.0 /= n;
-        choice
-    }
-
-    fn of<T: Copy>(&mut self, choices: &[T]) -> T {
-        choices[self.below(choices.len())]
-    }
-}
-
-/// A part of the sweep: how many cases it has, and the case at a place.
-type Part = (fn() -> usize, fn(Place) -> Pair);
 
 const PARTS: [Part; 9] = [
     (|| FEW.len() * IDS * SITES.len() * FRONTS.len() * ENDS.len(), |place| records(place, &FEW, IDS, &FRONTS, &ENDS)),
@@ -51,18 +34,11 @@ const PARTS: [Part; 9] = [
 const REPEATS: usize = MANY.len() * 5 + LETTERS;
 
 pub fn names_count() -> usize {
-    PARTS.iter().map(|(count, _)| count()).sum::<usize>() + REPEATS
+    place::count(&PARTS) + REPEATS
 }
 
 pub fn names(at: usize) -> Pair {
-    let mut at = at;
-    for (count, case) in PARTS {
-        if at < count() {
-            return case(Place(at));
-        }
-        at -= count();
-    }
-    (repeated_among_many(at), question(&leaf(&[INT])))
+    place::case(&PARTS, at).unwrap_or_else(|behind| (repeated_among_many(behind), question(&leaf(&[INT]))))
 }
 
 /// The first of a row of `MOST` names, which have 2 to 24 letters.
@@ -130,7 +106,7 @@ const SITES: [Site; 32] = [
     // Error in the type too: 4 before 7.
     |id| bytes_of(|t| t.field(8, 7, &map(&named(id), &[ERROR]))),
     // A malformed byte behind the id: 2 before 4.
-    |id| bytes_of(|t| t.field(8, 7, &map(&named(id), &[22]))),
+    |id| bytes_of(|t| t.field(8, 7, &map(&named(id), &[23]))),
     |id| bytes_of(|t| t.field(8, 7, &nullables(189, &named(id)))),
     |id| bytes_of(|t| t.field(8, 7, &nullables(190, &named(id)))),
     |id| bytes_of(|t| t.field(8, 7, &map(&named(id), &nullables(192, &[INT])))),
@@ -192,7 +168,7 @@ const NODES: [fn(u16) -> Bytes; 20] = [
     |id| call(id, &[leaf(&[INT]), leaf(&[STRING])]),
     |id| method(id, &leaf(&[INT]), &[]),
     |id| method(id, &leaf(&named(9)), &[leaf(&[INT])]),
-    |id| leaf(&map(&named(id), &[22])),
+    |id| leaf(&map(&named(id), &[23])),
     |id| with_id(5, id, &[17]),
     |id| with_id(6, id, &[]),
     |id| with_id(4, id, &[]),

@@ -1,7 +1,7 @@
 //! `can_assign_to`. "The checks run in the source's order."
 
 use super::symbols::Symbols;
-use super::types::{id, inner, is_numeric, named_id, ANY, ARRAY, ERROR, LIST, NAMED, NOTHING, NULLABLE};
+use super::types::{id, inner, is_array, is_numeric, named_id, ANY, ERROR, LIST, NAMED, NOTHING, NULLABLE};
 
 const LIST_NAME: u16 = 1;
 const ARRAY_LIST: u16 = 2;
@@ -28,10 +28,11 @@ pub fn can_assign_to(symbols: &Symbols, from: &[u8], to: &[u8]) -> bool {
     }
     match (from[0], to[0]) {
         // "List assigns to every List; List to Array by element type; Array to Array by element type, size
-        // ignored."
+        // ignored." Document 02, order 5: "All Array rules cover both kinds".
         (LIST, LIST) => return true,
-        (LIST | ARRAY, ARRAY) => return can_assign_to(symbols, inner(from), inner(to)),
-        (_, ARRAY) if matches!(named_id(from), Some(ARRAY_LIST | MUTABLE_LIST)) => return true,
+        (LIST, array) if is_array(array) => return can_assign_to(symbols, inner(from), inner(to)),
+        (kind, array) if is_array(kind) && is_array(array) => return can_assign_to(symbols, inner(from), inner(to)),
+        (_, array) if is_array(array) && matches!(named_id(from), Some(ARRAY_LIST | MUTABLE_LIST)) => return true,
         (_, LIST) if is_list_name(from) => return true,
         (LIST, _) if is_list_name(to) => return true,
         _ if is_list_name(from) && is_list_name(to) => return true,

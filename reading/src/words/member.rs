@@ -47,7 +47,8 @@ pub fn check_member(symbols: &Symbols, question: &Question, object: &[u8], name:
         MODULE | ANY => Ruled::clean([ANY]),
         NAMED => named_member(symbols, question, base, name),
         STRING => known(string_member(name)),
-        LIST | ARRAY => known(element_member(inner(base), name)),
+        LIST => known(element_member(inner(base), name)),
+        kind if is_array(kind) => known(element_member(inner(base), name)),
         MAP => known(map_member(name)),
         // "23 no members".
         _ => Ruled::reported([ERROR], 23),

@@ -9,7 +9,7 @@ pub const LIMIT: usize = 16_384;
 /// "At most 64 nodes; numbered from 0 in byte order."
 pub const NODES: usize = 64;
 
-const HEADER: usize = 5;
+pub const HEADER: usize = 5;
 
 /// A node's own bytes: how many, and how many children stand behind them; none where they are malformed or cut.
 /// "Nodes: 0 leaf, a type; 1 binary, operator byte in `BinOp` order 0 to 22; 2 unary, `UnOp` order 0 to 6; 3

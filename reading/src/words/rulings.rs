@@ -9,7 +9,7 @@ use super::operator::class_with_method;
 use super::parameter::{is_type_variable, param_accepts};
 use super::question::Question;
 use super::symbols::{Function, Param, Symbols};
-use super::types::named_id;
+use super::types::{is_array, named_id, LARGE_ARRAY, LIST};
 
 pub type Rulings = Vec<&'static str>;
 
@@ -54,6 +54,9 @@ pub fn of_match(
         saw("an exact match", exact);
         saw("an accepted match", !exact);
         saw("a subclass accepted", takes_subclass(symbols, param, argument));
+        let kinds = (argument.ty[0], param.ty[0]);
+        saw("an Array of another width accepted", is_array(kinds.0) && is_array(kinds.1) && kinds.0 != kinds.1);
+        saw("a List accepted by a large Array", kinds == (LIST, LARGE_ARRAY));
         saw("a type variable accepted", !exact && is_type_variable(symbols, param.ty));
         saw("a vararg accepted", !exact && param.vararg && !param_accepts(symbols, param.ty, argument.ty, false));
     }

@@ -1,5 +1,5 @@
 //! "One byte of kind, a body whose length the kind fixes, then child types. Numbers are low byte first.
-//! Kinds follow enum `Ty` from 0 (Int) to 21 (Error)."
+//! Kinds follow enum `Ty` from 0 (Int) to 21 (Error)." Document 02, order 5: "Type kind 22 is an Array".
 
 pub const INT: u8 = 0;
 pub const LONG: u8 = 1;
@@ -23,6 +23,13 @@ pub const FUNCTION: u8 = 18;
 pub const TYPE_VAR: u8 = 19;
 pub const MODULE: u8 = 20;
 pub const ERROR: u8 = 21;
+/// A large Array.
+pub const LARGE_ARRAY: u8 = 22;
+
+/// Document 02, order 5: "All Array rules cover both kinds".
+pub fn is_array(kind: u8) -> bool {
+    matches!(kind, ARRAY | LARGE_ARRAY)
+}
 
 /// "A type in a table or leaf has at most 192 bytes: 191 Nullable over Int is taken, 192 is refused."
 pub const LIMIT: usize = 192;
@@ -33,10 +40,11 @@ pub fn two_bytes(bytes: &[u8], at: usize) -> u16 {
 }
 
 /// "Bodies: Array 14 a 1-byte flag and 4-byte size ..; Named 17 and Module 20 a 2-byte name id; TypeVar 19
-/// four bytes; Function 18 a count of parameters to 16".
-fn body_length(kind: u8) -> usize {
+/// four bytes; Function 18 a count of parameters to 16". Of kind 22 "a flag of 1 and an 8-byte size".
+pub fn body_length(kind: u8) -> usize {
     match kind {
-        ARRAY => 5,
+        ARRAY => 1 + 4,
+        LARGE_ARRAY => 1 + 8,
         NAMED | MODULE => 2,
         FUNCTION => 1,
         TYPE_VAR => 4,
@@ -44,16 +52,30 @@ fn body_length(kind: u8) -> usize {
     }
 }
 
-/// How many child types stand behind a body; none where the body is malformed. "(flag 0 needs size 0, flag
-/// 1 means a size)"; "children are those and the result"; "Map has two children; Nullable, Pointer, Array
-/// and List one; the others have no body and no child".
+/// A size of 4 or of 8 bytes.
+fn size(bytes: &[u8]) -> u64 {
+    bytes.iter().rev().fold(0, |size, byte| size << 8 | *byte as u64)
+}
+
+/// Whether the body of an Array is well formed. Of kind 14: "(flag 0 needs size 0, flag 1 means a size)". Of kind 22, "a
+/// flag of 1 and an 8-byte size of at least 2^32"; "with a smaller size or another flag" it "counts as malformed".
+fn is_array_body(kind: u8, body: &[u8]) -> bool {
+    let (flag, size) = (body[0], size(&body[1..]));
+    match kind {
+        ARRAY => flag == 1 || (flag == 0 && size == 0),
+        _ => flag == 1 && size >= 1 << 32,
+    }
+}
+
+/// How many child types stand behind a body; none where the body is malformed. "children are those and the result"; "Map
+/// has two children; Nullable, Pointer, Array and List one; the others have no body and no child".
 fn child_count(kind: u8, body: &[u8]) -> Option<usize> {
     match kind {
-        ARRAY if body[0] > 1 || (body[0] == 0 && body[1..] != [0; 4]) => None,
         FUNCTION if body[0] > 16 => None,
         FUNCTION => Some(body[0] as usize + 1),
         MAP => Some(2),
-        NULLABLE | POINTER | ARRAY | LIST => Some(1),
+        NULLABLE | POINTER | LIST => Some(1),
+        _ if is_array(kind) => is_array_body(kind, body).then_some(1),
         _ => Some(0),
     }
 }
@@ -88,7 +110,7 @@ pub fn read_type(bytes: &[u8]) -> TypeRead {
     let mut missing = 1;
     while missing > 0 {
         let Some(&kind) = window.get(at) else { return read };
-        if kind > ERROR {
+        if kind > LARGE_ARRAY {
             read.end = End::Malformed;
             return read;
         }
