@@ -157,17 +157,17 @@ fn limits(bytes: &[u8]) -> (u8, u8) {
 
 #[test]
 fn a_body_is_examined_only_where_it_is_whole_in_192_bytes() {
-    const CUT: (u8, u8) = (2, 8);
+    const BROKEN: (u8, u8) = (2, 8);
     const ENDLESS: (u8, u8) = (7, 11);
     let front = |nullables: usize, body: &[u8]| [&vec![12; nullables], &[22][..], body].concat();
     let body = [1, 0, 0, 0, 0, 1, 0, 0, 0];
     let malformed = [2, 0, 0, 0, 0, 1, 0, 0, 0];
     // The longest that is taken: 181 kinds of one byte, a large Array, Int.
     assert_eq!(limits(&[front(181, &body), vec![0]].concat()), (0, 0));
-    assert_eq!(limits(&[front(181, &malformed), vec![0]].concat()), CUT);
+    assert_eq!(limits(&[front(181, &malformed), vec![0]].concat()), BROKEN);
     // The element lies behind, so the body is the last thing examined.
     assert_eq!(limits(&[front(182, &body), vec![0]].concat()), ENDLESS);
-    assert_eq!(limits(&[front(182, &malformed), vec![0]].concat()), CUT);
+    assert_eq!(limits(&[front(182, &malformed), vec![0]].concat()), BROKEN);
     // From one byte of the body to all of them, and the kind, behind the 192nd byte.
     for nullables in 183..=192 {
         for body in [body, malformed, [0; 9]] {
@@ -178,12 +178,12 @@ fn a_body_is_examined_only_where_it_is_whole_in_192_bytes() {
     for nullables in [0, 1, 100, 181, 182] {
         for len in 0..=9 {
             let left = nullables + 1 + len;
-            let wanted = if left < 192 { CUT } else { ENDLESS };
+            let wanted = if left < 192 { BROKEN } else { ENDLESS };
             assert_eq!(limits(&front(nullables, &body[..len])), wanted, "{nullables} and {len}");
         }
     }
     for (nullables, len, wanted) in
-        [(183, 7, CUT), (183, 8, ENDLESS), (190, 0, CUT), (190, 1, ENDLESS), (191, 0, ENDLESS)]
+        [(183, 7, BROKEN), (183, 8, ENDLESS), (190, 0, BROKEN), (190, 1, ENDLESS), (191, 0, ENDLESS)]
     {
         assert_eq!(limits(&front(nullables, &malformed[..len])), wanted, "{nullables} and {len}");
     }

@@ -1,4 +1,4 @@
-//! Arrays whose size has four bytes beside Arrays whose size has eight (document 02, order 5), which the Rust does not have.
+//! Arrays whose size has four bytes beside Arrays whose size has eight (document 02, order 5), which the Rust is not asked with.
 
 use crate::inputs::{table, Filler, Input, Make, FIRST};
 use crate::measure::Times;

@@ -86,7 +86,7 @@ fn calls(effort: Effort) -> Vec<CallRow> {
     overloads::CALLS.iter().map(row).collect()
 }
 
-/// The widths of an Array's size that the library has; the first is the one that the Rust has.
+/// The widths of an Array's size that the library has; the first is the one that the Rust is asked with.
 fn widths() -> &'static [Width] {
     match cfg!(feature = "large-array") {
         true => &WIDTHS,

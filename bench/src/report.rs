@@ -274,7 +274,7 @@ fn calls(report: &Report) -> String {
 fn array_inputs() -> String {
     let [fields, deep, leaves, params] = PLACES.map(Place::count);
     format!(
-        "Since order 5 the size of an Array may have eight bytes; the Rust has sizes of four alone. Here are as many Arrays \
+        "Since order 5 the size of an Array may have eight bytes; the Rust is asked with sizes of four alone. Here are as many Arrays \
          with sizes of four bytes as with sizes of eight, and as many where each has one or the other at random, in types \
          with an Int in the innermost Array: {fields} fields of one Array and a question of one node; {deep} fields of {DEEP} \
          Arrays in each other, the most for which 192 bytes have room where sizes have eight; a question of 64 nodes without \
@@ -286,7 +286,7 @@ fn array_inputs() -> String {
 
 const ARRAY_TIMES: &str = "The time is that of check and judgement together, of calls that of the judgement alone. The Rust's \
     is that of filling and methods, of leaves that of tree and methods, since it reads their types with the tree, and of \
-    calls that of its methods. No bar is set.";
+    calls that of its methods. Bytes are those of table and question together. No bar is set.";
 
 fn arrays(report: &Report) -> String {
     let mut out = String::from(

@@ -59,7 +59,7 @@ pub fn decode(bytes: &[u8], names: &[String]) -> (Ty, usize) {
         19 => (Ty::TypeVar(u32::from_le_bytes([bytes[1], bytes[2], bytes[3], bytes[4]])), 5),
         20 => (Ty::Module(id(1)), 3),
         21 => (Ty::Error, 1),
-        kind => panic!("{} is no kind of the Rust's types", kind),
+        kind => panic!("{} is no kind that the Rust is asked with", kind),
     }
 }
 

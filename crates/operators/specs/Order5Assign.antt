@@ -7,9 +7,8 @@ use Rattle.symbol.specs.Symbols.{Symbols}
 use Rattle.ty.specs.Bytes.{Ty, is_array, inner_of}
 use Rattle.ty.specs.Kind.{list_kind}
 
--- of a type b that is an Array, and what assigns to it
+-- how a List, an Array and the names ArrayList and MutableList assign to a type b that is an Array
 pub record ToArray (S : Symbols) (a b : Ty) : Type 0 where
   pub from_list : is_array b ≡ true → is_kind list_kind a ≡ true → assigns S a b ≡ assigns S (inner_of a) (inner_of b)
   pub from_array : is_array b ≡ true → is_array a ≡ true → assigns S a b ≡ assigns S (inner_of a) (inner_of b)
-  -- ArrayList and MutableList, as names, assign to every Array
   pub from_name : is_array b ≡ true → is_growing a ≡ true → assigns S a b ≡ true

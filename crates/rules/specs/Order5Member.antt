@@ -1,5 +1,5 @@
 -- What order 5 claims of members. Document 02: "All Array rules cover both kinds and are shown for either width together." `is_array` holds of an Array of
--- either width: its members are those that its element type says, and no access check is asked.
+-- either width: its members are a List's, by its element type, and no access check is asked.
 use Rattle.std.specs.Prelude.{ℕ, true, ◌≡◌}
 use Rattle.question.specs.declared.Header.{Header}
 use Rattle.rules.specs.Member.{element_member, member_out}

@@ -1,6 +1,6 @@
 -- Order 5's claims of an Array's bytes (specs/Order5), once for both widths.
 use Prim.Native.Nat.{ℕ, zero, suc, ◌+◌, ◌*◌, ◌-◌, ◌≤◌, ◌<◌, min}
-use borrow.Author.Tests.{eqb-true, eqb-false, eq-eqb, ne_eqb, leb-true, leb-false, lt-leb, le-ltb}
+use borrow.Author.Tests.{eqb-true, eqb-false, eq-eqb, ne_eqb, leb-true, leb-false, lt-leb, le-ltb, lt-ltb}
 use lib.Dec.{eqb, leb}
 use lib.ListN.{length, get_or, drop, length-drop}
 use mathlib.Core.Bool.{Bool, true, false, false≢true, ◌&&◌, ◌||◌}
@@ -19,8 +19,8 @@ use Rattle.ty.specs.Bytes.{Ty, kind_of, id_at, is_array_kind, is_array, size_wid
 use Rattle.ty.specs.Choose.{choose}
 use Rattle.ty.specs.Kind.{array_kind, large_array_kind, function_kind, error_kind, no_kind}
 use Rattle.ty.specs.Order5.{front_length, well_formed, array_size, kind_for, AllBytes, IsType, array_at, four_zeros, array_before, BothWidths}
-use Rattle.ty.specs.Read.{holds_one, body_length, good_array, good_body, number_at, large_size, item_of, size_at, item_at, item_read, read_from, read_type, whole_read}
-use Rattle.ty.specs.declared.read.ItemFault.TheVariants.{Broken}
+use Rattle.ty.specs.Read.{holds_one, body_length, good_array, good_body, number_at, large_size, item_of, size_at, item_at, item_read, no_end, read_from, read_type, whole_read}
+use Rattle.ty.specs.declared.read.ItemFault.TheVariants.{Broken, Out}
 use Rattle.ty.specs.declared.read.TypeFault.TheVariants.{Malformed}
 
 -- ---- the item of an Array
@@ -111,6 +111,24 @@ module _ (s : Ty) (limit : ℕ) (a : is_array s ≡ true) where
   malformed : well_formed s ≡ false → front_length s ≤ min (length s) limit → read_type s limit ≡ Err Malformed
   unfolding read_type read_from choose
   malformed w h = rw (item (min (length s) limit) h, w)
+
+  none_examined : (end : ℕ) → leb end 0 ≡ true → item_at s end 0 ≡ Err Out
+  unfolding item_at choose
+  none_examined end l = rw l refl
+
+  behind_front : (end : ℕ) → end < front_length s → item_at s end 0 ≡ Err Out
+  unfolding array_at
+  behind_front end h = go (leb end 0) refl
+    where
+      go : (t : Bool) → leb end 0 ≡ t → item_at s end 0 ≡ Err Out
+      go true l = none_examined end l
+      go false l =
+          inside s end 0 (leb-false end 0 l) (rw first at a)
+          ∙ rw (← first, lt-ltb (end - (0 + 1)) (1 + size_width (kind_of s)) (omega arith)) (choose_yes true _ _ refl)
+
+  outside : min (length s) limit < front_length s → read_type s limit ≡ Err (no_end (length s) limit 0 false)
+  unfolding read_type read_from choose
+  outside h = rw (behind_front (min (length s) limit) h)
 
   module _ (n top : ℕ) (e : Bool) where
     reads : well_formed s ≡ true → read_type (inner_of s) limit ≡ whole_read n top e → front_length s + n ≤ limit
@@ -274,7 +292,7 @@ module _ (s : Ty) (limit n top : ℕ) (e : Bool) where
 pub both_widths : BothWidths
 both_widths =
     record {
-      array = λ s limit a. record { reads = reads s limit a; no_other = no_other s limit a; malformed = malformed s limit a; inner = inner s limit a };
+      array = λ s limit a. record { reads = reads s limit a; no_other = no_other s limit a; malformed = malformed s limit a; outside = outside s limit a; inner = inner s limit a };
       inside = inside;
       as_before = as_before;
       one_spelling = one_spelling;

@@ -1,12 +1,12 @@
 -- What order 5 claims of an Array's bytes. Document 02: "Type kind 22 is an Array with a flag of 1 and an 8-byte size of at least 2^32; smaller sizes keep
 -- kind 14, so equal types are still equal bytes, and every size of the old width reads as it did .. All Array rules cover both kinds and are shown for either
--- width together." Each claim is of both kinds, whose sizes differ in their width alone.
+-- width together." Each claim but `as_before` and the instances at the end is of both kinds.
 use Rattle.std.specs.Prelude.{ℕ, ◌+◌, ◌-◌, ◌≤◌, ◌<◌, min, Bool, true, false, ◌&&◌, ◌||◌, List, length, drop, get_or, ltb, leb, eqb}
 use Rattle.std.specs.Prelude.{◌≡◌, Option, None, Some, Result, Err}
 use Rattle.ty.specs.Bytes.{Ty, kind_of, is_array_kind, is_array, size_width, inner_of}
 use Rattle.ty.specs.Choose.{choose}
 use Rattle.ty.specs.Kind.{array_kind, large_array_kind}
-use Rattle.ty.specs.Read.{good_array, size_at, item_at, item_read, read_type, whole_read, large_size}
+use Rattle.ty.specs.Read.{good_array, size_at, item_at, item_read, no_end, read_type, whole_read, large_size}
 use Rattle.ty.specs.declared.read.Item.{Item}
 use Rattle.ty.specs.declared.read.ItemFault.{ItemFault}
 use Rattle.ty.specs.declared.read.ItemFault.TheVariants.{Broken, Out}
@@ -60,14 +60,17 @@ array_before s end at =
 
 -- of a type that begins as an Array, of whichever kind
 pub record ArrayRead (s : Ty) (limit : ℕ) : Type 0 where
-  -- a well-formed Array reads whole, with its length, where what stands behind its size does
+  -- a well-formed Array reads whole, with its length, where what stands behind its size does and both are within the limit
   pub reads : (n top : ℕ) (e : Bool) → well_formed s ≡ true → read_type (inner_of s) limit ≡ whole_read n top e → front_length s + n ≤ limit
       → read_type s limit ≡ whole_read (front_length s + n) top e
   -- and no other does
   pub no_other : (n top : ℕ) (e : Bool) → read_type s limit ≡ whole_read n top e
       → (well_formed s ≡ true) × (front_length s ≤ n) × (read_type (inner_of s) limit ≡ whole_read (n - front_length s) top e)
-  -- "A kind 22 with a smaller size or another flag counts as malformed", as an Array with a wrong flag did
+  -- "A kind 22 with a smaller size or another flag counts as malformed", as an Array with a wrong flag did, where its flag and size lie wholly inside the bytes
+  -- that are examined
   pub malformed : well_formed s ≡ false → front_length s ≤ min (length s) limit → read_type s limit ≡ Err Malformed
+  -- and where they do not, it is cut or without end
+  pub outside : min (length s) limit < front_length s → read_type s limit ≡ Err (no_end (length s) limit 0 false)
   -- its inner type is what stands behind the size
   pub inner : inner_of s ≡ drop (front_length s) s
 
@@ -77,7 +80,7 @@ pub record BothWidths : Type 0 where
   pub inside : (s : List ℕ) (end at : ℕ) → at < end → is_array_kind (get_or s at 0) ≡ true → item_at s end at ≡ array_at s end at
   -- "every size of the old width reads as it did"
   pub as_before : (s : List ℕ) (end at : ℕ) → at < end → get_or s at 0 ≡ array_kind → item_at s end at ≡ array_before s end at
-  -- "equal types are still equal bytes": a size has one spelling. Two Arrays with the same size and the same element are the same bytes.
+  -- "equal types are still equal bytes": a size has no two spellings, as two Arrays with the same size and the same element are the same bytes
   pub one_spelling : (s t : Ty) (limit : ℕ) → AllBytes s → AllBytes t → is_array s ≡ true → is_array t ≡ true → IsType s limit → IsType t limit
       → array_size s ≡ array_size t → inner_of s ≡ inner_of t → s ≡ t
   -- "smaller sizes keep kind 14": an Array has the kind for its size

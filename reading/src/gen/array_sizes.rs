@@ -243,7 +243,7 @@ fn ends() -> &'static [Bytes] {
 /// What a type stands in, up to it.
 const HOLDERS: [&[u8]; 6] = [&[], &[12], &[16], &[16, INT], &[18, 1], &[22, 1, 3, 0, 0, 0, 1, 0, 0, 0]];
 
-/// What stands behind a cut type: nothing, or bytes of a record or a node of which some may be taken for the type's.
+/// How many ways there are behind a cut type: nothing, and twice bytes of which some may be taken for the type's.
 const BEHIND: usize = 3;
 
 fn behind(choice: usize) -> &'static [u8] {
@@ -264,10 +264,10 @@ fn cuts(mut place: Place) -> Pair {
     before_more(place.below(SITES.len()), &ty, more)
 }
 
-/// How many bytes stand before an Array's kind: 170 to 193.
+/// How many counts of bytes before an Array's kind there are: 170 to 193.
 const OFFSETS: usize = 24;
 
-/// A kind that is left open, once or again and again, with how many bytes it has; one-byte kinds fill up.
+/// A kind that is left open, with its body, again and again; Nullables in front fill up.
 const OPEN: [&[u8]; 5] = [&[12], &[13], &[15], &[22, 1, 7, 0, 0, 0, 1, 0, 0, 0], &[14, 1, 7, 0, 0, 0]];
 
 fn open(kind: &[u8], len: usize) -> Bytes {

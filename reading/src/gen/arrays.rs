@@ -267,7 +267,7 @@ fn page(rng: &mut Rng, inside: bool) -> Pair {
     (page.table.bytes(), question_in(NONE, NONE, rng.chance(50), &tree))
 }
 
-/// One to ten bytes that are left open, up to a length.
+/// Kinds that are left open, with their bodies, so many bytes in all.
 fn prefix(rng: &mut Rng, len: usize) -> Bytes {
     let mut bytes = Vec::new();
     let plain = rng.chance(40);
@@ -310,7 +310,7 @@ fn any_element(rng: &mut Rng) -> Bytes {
     }
 }
 
-/// A class for a table's types to belong to.
+/// The owner of a field.
 const OWNER: u16 = 36;
 
 /// A type in a result, a parameter, a field or a leaf, with a question that meets it; what is broken stands at the end of
