@@ -4,7 +4,9 @@
     tests/text.py [PROGRAM]      with PROGRAM also that it answers the samples as the text says
 """
 
+import itertools
 import pathlib
+import re
 import subprocess
 import sys
 import unittest
@@ -13,6 +15,7 @@ ROOT = pathlib.Path(__file__).resolve().parent.parent
 sys.path.insert(0, str(ROOT / "tools"))
 sys.dont_write_bytecode = True
 import aura_text  # noqa: E402
+import replay  # noqa: E402
 
 STORED = "answers.txt"  # the oracle's, in another form
 SAMPLES = sorted(path for path in (ROOT / "samples").glob("*.txt") if path.name != STORED)
@@ -21,6 +24,15 @@ PROGRAM = None
 
 def name_record(name):
     return bytes([1, len(name)]) + name.encode() + bytes(24 - len(name))
+
+
+def names_of(data):
+    """The names of a table."""
+    names = []
+    while data[:1] == b"\1":
+        names.append(data[2:2 + data[1]])
+        data = data[26:]
+    return names
 
 
 def table(text):
@@ -33,7 +45,7 @@ def question(text):
 
 class Samples(unittest.TestCase):
     def test_the_bytes_are_what_the_text_says(self):
-        self.assertEqual([sample.stem for sample in SAMPLES], ["mapsheet", "repair", "stamp", "words"])
+        self.assertEqual([sample.stem for sample in SAMPLES], ["mapsheet", "printable", "repair", "stamp", "words"])
         files = set()
         for sample in SAMPLES:
             text = aura_text.Text(sample.read_text(encoding="ascii"))
@@ -70,8 +82,12 @@ class Records(unittest.TestCase):
         start = table(names)
         self.assertEqual(start, name_record("A") + name_record("B") + name_record("p"))
         for line, record in [
-            ("class A", "02 2800 ffff ffff 00"),
-            ("class B extends A package p types", "02 2900 2800 2a00 01"),
+            ("class A", "02 2800 ffff ffff ffff ffff 00"),
+            ("class B extends A package p types", "02 2900 2800 ffff ffff 2a00 01"),
+            ("class B extends A implements p, Pair package Set types", "02 2900 2800 2a00 0000 0500 01"),
+            ("class B implements A", "02 2900 ffff 2800 ffff ffff 00"),
+            ("class B implements , A types", "02 2900 ffff ffff 2800 ffff 01"),
+            ("class B implements B, B package B", "02 2900 ffff 2900 2900 2900 00"),
             ("operators A plus ge", "03 2800 0104"),
             ("function A() -> Unit", "04 ffff 2800 00 00 00 0b"),
             ("function A.B(p: Int default, B: Any vararg) -> A private builtin",
@@ -83,6 +99,90 @@ class Records(unittest.TestCase):
             ("variant A.B", "08 2800 2900"),
         ]:
             self.assertEqual(table(names + line), start + bytes.fromhex(record), line)
+
+    def test_a_table_both_ways(self):
+        names = "name A\nname B\nname p\nname Int\nname implements\n"
+        for line in [
+            "class A", "class A types", "class A extends B", "class A package p types", "class A implements B", "class A implements B, p",
+            "class A implements , B", "class A extends A implements , A package A types", "class implements implements implements",
+            "class A extends B implements p, p package Pair types", "operators A", "operators A plus minus times div mod eq ne lt gt le ge",
+            "function A() -> Unit", "function A.B(p: Named(Int) default vararg, B: Array(A, 4294967296) vararg) -> Named(Int) internal builtin",
+            "field A.p: Function(Int, A -> Nullable(B))", "visibility A.p public", "visibility A.p private", "suspend A", "suspend A.B",
+            "variant A.B",
+        ]:
+            self.assertEqual(aura_text.table_text(table(names + line)), names + line + "\n")
+        for sample in SAMPLES:
+            data = aura_text.Text(sample.read_text(encoding="ascii")).table
+            self.assertEqual(table(aura_text.table_text(data)), data, sample.name)
+
+    def test_every_class_record_both_ways(self):
+        """Each of its fields with none or a name, and both flags."""
+        ids = [bytes([255, 255]), bytes([40, 0]), bytes([0, 0])]
+        for parents in itertools.product(ids, repeat=4):
+            for flag in [0, 1]:
+                data = name_record("A") + bytes([2, 40, 0]) + b"".join(parents) + bytes([flag])
+                self.assertEqual(table(aura_text.table_text(data)), data)
+
+    def test_the_tables_of_the_stored_answers_both_ways(self):
+        """Each of at most 2,000 bytes that is accepted; the form has not every letter that a name may have."""
+        said = 0
+        for case, data, _, answer in replay.text_cases():
+            if len(data) <= 2000 and not 1 <= int(answer.split()[0]) <= 7:
+                if all(re.fullmatch(rb"[A-Za-z0-9_$]+", name) for name in names_of(data)):
+                    self.assertEqual(table(aura_text.table_text(data)), data, case)
+                    said += 1
+                else:
+                    self.no_table(data, "at byte ")
+        self.assertGreater(said, 5000)
+
+    def test_a_table_that_the_form_cannot_say(self):
+        for data in ["09", "02 0600 ffff ffff 00", "02 0600 ffff ffff ffff ffff", "02 0600 ffff ffff ffff ffff 02", "02 ffff ffff ffff ffff ffff 00",
+                     "02 2900 ffff ffff ffff ffff 00", "03 0600 0008", "05 ffff 0600 00", "05 0600 0600 17", "06 0600 0600 04", "07 0600 ffff"]:
+            for front in [b"", name_record("A")]:
+                self.no_table(front + bytes.fromhex(data), f"at byte {len(front)} of the table stands no record that this form can say")
+        self.no_table(name_record("A") + name_record("A-B"), "at byte 26 of the table")
+        self.no_table(bytes([1, 1]) + b"AB" + bytes(22), "at byte 0 of the table")
+
+    def no_table(self, data, fault):
+        with self.assertRaises(aura_text.Fault, msg=data.hex(" ")) as raised:
+            aura_text.table_text(data)
+        self.assertTrue(str(raised.exception).startswith(fault), f"{data.hex(' ')}: {raised.exception}")
+
+    def test_the_table_of_an_input(self):
+        text = aura_text.Text((ROOT / "samples/printable.txt").read_text(encoding="ascii"))
+        command = [sys.executable, str(ROOT / "tools/aura_text.py"), str(ROOT / "samples/printable.scan.bin"), "--table"]
+        done = subprocess.run(command, capture_output=True, text=True, check=True)
+        self.assertEqual(table(done.stdout), text.table)
+        self.assertIn("\nclass Receipt implements Signed, Printable package plugin types\n", done.stdout)
+        self.assertEqual(aura_text.table_of(b"\0\0\7"), b"")
+        for data in [b"", b"\0", b"\1\0", b"\0\1" + bytes(255)]:
+            with self.assertRaises(aura_text.Fault):
+                aura_text.table_of(data)
+
+    def test_the_table_of_an_input_of_before(self):
+        older = name_record("A") + bytes.fromhex("02 2800 ffff ffff 01  02 0600 2800 0500 00  05 0600 1600 04")
+        new = name_record("A") + bytes.fromhex("02 2800 ffff ffff ffff ffff 01  02 0600 2800 ffff ffff 0500 00  05 0600 1600 04")
+        self.assertEqual(aura_text.anew(older), new)
+        hint = "; its class records are those of before, without interfaces: renew/ writes it anew"
+        for sample in sorted((ROOT / "renew/tests/older").glob("*.bin")):
+            self.no_input(sample.read_bytes(), hint)
+            self.assertEqual(aura_text.anew(aura_text.table_of(sample.read_bytes())), aura_text.table_of((ROOT / "samples" / sample.name).read_bytes()))
+        self.no_input(len(older).to_bytes(2, "little") + older, hint)
+        for table in [b"\2", older + b"\t", new + b"\t", older[:-1], new[:-1]]:
+            self.no_input(len(table).to_bytes(2, "little") + table, "stands no record that this form can say")
+
+    def no_input(self, data, end):
+        with self.assertRaises(aura_text.Fault, msg=data.hex(" ")) as raised:
+            aura_text.input_text(data)
+        self.assertTrue(str(raised.exception).endswith(end), f"{data.hex(' ')}: {raised.exception}")
+
+    def test_one_way_at_a_time(self):
+        ways = ["--check", "--read", "--table", "--run /bin/true"]
+        for one, other in itertools.permutations(ways, 2):
+            command = [sys.executable, str(ROOT / "tools/aura_text.py"), str(ROOT / "samples/printable.txt"), *one.split(), *other.split()]
+            done = subprocess.run(command, capture_output=True, text=True, check=False, stdin=subprocess.DEVNULL)
+            self.assertEqual((done.returncode, done.stdout), (2, ""), command)
+            self.assertIn("not allowed with argument", done.stderr)
 
     def test_each_kind_of_type_both_ways(self):
         for text, data in [
@@ -173,6 +273,30 @@ class Faults(unittest.TestCase):
             ("field Pair.size Int", "line 1: `:` is wanted where `Int` stands"),
             ("field Pair.size: List(Int", "line 1: `)` is missing at the end of the line"),
             ("class Pair types 3", "line 1: `3` is too much on this line"),
+            ("name A\nclass Pair implements A, A, A", "line 2: a class has at most two interfaces"),
+            ("class Pair implements , Set, List", "line 1: a class has at most two interfaces"),
+            ("class Pair implements Set,", "line 1: the name behind `,` is missing"),
+            ("class Pair implements ,", "line 1: the name behind `,` is missing"),
+            ("class Pair implements , , Set", "line 1: the name behind `,` is missing"),
+            ("class Pair implements Set implements List", "line 1: `implements` stands twice or too late; the parts of a class are, in this order: "
+             "extends implements package types"),
+            ("class Pair extends implements Set", "line 1: the name behind `extends` is missing"),
+            ("class Pair extends", "line 1: the name behind `extends` is missing"),
+            ("class Pair implements", "line 1: the name behind `implements` is missing"),
+            ("class Pair implements package Set", "line 1: the name behind `implements` is missing"),
+            ("class Pair implements Set, types", "line 1: the name behind `,` is missing"),
+            ("class Pair package types", "line 1: the name behind `package` is missing"),
+            ("class Pair implements Set List", "line 1: `List` is too much on this line; a comma stands between two interfaces"),
+            ("class Pair implements Set Q", "line 1: `Q` is too much on this line"),
+            ("class Pair implements Set, List Map", "line 1: `Map` is too much on this line"),
+            ("question q current\nleaf Int", "line 1: the name behind `current` is missing"),
+            ("question q current package Set\nleaf Int", "line 1: the name behind `current` is missing"),
+            ("class Pair implements Set extends List", "line 1: `extends` stands twice or too late"),
+            ("class Pair package Set implements List", "line 1: `implements` stands twice or too late"),
+            ("class Pair types package Set", "line 1: `package` stands twice or too late"),
+            ("class Pair types types", "line 1: `types` stands twice or too late"),
+            ("name A\nclass Pair implements Q", "line 2: `Q` is neither a built-in name nor one of the table's"),
+            ("name A\nclass Pair implements A, Q", "line 2: `Q` is neither a built-in name nor one of the table's"),
             ("visibility Pair.size hidden", "line 1: visibility `hidden` is none of: public protected internal private"),
             ("name A-B", "line 1: `-` has no meaning here"),
             ("leaf Int", "line 1: `leaf` stands before any question"),

@@ -7,12 +7,14 @@
                                            runs PROGRAM on each question and compares with the answer in the text
     tools/aura_text.py FILE.txt --read < ANSWER
                                            says in the text's words what PROGRAM printed
+    tools/aura_text.py FILE.bin --table    says in this form the table at the front of FILE.bin, which is a program's input
 
 The bytes are what the program reads: a 2-byte table length, the table, the question. One record or node stands on a
 line; `#` begins a comment. Names are written, not their ids; a name has letters, digits, `_` and `$`.
 
     name WORD
-    class NAME [extends NAME] [package NAME] [types]
+    class NAME [extends NAME] [implements NAME[, NAME]] [package NAME] [types]
+                                           the first interface alone, both, or (`implements , NAME`) the second alone
     operators NAME plus minus times div mod eq ne lt gt le ge            (those that the class has)
     function [OWNER.]NAME(NAME: TYPE [default] [vararg], ..) -> TYPE [public|protected|internal|private] [builtin]
     field OWNER.NAME: TYPE
@@ -155,8 +157,27 @@ class Names:
             raise Fault(f"`{name}` is neither a built-in name nor one of the table's (write `name {name}` above)")
         return word(self.names.index(name))
 
-    def optional(self, line, keyword):
-        return self.id(line) if line.maybe(keyword) else word(NONE)
+    def behind(self, line, keyword, keywords):
+        """The id of the name behind a keyword, where one of the keywords may follow."""
+        if line.peek() in (None, *keywords) and line.peek() not in self.names:
+            raise Fault(f"the name behind `{keyword}` is missing")
+        return self.id(line)
+
+    def optional(self, line, keyword, keywords):
+        """[keyword NAME] as an id."""
+        return self.behind(line, keyword, keywords) if line.maybe(keyword) else word(NONE)
+
+    def interfaces(self, line):
+        """[implements [NAME][, NAME]] as two ids; one at least is named."""
+        if not line.maybe("implements"):
+            return 2 * word(NONE)
+        first = word(NONE) if line.peek() == "," else self.behind(line, "implements", CLASS_PARTS)
+        second = self.behind(line, ",", [",", *CLASS_PARTS]) if line.maybe(",") else word(NONE)
+        if line.peek() == ",":
+            raise Fault("a class has at most two interfaces")
+        if line.peek() in self.names and line.peek() not in CLASS_PARTS and second == word(NONE):
+            raise Fault(f"`{line.peek()}` is too much on this line; a comma stands between two interfaces")
+        return first + second
 
     def member(self, line, owner_needed=True):
         """[OWNER.]NAME as two ids."""
@@ -218,11 +239,18 @@ def count(items, what):
 
 # Records
 
+CLASS_PARTS = "extends implements package types".split()
+
+
 def class_record(names, line):
     name = names.id(line)
-    superclass = names.optional(line, "extends")
-    package = names.optional(line, "package")
-    return bytes([2]) + name + superclass + package + bytes([line.maybe("types")])
+    superclass = names.optional(line, "extends", CLASS_PARTS)
+    interfaces = names.interfaces(line)
+    package = names.optional(line, "package", CLASS_PARTS)
+    out = bytes([2]) + name + superclass + interfaces + package + bytes([line.maybe("types")])
+    if line.peek() in CLASS_PARTS:
+        raise Fault(f"`{line.peek()}` stands twice or too late; the parts of a class are, in this order: {' '.join(CLASS_PARTS)}")
+    return out
 
 
 def operator_record(names, line):
@@ -303,13 +331,16 @@ class Node:
         return out + b"".join(child.bytes() for child in self.children)
 
 
+QUESTION_PARTS = "current package suspend".split()
+
+
 class Question:
     """A question with the answer that the text gives."""
 
     def __init__(self, names, line):
         self.number = line.number
         self.name = line.word("the question's name")
-        self.header = names.optional(line, "current") + names.optional(line, "package")
+        self.header = b"".join(names.optional(line, part, QUESTION_PARTS) for part in QUESTION_PARTS[:2])
         self.header += bytes([line.maybe("suspend")])
         self.root, self.above = None, []
         self.answer, self.diagnostics = None, []
@@ -396,12 +427,7 @@ class Text:
         return word(len(self.table)) + self.table + question.bytes()
 
 
-# Reading an answer
-
-DIAGNOSTICS = """nullable operands|plus|numeric|unrelated comparison (warning)|not comparable|logical|bitwise|nullable unary|
-minus|not|step|dereference|not-null|suspend|argument count|unknown name|mismatch|no match|tie|access|nullable member|
-unresolved|no members""".replace("\n", "").split("|")
-
+# Reading a type
 
 def array_size(data):
     """The size of the Array at the start of the bytes, None without one, and the bytes behind its body."""
@@ -436,6 +462,130 @@ def type_text(data, names):
     return f"{kind}({', '.join(parts)})" if parts else kind, rest
 
 
+# Reading a table
+
+class Reading:
+    """The bytes of a table, taken record by record as lines."""
+
+    def __init__(self, table, names):
+        self.rest, self.names = table, names
+
+    def take(self, count):
+        taken, self.rest = self.rest[:count], self.rest[count:]
+        return int.from_bytes(taken, "little")
+
+    def id(self):
+        """A name, or None for 65,535."""
+        number = self.take(2)
+        return None if number == NONE else self.names[number]
+
+    def member(self):
+        owner, name = self.id(), self.id()
+        return name if owner is None else f"{owner}.{name}"
+
+    def type(self):
+        text, self.rest = type_text(self.rest, self.names)
+        return text
+
+    def name_line(self):
+        name, self.rest = self.rest[1:1 + self.rest[0]], self.rest[25:]
+        return f"name {name.decode('ascii')}"
+
+    def class_line(self):
+        name, superclass, first, second, package = [self.id() for _ in range(5)]
+        out = f"class {name}" + (f" extends {superclass}" if superclass else "")
+        if first or second:
+            out += f" implements {first or ''}" + (f", {second}" if second else "")
+        return out + (f" package {package}" if package else "") + (" types" if self.take(1) else "")
+
+    def operators_line(self):
+        name, mask = self.id(), self.take(2)
+        return " ".join(["operators", name] + [word for bit, word in enumerate(BUILT_IN[6:17]) if mask >> bit & 1])
+
+    def parameter(self):
+        name, flag = self.id(), self.take(1)
+        return f"{name}: {self.type()}" + (" default" if flag & 1 else "") + (" vararg" if flag & 2 else "")
+
+    def function_line(self):
+        key, visibility, builtin, params = self.member(), self.take(1), self.take(1), self.take(1)
+        result = self.type()
+        out = f"function {key}({', '.join([self.parameter() for _ in range(params)])}) -> {result}"
+        return out + (f" {VISIBILITIES[visibility]}" if visibility else "") + (" builtin" if builtin else "")
+
+    def line(self):
+        """The record at the front."""
+        kind = RECORDS[range(1, 9).index(self.take(1))]
+        if kind == "field":
+            return f"field {self.member()}: {self.type()}"
+        if kind == "visibility":
+            return f"visibility {self.member()} {VISIBILITIES[self.take(1)]}"
+        if kind in ("suspend", "variant"):
+            return f"{kind} {self.member()}"
+        return {"name": self.name_line, "class": self.class_line, "operators": self.operators_line, "function": self.function_line}[kind]()
+
+
+def anew(table):
+    """The table of before, whose class records have 8 bytes, with no interfaces in them."""
+    out = b""
+    while table[:1] in (b"\1", b"\2"):
+        end, shared = (26, 26) if table[0] == 1 else (8, 5)
+        out += table[:shared] + (2 * word(NONE) if shared < end else b"") + table[shared:end]
+        table = table[end:]
+    return out + table
+
+
+def is_older(table):
+    """Whether it is a table of before, as far as this form knows."""
+    try:
+        table_text(anew(table))
+    except Fault:
+        return False
+    return True
+
+
+def input_text(data):
+    """The table of a program's input in the text form."""
+    table = table_of(data)
+    try:
+        return table_text(table)
+    except Fault as fault:
+        if is_older(table):
+            raise Fault(f"{fault}; its class records are those of before, without interfaces: renew/ writes it anew") from None
+        raise
+
+
+def table_text(table):
+    """The table in the text form, a record a line."""
+    names, lines = Names(), []
+    reading = Reading(table, names.names)
+    while reading.rest:
+        at = len(table) - len(reading.rest)
+        try:
+            lines.append(reading.line())
+            line = Line(0, lines[-1])
+            written = record(line.word("a keyword"), names, line)
+            if written != table[at:len(table) - len(reading.rest)]:
+                raise ValueError
+        except (ValueError, LookupError, TypeError, Fault):
+            raise Fault(f"at byte {at} of the table stands no record that this form can say") from None
+    return "".join(line + "\n" for line in lines)
+
+
+def table_of(data):
+    """The table of a program's input."""
+    end = 2 + int.from_bytes(data[:2], "little")
+    if not 2 <= end <= len(data):
+        raise Fault("this is no program's input: the bytes end before the table does")
+    return data[2:end]
+
+
+# Reading an answer
+
+DIAGNOSTICS = """nullable operands|plus|numeric|unrelated comparison (warning)|not comparable|logical|bitwise|nullable unary|
+minus|not|step|dereference|not-null|suspend|argument count|unknown name|mismatch|no match|tie|access|nullable member|
+unresolved|no members""".replace("\n", "").split("|")
+
+
 def answer_text(printed, names):
     """What the program printed, in words."""
     lines = [line.split() for line in printed.splitlines()]
@@ -466,11 +616,16 @@ def run(program, text):
 def main():
     parser = argparse.ArgumentParser(description=__doc__, formatter_class=argparse.RawDescriptionHelpFormatter)
     parser.add_argument("file", type=pathlib.Path)
-    parser.add_argument("--check", action="store_true")
-    parser.add_argument("--run", metavar="PROGRAM")
-    parser.add_argument("--read", action="store_true")
+    ways = parser.add_mutually_exclusive_group()
+    ways.add_argument("--check", action="store_true")
+    ways.add_argument("--run", metavar="PROGRAM")
+    ways.add_argument("--read", action="store_true")
+    ways.add_argument("--table", action="store_true")
     options = parser.parse_args()
     try:
+        if options.table:
+            print(input_text(options.file.read_bytes()), end="")
+            return
         text = Text(options.file.read_text(encoding="ascii"))
         if options.read:
             try:

@@ -12,7 +12,9 @@ compared. Prints a page with every run; --write also stores it. Exit status 1 wh
 be compared.
 
 A library from before document 02's orders is linked with --no-default-features, one from before order 2 with --features load
-besides, one from before order 5 with --features load,subclass; do so for all.
+besides, one from before order 5 with --features load,subclass, one from before order 6 with --features
+load,subclass,large-array; do so for all, but for --features interface: with it a library reads tables of today's form, and
+without it the same tables in the form from before order 6.
 """
 
 import argparse

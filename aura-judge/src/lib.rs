@@ -35,9 +35,9 @@
 //! assert!(!answer.passed());
 //! ```
 //!
-//! A class goes where a class above it is expected, whether its own superclass or one further up: as an argument, and in
-//! comparisons. So does an array or a list of it where an array of the class above is expected, and either may be nullable.
-//! The other way round it does not:
+//! A class goes where a class above it is expected: its superclass, one of its interfaces, or what is above one of these. So
+//! it is with an argument, and in comparisons; and an array or a list of it goes where an array of the class above is expected,
+//! where either may be nullable. The other way round it does not:
 //!
 //! ```
 //! use aura_judge::{judge, DiagnosticKind, Type};
@@ -52,10 +52,14 @@
 //!     name("ScannedPage"),                                           // 41
 //!     name("repair"),                                                // 42
 //!     name("deskew"),                                                // 43
-//!     vec![2, 40, 0, 255, 255, 255, 255, 1],                         // class Page
-//!     vec![2, 41, 0, 40, 0, 255, 255, 1],                            // class ScannedPage, superclass Page
+//!     name("Printable"),                                             // 44
+//!     name("print"),                                                 // 45
+//!     // A class: name, superclass, two interfaces, package (none is 255, 255), and whether it is in `types`.
+//!     vec![2, 40, 0, 255, 255, 255, 255, 255, 255, 255, 255, 1],     // class Page
+//!     vec![2, 41, 0, 40, 0, 44, 0, 255, 255, 255, 255, 1],           // class ScannedPage, superclass Page, interface Printable
 //!     vec![4, 255, 255, 42, 0, 0, 0, 1, 11, 20, 0, 0, 17, 40, 0],    // repair(first: Page) -> Unit
 //!     vec![4, 255, 255, 43, 0, 0, 0, 1, 11, 20, 0, 0, 17, 41, 0],    // deskew(first: ScannedPage) -> Unit
+//!     vec![4, 255, 255, 45, 0, 0, 0, 1, 6, 20, 0, 0, 17, 44, 0],     // print(first: Printable) -> Boolean
 //! ]
 //! .concat();
 //! // A call with one argument, a leaf.
@@ -65,11 +69,16 @@
 //! let answer = judge(&table, &question(42, 41), &mut buffer); // repair(scan)
 //! assert!(answer.passed());
 //! assert_eq!(answer.ty(), Some(&Type::Unit));
+//! let answer = judge(&table, &question(45, 41), &mut buffer); // print(scan)
+//! assert!(answer.passed());
+//! assert_eq!(answer.ty(), Some(&Type::Boolean));
 //!
-//! let answer = judge(&table, &question(43, 40), &mut buffer); // deskew(page)
-//! assert!(!answer.passed());
-//! let all: Vec<_> = answer.diagnostics().collect();
-//! assert_eq!((all.len(), all[0].kind, all[0].number), (1, DiagnosticKind::Mismatch, 1));
+//! for (function, class) in [(43, 40), (45, 40)] { // deskew(page), print(page)
+//!     let answer = judge(&table, &question(function, class), &mut buffer);
+//!     assert!(!answer.passed());
+//!     let all: Vec<_> = answer.diagnostics().collect();
+//!     assert_eq!((all.len(), all[0].kind, all[0].number), (1, DiagnosticKind::Mismatch, 1));
+//! }
 //! ```
 //!
 //! Each argument of a call is compared with a parameter of its own: a named argument with the parameter of its name, and the

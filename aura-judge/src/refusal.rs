@@ -45,8 +45,8 @@ pub enum Refusal {
     UndefinedTableId,
     /// 5: a key (name bytes; class; owner and name; a parameter's name within one function) stands a second time.
     KeyRepeated,
-    /// 6: a superclass has a record, but not an earlier one.
-    SuperclassNotEarlier,
+    /// 6: a superclass or interface has a record, but not an earlier one.
+    ParentLate,
     /// 7: Error stands in a type of the table, or a type has no end within 192 bytes.
     TableType,
     /// 8: the question has over 16,384 bytes, is malformed or cut, or has bytes behind the tree.
@@ -75,7 +75,7 @@ impl Refusal {
         Refusal::RecordKindFalls,
         Refusal::UndefinedTableId,
         Refusal::KeyRepeated,
-        Refusal::SuperclassNotEarlier,
+        Refusal::ParentLate,
         Refusal::TableType,
         Refusal::MalformedQuestion,
         Refusal::TooManyNodes,
@@ -115,7 +115,7 @@ impl Refusal {
             Refusal::RecordKindFalls => "kind falls",
             Refusal::UndefinedTableId => "undefined id",
             Refusal::KeyRepeated => "key repeated",
-            Refusal::SuperclassNotEarlier => "a superclass with a record, but not an earlier one",
+            Refusal::ParentLate => "a superclass or interface with a record, but not an earlier one",
             Refusal::TableType => "Error in a type, or no end within 192 bytes",
             Refusal::MalformedQuestion => "over 16,384 bytes, malformed, cut, or bytes behind the tree",
             Refusal::TooManyNodes => "a 65th node",

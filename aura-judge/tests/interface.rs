@@ -19,6 +19,14 @@ fn name(name: &str) -> Vec<u8> {
     record
 }
 
+const NONE: u16 = 65_535;
+
+/// A class with its superclass and its two interfaces, without a package.
+fn class(name: u16, parents: [u16; 3]) -> Vec<u8> {
+    let ids = [&[name], &parents[..], &[NONE]].concat();
+    [2].into_iter().chain(ids.into_iter().flat_map(u16::to_le_bytes)).chain([0]).collect()
+}
+
 /// For each number that an input can draw: table, question, length of the diagnostics buffer. Number 13 is drawn by none.
 fn refused() -> Vec<(u8, Vec<u8>, Vec<u8>, usize)> {
     let int = question(&[0, 0]);
@@ -33,11 +41,14 @@ fn refused() -> Vec<(u8, Vec<u8>, Vec<u8>, usize)> {
     vec![
         (1, vec![0; 60_001], int.clone(), 20),
         (2, vec![9], int.clone(), 20),
-        (3, [vec![2, 0, 0, 255, 255, 255, 255, 0], name("Page")].concat(), int.clone(), 20),
-        (4, vec![2, 40, 0, 255, 255, 255, 255, 0], int.clone(), 20),
+        (3, [class(0, [NONE; 3]), name("Page")].concat(), int.clone(), 20),
+        (4, class(40, [NONE; 3]), int.clone(), 20),
+        (4, class(0, [NONE, NONE, 40]), int.clone(), 20),
         (5, [name("Page"), name("Page")].concat(), int.clone(), 20),
         (5, name("Pair"), int.clone(), 20),
-        (6, vec![2, 0, 0, 1, 0, 255, 255, 0, 2, 1, 0, 255, 255, 255, 255, 0], int.clone(), 20),
+        (6, [class(0, [1, NONE, NONE]), class(1, [NONE; 3])].concat(), int.clone(), 20),
+        (6, [class(0, [NONE, 1, NONE]), class(1, [NONE; 3])].concat(), int.clone(), 20),
+        (6, class(0, [NONE, NONE, 0]), int.clone(), 20),
         (7, vec![5, 0, 0, 1, 0, 21], int.clone(), 20),
         (7, wide, int.clone(), 20),
         (8, vec![], vec![], 20),

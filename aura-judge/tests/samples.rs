@@ -64,6 +64,26 @@ fn an_array_of_more_than_four_bytes_can_count_is_used_like_any_other() {
 }
 
 #[test]
+fn a_class_goes_where_an_interface_of_it_is_expected() {
+    passes(include_bytes!("../../samples/printable.scan.bin"), "Boolean");
+    passes(include_bytes!("../../samples/printable.batch.bin"), "Int");
+    passes(include_bytes!("../../samples/printable.photo.bin"), "Boolean");
+    passes(include_bytes!("../../samples/printable.receipt.bin"), "Signed");
+    passes(include_bytes!("../../samples/printable.archive.bin"), "Printable");
+    reports(include_bytes!("../../samples/printable.page.bin"), "Boolean", &["node 1: mismatch (1)"]);
+    reports(include_bytes!("../../samples/printable.either.bin"), "Page", &["node 0: tie (2)"]);
+    let unrelated = ["node 4: unrelated comparison (warning)"];
+    reports(include_bytes!("../../samples/printable.compare.bin"), "Boolean", &unrelated);
+}
+
+#[test]
+fn protected_access_and_operator_methods_are_by_superclasses_alone() {
+    passes(include_bytes!("../../samples/printable.margin.bin"), "Float");
+    reports(include_bytes!("../../samples/printable.ink.bin"), "Float", &["node 0: access (1)"]);
+    reports(include_bytes!("../../samples/printable.sum.bin"), "Error", &["node 0: plus"]);
+}
+
+#[test]
 fn a_superclass_does_not_go_where_its_subclass_is_expected() {
     reports(include_bytes!("../../samples/repair.page.bin"), "ScannedPage", &["node 1: mismatch (1)"]);
 }

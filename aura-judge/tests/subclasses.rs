@@ -1,20 +1,28 @@
-//! A subclass goes where its superclass is expected (document 02, order 2): arguments, overloads, comparisons.
+//! A class goes where its superclass or an interface of it is expected (document 02, orders 2 and 6): arguments, overloads,
+//! comparisons. Protected access and operator methods go by superclasses alone.
 
 use aura_judge::{judge, Names, Type};
 
 /// The names of the table below, from id 40 on.
-const NAMES: [&str; 6] = ["Sheet", "Page", "ScannedPage", "Photo", "Font", "PageList"];
+const NAMES: [&str; 10] =
+    ["Sheet", "Page", "ScannedPage", "Photo", "Font", "PageList", "Printable", "Signed", "Receipt", "Poster"];
 const SHEET: u16 = 40;
 const PAGE: u16 = 41;
 const SCANNED: u16 = 42;
 const PHOTO: u16 = 43;
 const FONT: u16 = 44;
 const PAGE_LIST: u16 = 45;
+const PRINTABLE: u16 = 46;
+const SIGNED: u16 = 47;
+const RECEIPT: u16 = 48;
+const POSTER: u16 = 49;
 const NONE: u16 = 65_535;
 /// Built-in names.
 const LIST: u16 = 1;
 const ARRAY_LIST: u16 = 2;
+const PLUS: u16 = 6;
 const FIRST: u16 = 20;
+const SIZE: u16 = 22;
 
 fn name(name: &str) -> Vec<u8> {
     let mut record = vec![1, name.len() as u8];
@@ -27,8 +35,9 @@ fn ids(kind: u8, ids: &[u16]) -> Vec<u8> {
     [kind].into_iter().chain(ids.iter().flat_map(|id| id.to_le_bytes())).collect()
 }
 
-fn class(class: u16, superclass: u16, in_types: bool) -> Vec<u8> {
-    [ids(2, &[class, superclass, NONE]), vec![in_types.into()]].concat()
+/// A class with its superclass and its two interfaces.
+fn class(class: u16, parents: [u16; 3], in_types: bool) -> Vec<u8> {
+    [ids(2, &[&[class], &parents[..], &[NONE]].concat()), vec![in_types.into()]].concat()
 }
 
 /// A function without an owner and of the name `first`, with one parameter.
@@ -38,17 +47,30 @@ fn function(param: &Type, result: &Type) -> Vec<u8> {
 }
 
 /// Photo below ScannedPage below Page below Sheet, which has no record; Font; PageList below ArrayList. ScannedPage is not in
-/// `types`.
-fn table(functions: &[Vec<u8>]) -> Vec<u8> {
+/// `types`. Of interfaces Printable has a record and Signed has none: ScannedPage has the first one, Receipt both, the second
+/// one by its second place, and Poster is below Photo and has Printable too.
+fn classes() -> Vec<u8> {
+    [
+        class(PAGE, [SHEET, NONE, NONE], true),
+        class(PRINTABLE, [NONE; 3], true),
+        class(SCANNED, [PAGE, PRINTABLE, NONE], false),
+        class(PHOTO, [SCANNED, NONE, NONE], true),
+        class(FONT, [NONE; 3], true),
+        class(PAGE_LIST, [ARRAY_LIST, NONE, NONE], true),
+        class(RECEIPT, [NONE, PRINTABLE, SIGNED], true),
+        class(POSTER, [PHOTO, NONE, PRINTABLE], true),
+    ]
+    .concat()
+}
+
+fn named_table(classes: Vec<u8>, behind: &[Vec<u8>]) -> Vec<u8> {
     let names: Vec<u8> = NAMES.into_iter().flat_map(name).collect();
-    let classes = [
-        class(PAGE, SHEET, true),
-        class(SCANNED, PAGE, false),
-        class(PHOTO, SCANNED, true),
-        class(FONT, NONE, true),
-        class(PAGE_LIST, ARRAY_LIST, true),
-    ];
-    [names, classes.concat(), functions.concat()].concat()
+    [names, classes, behind.concat()].concat()
+}
+
+/// The classes above, with other records behind.
+fn table(behind: &[Vec<u8>]) -> Vec<u8> {
+    named_table(classes(), behind)
 }
 
 fn leaf(ty: &Type) -> Vec<u8> {
@@ -57,7 +79,12 @@ fn leaf(ty: &Type) -> Vec<u8> {
 
 /// The answer's type with names, and the diagnostics in words behind it.
 fn answer(table: &[u8], tree: &[u8]) -> String {
-    let question = [&[0xff, 0xff, 0xff, 0xff, 0], tree].concat();
+    answer_in(NONE, table, tree)
+}
+
+/// The same of a script that stands in a class.
+fn answer_in(current: u16, table: &[u8], tree: &[u8]) -> String {
+    let question = [&current.to_le_bytes(), &[0xff, 0xff, 0][..], tree].concat();
     let mut buffer = [0; 320];
     let answer = judge(table, &question, &mut buffer);
     let ty = answer.ty().unwrap_or_else(|| panic!("refused with {}", answer.number()));
@@ -121,6 +148,92 @@ fn every_class_above_is_met() {
 }
 
 #[test]
+fn every_interface_is_met() {
+    for class in [SCANNED, PHOTO, RECEIPT, POSTER] {
+        accepted(named(class), named(PRINTABLE));
+    }
+    accepted(named(RECEIPT), named(SIGNED));
+    for (class, parent) in
+        [(PAGE, PRINTABLE), (PRINTABLE, SCANNED), (SCANNED, SIGNED), (RECEIPT, PAGE), (SIGNED, RECEIPT)]
+    {
+        not_accepted(named(class), named(parent));
+    }
+    accepted(list(named(RECEIPT)), array(named(PRINTABLE)));
+    accepted(nullable(array(named(POSTER))), array(nullable(named(PRINTABLE))));
+    not_accepted(pointer(named(RECEIPT)), pointer(named(PRINTABLE)));
+}
+
+/// Poster comes to Printable by its second interface, and by Photo and ScannedPage; it is one match with one score.
+#[test]
+fn a_class_that_is_met_along_two_ways_is_accepted_once() {
+    let overloads = [function(&named(PRINTABLE), &Type::Int), function(&named(SIGNED), &Type::Long)];
+    assert_eq!(call(&overloads, &named(POSTER)), "Int");
+    assert_eq!(call(&overloads, &named(RECEIPT)), "Int, node 0: tie (2)");
+    assert_eq!(call(&overloads, &named(PAGE)), "Error, node 0: no match");
+    let exact = [function(&named(PRINTABLE), &Type::Int), function(&named(POSTER), &Type::Long)];
+    assert_eq!(call(&exact, &named(POSTER)), "Long");
+}
+
+/// Each class has the one before it in all three places, or the three before it: 3^n ways from the last to the first.
+#[test]
+fn a_tower_is_climbed_once() {
+    let class_in = |i: u16, from: [u16; 3]| class(i, from, true);
+    let id = |i: u16, below: u16| i.checked_sub(below).unwrap_or(NONE);
+    let same: Vec<u8> = (0..40).flat_map(|i| class_in(i, [id(i, 1); 3])).collect();
+    let before: Vec<u8> = (0..40).flat_map(|i| class_in(i, [id(i, 1), id(i, 2), id(i, 3)])).collect();
+    for classes in [same, before] {
+        let table = named_table(classes, &[function(&named(0), &Type::Unit), function(&named(SHEET), &Type::Int)]);
+        let asked = |class: u16| answer(&table, &[vec![5, 20, 0, 1], leaf(&named(class))].concat());
+        assert_eq!((asked(39), asked(1), asked(0)), ("Unit".into(), "Unit".into(), "Unit".into()));
+        assert_eq!(asked(PAGE), "Error, node 0: no match");
+    }
+}
+
+/// The same interface twice, and one that is the superclass too.
+#[test]
+fn a_parent_may_stand_twice() {
+    let classes = [
+        class(PAGE, [NONE; 3], true),
+        class(PHOTO, [PAGE, SIGNED, SIGNED], true),
+        class(FONT, [PAGE, PAGE, PAGE], true),
+    ];
+    let table = named_table(classes.concat(), &[function(&named(PAGE), &Type::Unit)]);
+    for class in [PHOTO, FONT] {
+        assert_eq!(answer(&table, &[vec![5, 20, 0, 1], leaf(&named(class))].concat()), "Unit");
+    }
+}
+
+/// A protected field of Printable is not open to a class that has it as an interface, and one of Page is to a class below it.
+#[test]
+fn protected_access_is_by_superclasses_alone() {
+    let protected = |class: u16| [ids(6, &[class, SIZE]), vec![1]].concat();
+    let field = |class: u16| [ids(5, &[class, SIZE]), vec![0]].concat();
+    let table = table(&[field(PAGE), field(PRINTABLE), protected(PAGE), protected(PRINTABLE)]);
+    let member = |class: u16| [vec![4, SIZE as u8, 0], leaf(&named(class))].concat();
+    for current in [PAGE, SCANNED, PHOTO, POSTER] {
+        assert_eq!(answer_in(current, &table, &member(PAGE)), "Int", "{current}");
+    }
+    assert_eq!(answer_in(PRINTABLE, &table, &member(PRINTABLE)), "Int");
+    for current in [NONE, SCANNED, PHOTO, RECEIPT, POSTER] {
+        assert_eq!(answer_in(current, &table, &member(PRINTABLE)), "Int, node 0: access (1)", "{current}");
+    }
+    assert_eq!(answer_in(RECEIPT, &table, &member(PAGE)), "Int, node 0: access (1)");
+}
+
+/// All classes have an operator set, so that the climb stops nowhere; only those of Page and Printable have plus.
+#[test]
+fn operator_methods_are_by_superclasses_alone() {
+    let sets = [PAGE, PRINTABLE, SCANNED, PHOTO, RECEIPT]
+        .map(|class| ids(3, &[class, [PAGE, PRINTABLE].contains(&class).into()]));
+    let method = |class: u16| [ids(4, &[class, PLUS]), vec![0, 0, 0], named(class).to_bytes()].concat();
+    let table = table(&[sets.concat(), method(PAGE), method(PRINTABLE)]);
+    let sum = |class: u16| answer(&table, &[vec![1, 0], leaf(&named(class)), leaf(&Type::Int)].concat());
+    for (class, said) in [(PAGE, "Page"), (PHOTO, "Page"), (PRINTABLE, "Printable"), (RECEIPT, "Error, node 0: plus")] {
+        assert_eq!(sum(class), said);
+    }
+}
+
+#[test]
 fn at_every_depth_where_types_are_compared_by_their_parts() {
     let sized = Type::Array { inner: Box::new(named(SCANNED)), size: Some(3) };
     accepted(sized, array(named(PAGE)));
@@ -173,6 +286,9 @@ fn a_class_and_one_above_it_compare_as_related() {
     assert_eq!(compare(EQ, PHOTO, PAGE), "Boolean");
     assert_eq!(compare(EQ, PAGE, PHOTO), "Boolean");
     assert_eq!(compare(EQ, FONT, PAGE), "Boolean, node 0: unrelated comparison (warning)");
+    assert_eq!(compare(EQ, PRINTABLE, PHOTO), "Boolean");
+    assert_eq!(compare(EQ, RECEIPT, SIGNED), "Boolean");
+    assert_eq!(compare(EQ, RECEIPT, SCANNED), "Boolean, node 0: unrelated comparison (warning)");
     // `<` does not ask whether one assigns to the other.
     assert_eq!(compare(LT, PHOTO, PAGE), "Boolean, node 0: not comparable");
 }

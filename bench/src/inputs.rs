@@ -1,6 +1,7 @@
 //! The inputs: tables by make and size, questions by node count and depth, inputs that are refused.
 
 use crate::arrays::Arrays;
+use crate::classes::Family;
 use crate::collide;
 use crate::overloads::List;
 use aura_judge::raw::LOAD_LONGEST;
@@ -30,8 +31,8 @@ pub enum Make {
     Classes,
     /// Functions that all have one bucket; questions call the last.
     BucketFunctions,
-    /// Classes that are one chain, and functions of one list that take its top; questions pass its lowest class.
-    Chain,
+    /// Classes by their parents, and what is asked of them.
+    Family(Family),
     /// One list of overloads, for calls with several arguments.
     Overloads(List),
     /// Types of Arrays in each other.
@@ -51,7 +52,7 @@ impl Make {
             Make::BucketFields => "fields of few buckets",
             Make::Classes => "classes, superclass without a record",
             Make::BucketFunctions => "functions of one bucket",
-            Make::Chain => "one chain of classes, functions that take its top",
+            Make::Family(family) => family.words(),
             Make::Overloads(list) => list.words(),
             Make::Arrays(arrays) => arrays.place.words(),
         }
@@ -60,7 +61,11 @@ impl Make {
     /// Whether a class has a superclass, so that the Rust is no yardstick (document 02, order 2: "Runs beside the Rust use
     /// tables without superclasses").
     pub fn has_superclasses(self) -> bool {
-        matches!(self, Make::Classes | Make::Chain)
+        match self {
+            Make::Classes => true,
+            Make::Family(family) => family.has_superclasses(),
+            _ => false,
+        }
     }
 }
 
@@ -76,14 +81,8 @@ pub const TURN: usize = 240_000;
 
 /// The first name of a table: the class and the function that questions use.
 pub const FIRST: u16 = BUILT_IN.len() as u16;
-const NAME_RECORD: usize = 26;
-const CLASS_RECORD: usize = 8;
 /// The bytes of a function with one parameter and types of one byte.
 const CALLED: usize = 13;
-/// The chain's top; its lowest class is `FIRST`.
-const TOP: u16 = FIRST + 1;
-/// The calls among the 8 nodes of a question under a chain.
-pub const CHAIN_CALLS: usize = 7;
 /// Where a `Table` has its records of kind 2.
 const CLASSES: usize = 1;
 
@@ -96,6 +95,15 @@ pub struct Filler {
 impl Filler {
     fn new(size: usize) -> Filler {
         Filler { table: Table::new(), left: size }
+    }
+
+    /// Keeps so many bytes free, or gives them back.
+    pub fn keep(&mut self, bytes: usize) {
+        self.left -= bytes;
+    }
+
+    pub fn give(&mut self, bytes: usize) {
+        self.left += bytes;
     }
 
     /// Adds what `add` adds, if there is room.
@@ -139,39 +147,39 @@ fn records(make: Make, size: usize) -> Table {
     match make {
         Make::Nothing => {}
         Make::Names => {
-            f.names(size / NAME_RECORD);
+            f.names(size / NAME);
         }
         Make::Fields => fields(&mut f, size),
         Make::Many => many(&mut f),
         Make::Few => few(&mut f),
         Make::BucketNames => {
-            f.spelled(&collide::bucket_names(size / NAME_RECORD));
+            f.spelled(&collide::bucket_names(size / NAME));
         }
         Make::DeepNames => {
-            f.spelled(&collide::deep_names(size / NAME_RECORD));
+            f.spelled(&collide::deep_names(size / NAME));
         }
         Make::BucketFields => bucket_fields(&mut f, size),
         Make::Classes => classes(&mut f, &page_names(named_classes(size))),
         Make::BucketFunctions => bucket_functions(&mut f, size),
-        Make::Chain => chain(&mut f, size),
+        Make::Family(family) => family.fill(&mut f, size),
         Make::Overloads(list) => list.fill(&mut f),
         Make::Arrays(arrays) => arrays.fill(&mut f),
     }
     f.table
 }
 
-fn shuffle<T>(items: &mut [T], rng: &mut Rng) {
+pub fn shuffle<T>(items: &mut [T], rng: &mut Rng) {
     for i in (1..items.len()).rev() {
         items.swap(i, rng.below(i + 1));
     }
 }
 
-/// The same records in a random order within each kind. The last one stays, since questions may ask for it, and so do the
-/// classes of a chain, whose superclass has to come first. Ids mean names by place, so that other names stand for them.
+/// The same records in a random order within each kind. The last one stays, since questions may ask for it, and so do
+/// classes whose parents have to come first. Ids mean names by place, so that other names stand for them.
 fn shuffled(mut table: Table, make: Make, rng: &mut Rng) -> Vec<u8> {
     let last = table.records.iter_mut().rev().find_map(Vec::pop);
     for (place, records) in table.records.iter_mut().enumerate() {
-        if make != Make::Chain || place != CLASSES {
+        if !matches!(make, Make::Family(_)) || place != CLASSES {
             shuffle(records, rng);
         }
     }
@@ -192,7 +200,7 @@ fn some_type(i: usize, ids: u16) -> Bytes {
 fn fields(f: &mut Filler, size: usize) {
     const ASKED: usize = 6;
     let ids = f.names((size / 1000).max(2));
-    f.left -= ASKED;
+    f.keep(ASKED);
     for i in 0.. {
         let (owner, name) = ((i / ids as usize) as u16, (i % ids as usize) as u16);
         let asked = owner == FIRST && name == FIRST;
@@ -200,7 +208,7 @@ fn fields(f: &mut Filler, size: usize) {
             break;
         }
     }
-    f.left += ASKED;
+    f.give(ASKED);
     f.put(|t| t.field(FIRST, FIRST, &[INT]));
 }
 
@@ -244,7 +252,7 @@ fn few(f: &mut Filler) {
 
 /// Half of the bytes are names; the rest are records of kinds 5 to 8 from the fullest buckets on.
 fn bucket_fields(f: &mut Filler, size: usize) {
-    let ids = f.names(size / 2 / NAME_RECORD);
+    let ids = f.names(size / 2 / NAME);
     for (owner, name) in collide::pairs(ids, size) {
         let done = !f.put(|t| {
             t.field(owner, name, &[INT]);
@@ -260,7 +268,7 @@ fn bucket_fields(f: &mut Filler, size: usize) {
 
 /// How many names there are in a table in which each is a class, and so is each built-in name but one.
 fn named_classes(size: usize) -> usize {
-    (size - CLASS_RECORD * (BUILT_IN.len() - 1)) / (NAME_RECORD + CLASS_RECORD)
+    (size - CLASS * (BUILT_IN.len() - 1)) / (NAME + CLASS)
 }
 
 /// Every name is a class, but for the first built-in one, which is the superclass of all.
@@ -274,30 +282,15 @@ fn classes(f: &mut Filler, names: &[String]) {
 /// Half of the bytes are names; the rest are functions, and the one that questions call is the last.
 fn bucket_functions(f: &mut Filler, size: usize) {
     let called = |t: &mut Table| t.plain(FIRST, &[INT], &[(20, 0, vec![INT])]);
-    let ids = f.names(size / 2 / NAME_RECORD);
-    f.left -= CALLED;
+    let ids = f.names(size / 2 / NAME);
+    f.keep(CALLED);
     for (owner, name) in collide::listed_with(NONE, FIRST, ids).into_iter().cycle() {
         if !f.put(|t| t.function(owner, name, 0, false, &[INT], &[])) {
             break;
         }
     }
-    f.left += CALLED;
+    f.give(CALLED);
     f.put(called);
-}
-
-/// Half of the bytes are classes with their names. They are one chain, its ids in a random order but for the top and the
-/// lowest. The rest are functions of one list that take the top and give the lowest, so that a call that passes the lowest
-/// is a tie of them all.
-fn chain(f: &mut Filler, size: usize) {
-    let ids = f.names(size / 2 / (NAME_RECORD + CLASS_RECORD));
-    let mut between: Vec<u16> = (TOP + 1..ids).collect();
-    shuffle(&mut between, &mut Rng::new(1, 2, 6));
-    let mut above = NONE;
-    for class in [TOP].into_iter().chain(between).chain([FIRST]) {
-        f.put(|t| t.class(class, above, NONE, true));
-        above = class;
-    }
-    while f.put(|t| t.plain(FIRST, &named(FIRST), &[(20, 0, named(TOP))])) {}
 }
 
 /// The records of a table, one by one.
@@ -334,22 +327,15 @@ fn tree(nodes: usize, make: Make) -> Bytes {
 
 /// A question of this many nodes that uses what the table has.
 pub fn nodes(count: usize, make: Make) -> Vec<u8> {
-    match make {
-        Make::Chain => nested(count - 1, make),
-        _ => question(&tree(count, make)),
-    }
+    question(&tree(count, make))
 }
 
-/// Calls in calls: of the table's function where it has functions, else method calls on an Any. Under a chain they pass its
-/// lowest class.
+/// Calls in calls: of the table's function where it has functions, else method calls on an Any.
 pub fn nested(depth: usize, make: Make) -> Vec<u8> {
-    let mut tree = match make {
-        Make::Chain => leaf(&named(FIRST)),
-        _ => leaf(&[INT]),
-    };
+    let mut tree = leaf(&[INT]);
     for _ in 0..depth {
         tree = match make {
-            Make::Many | Make::Few | Make::Chain => call(FIRST, &[tree]),
+            Make::Many | Make::Few => call(FIRST, &[tree]),
             _ => method(20, &tree, &[]),
         };
     }
@@ -362,6 +348,8 @@ pub struct Input {
     /// What the question is.
     pub asked: String,
     pub table: Vec<u8>,
+    /// The table as the library reads it.
+    pub handed: Vec<u8>,
     pub question: Vec<u8>,
     /// Whether the Rust is a yardstick.
     pub rust: bool,
@@ -369,19 +357,30 @@ pub struct Input {
 
 impl Input {
     pub fn new(make: Make, asked: String, table: Vec<u8>, question: Vec<u8>) -> Input {
-        Input { make, asked, table, question, rust: !make.has_superclasses() }
+        let handed = library_form(&table);
+        Input { make, asked, table, handed, question, rust: !make.has_superclasses() }
     }
 }
 
-/// A question of 8 nodes with as many tables of one make and size as have `TURN` bytes together.
-pub fn turn(make: Make, size: usize) -> Vec<Input> {
+/// A table as the library reads it: one from before order 6 has class records without interfaces.
+pub fn library_form(table: &[u8]) -> Vec<u8> {
+    match cfg!(feature = "interface") {
+        true => table.to_vec(),
+        false => older(table).expect("no class has an interface"),
+    }
+}
+
+/// As many tables of one make and size as have `TURN` bytes together, with the same records in other orders.
+pub fn reordered(make: Make, size: usize) -> impl Iterator<Item = Vec<u8>> {
     let records = records(make, size);
     let mut rng = Rng::new(1, 2, 5);
-    let mut input = || {
-        let table = shuffled(records.clone(), make, &mut rng);
-        Input::new(make, "8 nodes".to_string(), table, nodes(8, make))
-    };
-    (0..TURN / size).map(|_| input()).collect()
+    (0..TURN / size).map(move |_| shuffled(records.clone(), make, &mut rng))
+}
+
+/// A question of 8 nodes with tables that take turns.
+pub fn turn(make: Make, size: usize) -> Vec<Input> {
+    let input = |table| Input::new(make, "8 nodes".to_string(), table, nodes(8, make));
+    reordered(make, size).map(input).collect()
 }
 
 fn nodes_in_words(count: usize) -> String {
@@ -455,7 +454,8 @@ pub fn refused() -> Vec<Refused> {
         int.clone(),
     );
     add(5, "a repeated field behind fields", tail(Make::Fields, &[5, 0, 0, 0, 0, 0]), int.clone());
-    add(6, "a superclass behind its class, behind names", tail(Make::Names, &superclass_behind()), int.clone());
+    let behind = library_form(&tail(Make::Names, &superclass_behind()));
+    add(6, "a superclass behind its class, behind names", behind, int.clone());
     add(7, "Error in a type, behind fields of 192-byte types", wide_fields(), int.clone());
     add(8, "16,385 bytes of question", vec![], vec![0; 16_385]);
     add(8, "no question, behind 60,000 bytes of names", table(Make::Names, 60_000), vec![]);
@@ -511,8 +511,9 @@ fn wide_leaves(last: &[u8]) -> Vec<u8> {
 }
 
 #[cfg(test)]
-mod tests {
+pub mod tests {
     use super::*;
+    use crate::classes::FAMILIES;
     use crate::measure::BUFFER;
     use reading::words::{self, lent};
 
@@ -531,29 +532,16 @@ mod tests {
 
     #[test]
     fn superclasses_are_where_they_are_said_to_be() {
-        for make in MAKES.into_iter().chain(CHOSEN).chain([Make::Nothing, Make::Chain]) {
+        let families = FAMILIES.map(Make::Family);
+        for make in MAKES.into_iter().chain(CHOSEN).chain([Make::Nothing]).chain(families) {
             let found = superclasses(&table(make, 7500)).iter().any(|(_, above)| *above != NONE);
             assert_eq!(found, make.has_superclasses(), "{}", make.words());
         }
     }
 
     #[test]
-    fn a_chain_is_half_of_the_table() {
-        for (size, classes, functions) in [(1875, 27, 56), (7500, 110, 221), (60_000, 882, 1765)] {
-            let bytes = table(Make::Chain, size);
-            assert_eq!(counts(&bytes), (classes, functions));
-            let chain = superclasses(&bytes);
-            assert_eq!((chain[0], chain[classes - 1].0), ((TOP, NONE), FIRST));
-            assert!(chain.windows(2).all(|pair| pair[1].1 == pair[0].0));
-            assert!((classes * 34).abs_diff(functions * 17) < 34 + 17);
-            assert!(split(&bytes)[2 * classes..].iter().all(|record| record.ends_with(&named(TOP))));
-        }
-        assert_eq!(nodes(8, Make::Chain), nested(CHAIN_CALLS, Make::Chain));
-    }
-
-    #[test]
     fn tables_of_a_turn_differ_in_the_order_of_their_records() {
-        for make in MAKES.into_iter().chain(CHOSEN).chain([Make::Chain]) {
+        for make in MAKES.into_iter().chain(CHOSEN) {
             let plain = Input::new(make, String::new(), table(make, 7500), nodes(8, make));
             let mut records = split(&plain.table);
             let last = records[records.len() - 1];

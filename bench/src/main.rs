@@ -4,11 +4,16 @@
 //!     cargo run --release -- --write    also writes docs/SPEED.md and docs/speed.svg
 //!     cargo run --release -- --quick    a short run, to see that it works
 //!     cargo run --release -- --lines    prints a line for each row instead of the page, for tools/turns.py
+//!     cargo run --release -- --classes  the same, of the rows of classes alone
+//!     cargo run --release -- --before PROGRAM
+//!                                       the page has, beside its rows of classes, those of this program of an older build
 //!
 //! With --no-default-features it links a library from before document 02's orders, with --features load besides one from
-//! before order 2, and with --features load,subclass one from before order 5. What the library lacks is then not measured.
+//! before order 2, with --features load,subclass one from before order 5, and with --features load,subclass,large-array one
+//! from before order 6, which is handed tables of the older form. What the library lacks is then not measured.
 
 mod arrays;
+mod classes;
 mod collide;
 mod inputs;
 mod measure;
@@ -20,11 +25,14 @@ mod stack;
 mod writing;
 
 use arrays::{Place, Width, PLACES, WIDTHS};
+use classes::Family;
 use inputs::{Input, Make, CHOSEN, DOUBLED, MAKES};
 use measure::{judging, least, parts, Case, Effort, Times, BUFFER};
 use overloads::Call;
 use plot::{Panel, Series};
-use report::{ArrayRow, CallRow, ChainRow, Growth, NodeGrowth, RefusedRow, Report, Row};
+use report::{ArrayRow, CallRow, ClassRow, Growth, NodeGrowth, RefusedRow, Report, Row};
+use std::collections::HashMap;
+use std::process::Command;
 use std::time::Duration;
 use writing::Writing;
 #[cfg(feature = "load")]
@@ -34,7 +42,7 @@ use {
 };
 
 const DOCS: &str = concat!(env!("CARGO_MANIFEST_DIR"), "/../docs");
-const COMMAND: &str = "(cd crates/aura_c && rt lib) && cd bench && cargo run --release -- --write";
+const COMMAND: &str = "(cd crates/aura_c && rt lib) && cd bench && cargo run --release -- --write --before PROGRAM";
 
 /// The times of one input.
 fn times(input: &Input, effort: Effort) -> Times {
@@ -59,20 +67,30 @@ fn growth(effort: Effort) -> Vec<Growth> {
     MAKES.into_iter().chain(CHOSEN).map(of).collect()
 }
 
-/// Chains of classes by size: the judge alone.
-#[cfg(feature = "subclass")]
-fn chains(effort: Effort) -> Vec<ChainRow> {
-    let turns = DOUBLED.map(|size| inputs::turn(Make::Chain, size));
-    let row = |(inputs, (check, whole)): (&Vec<Input>, (f64, f64))| {
-        let (classes, functions) = inputs::counts(&inputs[0].table);
-        ChainRow { bytes: inputs[0].table.len(), classes, functions, check, whole }
+/// The rows of classes by size: the judge alone. `earlier` has the times of an older build.
+fn classes(effort: Effort, earlier: &HashMap<String, f64>) -> Vec<ClassRow> {
+    let of = |family: Family| {
+        let turns = DOUBLED.map(|size| family.turn(size));
+        let times = measure::judged(&turns, effort);
+        let row = |(inputs, (check, whole)): (&Vec<Input>, (f64, f64))| {
+            let table = &inputs[0].table;
+            let (classes, functions) = inputs::counts(table);
+            let row = ClassRow { family, bytes: table.len(), classes, functions, check, whole, before: None };
+            ClassRow { before: earlier.get(&row.name()).copied(), ..row }
+        };
+        turns.iter().zip(times).map(row).collect::<Vec<_>>()
     };
-    turns.iter().zip(measure::judged(&turns, effort)).map(row).collect()
+    Family::all().flat_map(of).collect()
 }
 
-#[cfg(not(feature = "subclass"))]
-fn chains(_: Effort) -> Vec<ChainRow> {
-    Vec::new()
+/// What the program of an older build takes for its rows of classes.
+fn earlier(program: &str, quick: bool) -> HashMap<String, f64> {
+    let mut command = Command::new(program);
+    command.arg("--classes").args(quick.then_some("--quick"));
+    let output = command.output().unwrap_or_else(|error| panic!("{program}: {error}"));
+    let said = String::from_utf8_lossy(&output.stdout);
+    assert!(output.status.success(), "{program}: {}", String::from_utf8_lossy(&output.stderr));
+    report::read_lines(&said).unwrap_or_else(|line| panic!("{program}: not a row: {line:?}"))
 }
 
 /// Calls with several arguments over one list. A run takes milliseconds, so that a short measurement would have three.
@@ -213,6 +231,62 @@ fn panels(report: &Report) -> [Panel; 2] {
     ]
 }
 
+/// What the program is asked to do.
+#[derive(Default)]
+struct Options {
+    write: bool,
+    quick: bool,
+    lines: bool,
+    classes: bool,
+    before: Option<String>,
+}
+
+impl Options {
+    fn read(mut arguments: impl Iterator<Item = String>) -> Result<Options, String> {
+        let mut options = Options::default();
+        while let Some(argument) = arguments.next() {
+            match argument.as_str() {
+                "--write" => options.write = true,
+                "--quick" => options.quick = true,
+                "--lines" => options.lines = true,
+                "--classes" => options.classes = true,
+                "--before" => options.before = Some(arguments.next().ok_or("--before needs a program")?),
+                other => return Err(format!("{other} is none of: --write --quick --lines --classes --before")),
+            }
+        }
+        Ok(options)
+    }
+
+    fn effort(&self) -> Effort {
+        match self.quick {
+            true => Effort { time: Duration::from_millis(5), wanted: 3 },
+            false => Effort { time: Duration::from_millis(400), wanted: 100 },
+        }
+    }
+
+    fn earlier(&self) -> HashMap<String, f64> {
+        self.before.as_ref().map(|program| earlier(program, self.quick)).unwrap_or_default()
+    }
+
+    fn report(&self) -> Report {
+        let effort = self.effort();
+        Report {
+            machine: machine(),
+            command: COMMAND.to_string(),
+            rows: rows(effort),
+            growth: growth(effort),
+            classes: classes(effort, &self.earlier()),
+            calls: calls(effort),
+            arrays: arrays(effort),
+            nodes: nodes(effort),
+            refused: refused(effort),
+            buffers: buffers(effort),
+            writing: writing(effort),
+            stack: stack::smallest(),
+        }
+    }
+}
+
 fn main() {
     let arguments: Vec<String> = std::env::args().skip(1).collect();
     if let [mark, kib] = arguments.as_slice() {
@@ -220,39 +294,17 @@ fn main() {
             return stack::child(kib.parse().expect("a number of KiB"));
         }
     }
-    let (mut write, mut quick, mut lines) = (false, false, false);
-    for argument in &arguments {
-        match argument.as_str() {
-            "--write" => write = true,
-            "--quick" => quick = true,
-            "--lines" => lines = true,
-            other => {
-                eprintln!("{other} is none of: --write --quick --lines");
-                std::process::exit(2);
-            }
-        }
+    let options = Options::read(arguments.into_iter()).unwrap_or_else(|what| {
+        eprintln!("{what}");
+        std::process::exit(2);
+    });
+    if options.classes {
+        return print!("{}", report::class_lines(&classes(options.effort(), &HashMap::new())));
     }
-    let effort = match quick {
-        true => Effort { time: Duration::from_millis(5), wanted: 3 },
-        false => Effort { time: Duration::from_millis(400), wanted: 100 },
-    };
-    let report = Report {
-        machine: machine(),
-        command: COMMAND.to_string(),
-        rows: rows(effort),
-        growth: growth(effort),
-        chains: chains(effort),
-        calls: calls(effort),
-        arrays: arrays(effort),
-        nodes: nodes(effort),
-        refused: refused(effort),
-        buffers: buffers(effort),
-        writing: writing(effort),
-        stack: stack::smallest(),
-    };
+    let report = options.report();
     let page = report::page(&report);
-    print!("{}", if lines { report::lines(&report) } else { page.clone() });
-    if write {
+    print!("{}", if options.lines { report::lines(&report) } else { page.clone() });
+    if options.write {
         std::fs::write(format!("{DOCS}/SPEED.md"), &page).expect("docs/SPEED.md is written");
         std::fs::write(format!("{DOCS}/speed.svg"), plot::svg(&panels(&report))).expect("docs/speed.svg is written");
     }

@@ -2,10 +2,9 @@
 
 use crate::inputs::Input;
 use aura_judge::raw;
-use compare::case::Space;
-use compare::yardstick;
+use compare::case::{agrees, Given};
+use compare::yardstick::{self, Sayings};
 use oracle::{answer, question, table};
-use reading::gen;
 use std::hint::black_box;
 use std::time::{Duration, Instant};
 
@@ -163,13 +162,15 @@ pub fn least(parts: &mut [Part], effort: Effort) -> Vec<f64> {
     times
 }
 
-fn tables(inputs: &[Input]) -> Vec<&[u8]> {
-    inputs.iter().map(|input| input.table.as_slice()).collect()
+/// The tables as the library reads them.
+fn handed(inputs: &[Input]) -> Vec<&[u8]> {
+    inputs.iter().map(|input| input.handed.as_slice()).collect()
 }
 
 /// One question and the tables that take turns under it.
 pub struct Case<'a> {
     tables: Vec<&'a [u8]>,
+    handed: Vec<&'a [u8]>,
     asked: &'a [u8],
     filled: Vec<table::Filled>,
     names: Vec<Vec<String>>,
@@ -181,19 +182,19 @@ impl<'a> Case<'a> {
     pub fn new(inputs: &'a [Input]) -> Case<'a> {
         inputs.iter().for_each(same_answer);
         let asked = inputs[0].question.as_slice();
-        let tables = tables(inputs);
+        let tables: Vec<&[u8]> = inputs.iter().map(|input| input.table.as_slice()).collect();
         let filled: Vec<_> = tables.iter().map(|bytes| table::fill(bytes)).collect();
         let names: Vec<_> = filled.iter().map(|filled| filled.names.clone()).collect();
         let built = names.iter().map(|names| question::build(asked, names)).collect();
-        Case { tables, asked, filled, names, built }
+        Case { tables, handed: handed(inputs), asked, filled, names, built }
     }
 
     fn parts(&mut self) -> [Part<'_>; 5] {
-        let Case { tables, asked, filled, names, built } = self;
-        let (tables, asked, count) = (&*tables, *asked, tables.len());
+        let Case { tables, handed, asked, filled, names, built } = self;
+        let (tables, handed, asked, count) = (&*tables, &*handed, *asked, tables.len());
         [
-            judging(tables, &[], BUFFER),
-            judging(tables, asked, BUFFER),
+            judging(handed, &[], BUFFER),
+            judging(handed, asked, BUFFER),
             giving(count, |place| table::fill(black_box(tables[place]))),
             giving(count, |place| question::build(black_box(asked), &names[place])),
             giving(count, |place| answer::run(&mut filled[place], black_box(&built[place]), false)),
@@ -210,10 +211,9 @@ pub fn parts(mut cases: Vec<Case>, effort: Effort) -> Vec<Times> {
 
 /// The judge's own times alone, `check` and `whole`, of tables that take turns under one question. The cases take turns as
 /// well.
-#[cfg(feature = "subclass")]
 pub fn judged(cases: &[Vec<Input>], effort: Effort) -> Vec<(f64, f64)> {
     cases.iter().flatten().for_each(same_answer);
-    let tables: Vec<_> = cases.iter().map(|inputs| tables(inputs)).collect();
+    let tables: Vec<_> = cases.iter().map(|inputs| handed(inputs)).collect();
     let asked = cases.iter().map(|inputs| inputs[0].question.as_slice());
     let parts = tables.iter().zip(asked).flat_map(|(tables, asked)| [&[], asked].map(|q| judging(tables, q, BUFFER)));
     let mut parts: Vec<Part> = parts.collect();
@@ -224,7 +224,7 @@ pub fn judged(cases: &[Vec<Input>], effort: Effort) -> Vec<(f64, f64)> {
 /// which run in turn with it.
 pub fn beside(inputs: &[Input], others: &[Vec<Input>], effort: Effort) -> (Times, Vec<(f64, f64)>) {
     others.iter().flatten().for_each(same_answer);
-    let tables: Vec<_> = others.iter().map(|inputs| tables(inputs)).collect();
+    let tables: Vec<_> = others.iter().map(|inputs| handed(inputs)).collect();
     let mut case = Case::new(inputs);
     let mut parts: Vec<Part> = case.parts().into();
     for (tables, inputs) in tables.iter().zip(others) {
@@ -236,14 +236,16 @@ pub fn beside(inputs: &[Input], others: &[Vec<Input>], effort: Effort) -> (Times
 }
 
 /// Stops where the judge and a yardstick differ on an input, where it is refused, or where the Rust has no answer although it
-/// is a yardstick.
+/// is a yardstick. The yardsticks read tables of today's form, whichever form the library has.
 fn same_answer(input: &Input) {
-    let case = gen::Case { table: input.table.clone(), question: input.question.clone(), buffer: BUFFER };
     let said = format!("{}, {} bytes, {}", input.make.words(), input.table.len(), input.asked);
-    let compared = Space::default().compare(yardstick::ALL, &case, false);
-    let outcome = compared.unwrap_or_else(|what| panic!("{said}: {what}"));
-    let [rust, words] = outcome.speaks[..] else { panic!("{said}: a yardstick is missing") };
-    assert!(outcome.number == 0 && words && (rust || !input.rust), "{said}");
+    let sayings = Sayings::of(yardstick::ALL, &input.table, &input.question);
+    let (mut buffer, mut answer, mut expected) = ([7; BUFFER], [7; raw::ANSWER_SIZE], [7; BUFFER]);
+    let number = raw::judge(&input.handed, &input.question, &mut buffer, &mut answer);
+    let given = Given { number, answer: &answer, buffer: &buffer };
+    agrees(&sayings, &given, &mut expected).unwrap_or_else(|what| panic!("{said}: {what}"));
+    let [rust, words] = [0, 1].map(|place| sayings.speaks(place));
+    assert!(number == 0 && words && (rust || !input.rust), "{said}");
 }
 
 #[cfg(test)]

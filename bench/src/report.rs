@@ -1,12 +1,14 @@
 //! The measured numbers as a page.
 
 use crate::arrays::{Place, CALLS, DEEP, PLACES, TABLES};
+use crate::classes::{self, Family};
 use crate::collide::SAME;
-use crate::inputs::{Input, Make, CHAIN_CALLS, TURN};
+use crate::inputs::{Input, Make, TURN};
 use crate::measure::Times;
 use crate::overloads::Call;
 use crate::writing::{Writing, STARTS};
 use aura_judge::raw::LOAD_LONGEST;
+use std::collections::HashMap;
 use std::fmt::Write;
 
 /// How many characters a line of prose may have.
@@ -38,30 +40,36 @@ pub struct Growth {
 }
 
 impl Growth {
-    /// The factors between a table and one of twice its size.
-    fn factors(&self) -> Vec<f64> {
-        self.steps.windows(2).map(|pair| pair[1].1.whole / pair[0].1.whole).collect()
+    fn times(&self) -> Vec<f64> {
+        self.steps.iter().map(|(_, times)| times.whole).collect()
     }
 }
 
-/// One chain of classes with functions that take its top.
-pub struct ChainRow {
+/// The factors between a time and that of a table of twice the size.
+fn factors(times: &[f64]) -> Vec<f64> {
+    times.windows(2).map(|pair| pair[1] / pair[0]).collect()
+}
+
+/// Classes of one family at one size.
+pub struct ClassRow {
+    pub family: Family,
     pub bytes: usize,
     pub classes: usize,
     pub functions: usize,
     /// As in `Times`; there is no Rust beside them.
     pub check: f64,
     pub whole: f64,
+    /// `whole` of an older build.
+    pub before: Option<f64>,
 }
 
-impl ChainRow {
-    fn judgement(&self) -> f64 {
-        (self.whole - self.check).max(0.0)
+impl ClassRow {
+    pub fn name(&self) -> String {
+        format!("growth: {}, {} bytes", self.family.words(), self.bytes)
     }
 
-    /// Nanoseconds of the judgement for each call, class and function.
-    fn step(&self) -> f64 {
-        self.judgement() / (CHAIN_CALLS * self.classes * self.functions) as f64
+    fn judgement(&self) -> f64 {
+        (self.whole - self.check).max(0.0)
     }
 }
 
@@ -120,8 +128,8 @@ pub struct Report {
     pub command: String,
     pub rows: Vec<Row>,
     pub growth: Vec<Growth>,
-    /// Empty where the library has no such rule.
-    pub chains: Vec<ChainRow>,
+    /// Family by family, by size.
+    pub classes: Vec<ClassRow>,
     pub calls: Vec<CallRow>,
     pub arrays: Vec<ArrayRow>,
     pub nodes: Vec<NodeGrowth>,
@@ -138,10 +146,7 @@ pub struct Report {
 /// says. tools/turns.py reads them. The rows of the test load's writer are left out, since a library from before it has none.
 pub fn lines(report: &Report) -> String {
     let mut out = String::new();
-    let mut line = |name: String, judge: f64, rust: Option<f64>| {
-        let rust = rust.map_or(String::new(), |rust| format!("{rust:.2}"));
-        let _ = writeln!(out, "{name}\t{judge:.2}\t{rust}");
-    };
+    let mut line = |name: String, judge: f64, rust: Option<f64>| out.push_str(&row_line(&name, judge, rust));
     for Row { make, bytes, asked, times } in &report.rows {
         line(format!("{}, {bytes} bytes, {asked}", make.words()), times.whole, Some(times.rust()));
     }
@@ -150,8 +155,8 @@ pub fn lines(report: &Report) -> String {
             line(format!("growth: {}, {bytes} bytes", make.words()), times.whole, Some(times.rust()));
         }
     }
-    for ChainRow { bytes, whole, .. } in &report.chains {
-        line(format!("growth: {}, {bytes} bytes", Make::Chain.words()), *whole, None);
+    for row in &report.classes {
+        line(row.name(), row.whole, None);
     }
     for CallRow { call, bytes, times, .. } in &report.calls {
         let name = format!("judgement: {}, {bytes} bytes, {}", call.list.words(), call.asked());
@@ -175,6 +180,26 @@ pub fn lines(report: &Report) -> String {
     out
 }
 
+fn row_line(name: &str, judge: f64, rust: Option<f64>) -> String {
+    let rust = rust.map_or(String::new(), |rust| format!("{rust:.2}"));
+    format!("{name}\t{judge:.2}\t{rust}\n")
+}
+
+/// The lines of the rows of classes alone.
+pub fn class_lines(rows: &[ClassRow]) -> String {
+    rows.iter().map(|row| row_line(&row.name(), row.whole, None)).collect()
+}
+
+/// The judge's times by the names of the rows, from such lines, or the line that is none.
+pub fn read_lines(text: &str) -> Result<HashMap<String, f64>, String> {
+    let row = |line: &str| {
+        let (name, rest) = line.split_once('\t')?;
+        let (judge, _) = rest.split_once('\t')?;
+        Some((name.to_string(), judge.parse().ok()?))
+    };
+    text.lines().map(|line| row(line).ok_or(line.to_string())).collect()
+}
+
 fn median(mut values: Vec<f64>) -> f64 {
     values.sort_by(f64::total_cmp);
     let middle = values.len() / 2;
@@ -187,6 +212,20 @@ fn median(mut values: Vec<f64>) -> f64 {
 
 fn verdict(out: &mut String, bar: &str, found: String, met: bool) {
     let _ = writeln!(out, "| {bar} | {found} | {} |", if met { "met" } else { "**not met**" });
+}
+
+/// The bar of twice the table.
+fn twice(out: &mut String, words: &str, times: &[f64]) {
+    let factors = factors(times);
+    let worst = factors.iter().copied().fold(0.0, f64::max);
+    let last = factors.last().copied().unwrap_or(0.0);
+    let bar = format!("twice the table, at most 2.3 times the time: {words}");
+    verdict(out, &bar, format!("at most {worst:.2}; {last:.2} for the longest"), worst <= 2.3);
+}
+
+/// The rows of classes, family by family.
+fn families(report: &Report) -> impl Iterator<Item = &[ClassRow]> {
+    report.classes.chunk_by(|a, b| a.family == b.family)
 }
 
 fn bars(report: &Report) -> String {
@@ -210,11 +249,11 @@ fn bars(report: &Report) -> String {
         verdict(&mut out, bar, format!("at most {worst:.2}"), worst <= 0.5);
     }
     for growth in &report.growth {
-        let factors = growth.factors();
-        let worst = factors.iter().copied().fold(0.0, f64::max);
-        let last = factors.last().copied().unwrap_or(0.0);
-        let bar = format!("twice the table, at most 2.3 times the time: {}", growth.make.words());
-        verdict(&mut out, &bar, format!("at most {worst:.2}; {last:.2} for the longest"), worst <= 2.3);
+        twice(&mut out, growth.make.words(), &growth.times());
+    }
+    for rows in families(report).filter(|rows| rows[0].family.has_bar()) {
+        let times: Vec<f64> = rows.iter().map(|row| row.whole).collect();
+        twice(&mut out, rows[0].family.words(), &times);
     }
     if let Some(longest) = report.writing.last() {
         let bar = format!("a load of {} nodes, at most 1.5 times the plainest Rust writer's time", longest.nodes);
@@ -223,32 +262,67 @@ fn bars(report: &Report) -> String {
     out
 }
 
-fn chains(report: &Report) -> String {
-    if report.chains.is_empty() {
-        return "Not measured in this run.\n".to_string();
-    }
+const CLASS_TABLES: &str = "The Rust has no such rule, so that the judge is measured alone. The classes stand in a row, \
+    from a top to a lowest class. One chain: each is the superclass of the next. A tower: the three before a class are its \
+    superclass and its interfaces. The functions are one list, each with one parameter, the top, and the lowest class as its \
+    result. The question has 8 nodes: {CALLS} calls of that list in each other, of which the innermost passes the lowest class, \
+    so that each passes it, and is a tie of all functions where there are two or more. Where there are as many bytes of \
+    functions as of classes with their names, classes × functions is largest. The other rows have no bar:";
+
+const OTHER_CLASSES: [&str; 4] = [
+    "- classes that all have the top as their superclass, with one function: the one step that is asked for is short, and the \
+     sweep is not;",
+    "- classes without parents, with functions that take another class, but for the last, which takes the lowest and is chosen;",
+    "- functions with {MOST} parameters, each the top, and one call with {MOST} arguments, of the lowest class or of the {MOST} \
+     lowest;",
+    "- equality of the lowest class and the top, either way round, in 8 nodes, and no function.",
+];
+
+const CLASS_TIMES: &str = "What is above the classes of a call's arguments is found once a call, by one sweep over the class \
+    records from the last of these classes to the first record of all; each overload then takes a look. Before order 6 each \
+    overload climbed along the superclasses, a lookup a step. The last two columns are such a build's, where it was measured: \
+    `--before` names the benchmark's program linked with its library (`AURA_LIB_DIR=FOLDER cargo build --release --target-dir DIR \
+    --no-default-features --features load,subclass,large-array`), which is handed the same tables in the form of then, 8 bytes a \
+    class in place of 12, and was run ahead of these rows. It knows no interfaces.";
+
+/// The prose of the classes' section.
+fn class_words() -> String {
+    let filled = |text: &str, indent: &str| {
+        let text = text.replace("{CALLS}", &classes::CALLS.to_string()).replace("{MOST}", &classes::MOST.to_string());
+        wrapped(&text, indent)
+    };
+    let list: Vec<String> = OTHER_CLASSES.iter().map(|item| filled(item, "  ")).collect();
+    format!("{}\n\n{}\n\n{}\n", filled(CLASS_TABLES, ""), list.join("\n"), filled(CLASS_TIMES, ""))
+}
+
+/// A cell with how often `half` goes into `whole`.
+fn over_half(whole: Option<f64>, half: Option<f64>) -> String {
+    whole.zip(half).map_or(String::new(), |(whole, half)| format!("{:.2}", whole / half))
+}
+
+fn class_rows(report: &Report) -> String {
     let mut out = String::from(
-        "| Bytes | Classes | Functions | Check | Judgement | Together | Together / that of half the bytes | Judgement / (calls × classes × functions), ns |\n\
-         |--:|--:|--:|--:|--:|--:|--:|--:|\n",
+        "| Table | Bytes | Classes | Functions | Check | Judgement | / that of half the bytes | Together | / that of half the bytes | Before: together | / that of half the bytes |\n\
+         |---|--:|--:|--:|--:|--:|--:|--:|--:|--:|--:|\n",
     );
-    let mut half = None;
-    for row in &report.chains {
-        let ChainRow { bytes, classes, functions, check, whole } = row;
-        let growth = half.map_or(String::new(), |half| format!("{:.2}", whole / half));
-        let (check, judgement, together) = (us(*check), us(row.judgement()), us(*whole));
-        let _ = writeln!(
-            out,
-            "| {bytes} | {classes} | {functions} | {check} | {judgement} | {together} | {growth} | {:.2} |",
-            row.step()
-        );
-        half = Some(whole);
+    for rows in families(report) {
+        let mut half: Option<&ClassRow> = None;
+        out.extend(rows.iter().map(|row| class_row(row, half.replace(row))));
     }
-    out + "
-The judgement's time goes with classes × functions, which the last column divides it by, so that
-twice the table takes about four times the time. It would be linear if the classes above an
-argument's class were found once a call, by one sweep over the class records, and marked: each
-overload would then take one look.
-"
+    out
+}
+
+fn class_row(row: &ClassRow, half: Option<&ClassRow>) -> String {
+    let ClassRow { family, bytes, classes, functions, check, whole, before } = row;
+    let (check, judgement, together) = (us(*check), us(row.judgement()), us(*whole));
+    let judgements = over_half(Some(row.judgement()), half.map(ClassRow::judgement));
+    let wholes = over_half(Some(*whole), half.map(|half| half.whole));
+    let befores = over_half(*before, half.and_then(|half| half.before));
+    let before = before.map_or(String::new(), us);
+    format!(
+        "| {} | {bytes} | {classes} | {functions} | {check} | {judgement} | {judgements} | {together} | {wholes} | {before} | {befores} |\n",
+        family.words()
+    )
 }
 
 fn calls(report: &Report) -> String {
@@ -374,10 +448,11 @@ pub fn page(report: &Report) -> String {
     let stack = match report.stack {
         Some(kib) => format!(
             "The questions of 64 nodes that go deepest (unary, member, named argument, call and method call, 63 in each \
-             other, under full tables; calls whose arguments and parameters are 189 Nullable, 27 Nullable Arrays, or 17 \
-             whose size has eight bytes, over a class) run on a thread with a stack of {kib} KiB, which is the least in \
-             steps of 4 KiB; the thread's own start is in it. The judge uses no heap: the library imports block operations \
-             of the C library alone (`aura-judge/tests/imports.rs`)."
+             other, under full tables; the same around calls, method calls and comparisons whose types are 189 Nullable, 27 \
+             Nullable Arrays, or 17 whose size has eight bytes, over a class that has the other as its superclass or as an \
+             interface, or hasn't) run on a thread with a stack of {kib} KiB, which is the least in steps of 4 KiB; the \
+             thread's own start is in it. The judge uses no heap: the library imports block operations of the C library \
+             alone (`aura-judge/tests/imports.rs`)."
         ),
         None => "Not measured in this run.".to_string(),
     };
@@ -386,9 +461,10 @@ pub fn page(report: &Report) -> String {
 
 The judge beside the Rust's own methods (`oracle/`), both built for release, in one process on the
 same inputs. The program stops where an answer differs from the second reading's (`reading/`), or
-from the Rust's, which has no answer to compare where a class has a superclass, a call more than one
-unnamed argument, or an Array a size of eight bytes (`docs/DIFFERENCES.md`). `docs/history/speed.md`
-has what was tried and what is left, `docs/history/order-3-speed.md` what was tried for names.
+from the Rust's, which has no answer to compare where a class has a superclass or an interface, a
+call more than one unnamed argument, or an Array a size of eight bytes (`docs/DIFFERENCES.md`).
+`docs/history/speed.md` has what was tried and what is left, `docs/history/order-3-speed.md` what
+was tried for names.
 
     {}
 
@@ -414,8 +490,7 @@ at each size as many tables as have {turn},000 bytes together take turns, with t
 other orders, and so do the sizes; a time is that of one table. `docs/DECISIONS.md`, 29, says why,
 and what one table again and again gave.
 
-The tables of the last five bars of that kind have keys chosen against the index
-(`bench/src/collide.rs`):
+The tables of five of these bars have keys chosen against the index (`bench/src/collide.rs`):
 
 - names of one bucket, otherwise random; then names of one bucket that agree in the first {SAME}
   digits by which its tree branches, so that each is searched behind at least {SAME} others where
@@ -427,7 +502,7 @@ The tables of the last five bars of that kind have keys chosen against the index
 - functions of one bucket, half of the bytes being names; the question calls the last function.
 
 `cargo run --release -- --lines`, in `bench/`, prints every measured row, also those of the plot, of
-chains, of calls with several arguments, of Arrays and of refused inputs: its name, and the
+classes, of calls with several arguments, of Arrays and of refused inputs: its name, and the
 nanoseconds of the judge and of the Rust's filling and methods, where it has them (of those calls
 the judgement alone and the Rust's methods; of Arrays as their section says). The rows under
 [Writing](#writing) are not among them.
@@ -444,16 +519,9 @@ with `--no-default-features`, which leaves out what it does not have.
 
 ![Time by table size and by nodes](speed.svg)
 
-## Chains of classes
+## Classes with parents
 
-The classes of these tables are one chain, each the superclass of the next, and the functions are
-one list, each with one parameter, the chain's top. The question has 8 nodes: {CHAIN_CALLS} calls of that list
-in each other, of which the innermost passes the lowest class. Every function gives the lowest class
-again, so that each call climbs the whole chain for every function, and is a tie of them all. Half
-of the bytes are classes with their names and half are functions, which is the worst: the product of
-two shares of the same bytes is largest where the shares are equal. The tables take turns as above.
-The Rust does not have the rule, so that there is no ratio; no bar is set (order 6 sets it).
-
+{}
 {}
 ## Calls with several arguments
 
@@ -495,7 +563,8 @@ do {STARTS} start numbers; a time is that of one question, here in nanoseconds.
         wrapped(&buffers, "  "),
         bars(report),
         rows(report),
-        chains(report),
+        class_words(),
+        class_rows(report),
         calls(report),
         wrapped(&array_inputs(), ""),
         wrapped(ARRAY_TIMES, ""),
@@ -509,7 +578,13 @@ do {STARTS} start numbers; a time is that of one question, here in nanoseconds.
 #[cfg(test)]
 mod tests {
     use super::*;
+    use crate::classes::{Asked, Parents};
     use crate::overloads::CALLS;
+
+    fn class_row_of(asked: Asked, bytes: usize) -> ClassRow {
+        let family = Family { parents: Parents::Chain, asked };
+        ClassRow { family, bytes, classes: 24, functions: 55, check: 0.0, whole: 0.0, before: None }
+    }
 
     fn report() -> Report {
         let times = Times { check: 1234.5, whole: 2345.6, fill: 34567.8, build: 456.7, run: 5678.9 };
@@ -518,9 +593,10 @@ mod tests {
             command: "cargo run".to_string(),
             rows: vec![Row { make: Make::Nothing, bytes: 0, asked: "1 node".to_string(), times }],
             growth: vec![Growth { make: Make::Names, steps: vec![(1875, times), (3750, times)] }],
-            chains: vec![
-                ChainRow { bytes: 1864, classes: 27, functions: 55, check: 2000.0, whole: 22_790.0 },
-                ChainRow { bytes: 3744, classes: 55, functions: 110, check: 4000.0, whole: 91_160.0 },
+            classes: vec![
+                ClassRow { check: 2000.0, whole: 3000.0, ..class_row_of(Asked::List, 1861) },
+                ClassRow { check: 4000.0, whole: 6900.0, before: Some(90_000.0), ..class_row_of(Asked::List, 3744) },
+                ClassRow { check: 1000.0, whole: 1250.0, ..class_row_of(Asked::Equality, 1861) },
             ],
             calls: vec![CallRow {
                 call: CALLS[1],
@@ -569,17 +645,40 @@ mod tests {
         assert!(!bars(&report()).contains("check of names"));
     }
 
-    /// 20.79 µs for 7 calls, 27 classes and 55 functions.
     #[test]
-    fn a_chain_has_its_row_and_no_bar() {
+    fn classes_have_their_rows_and_their_bar() {
         let text = page(&report());
-        assert!(text.contains("| 1864 | 27 | 55 | 2.00 | 20.8 | 22.8 |  | 2.00 |"));
-        assert!(text.contains("| 3744 | 55 | 110 | 4.00 | 87.2 | 91.2 | 4.00 | 2.06 |"));
-        assert!(!bars(&report()).contains("chain"));
-        let rows = "growth: one chain of classes, functions that take its top, 1864 bytes\t22790.00\t\n\
-                    growth: one chain of classes, functions that take its top, 3744 bytes\t91160.00\t\n";
-        assert!(lines(&report()).contains(rows));
-        assert!(!lines(&Report { chains: vec![], ..report() }).contains("chain"));
+        let words = "one chain of classes, functions that take its top";
+        assert!(text.contains(&format!("| {words} | 1861 | 24 | 55 | 2.00 | 1.00 |  | 3.00 |  |  |  |\n")));
+        assert!(text.contains(&format!("| {words} | 3744 | 24 | 55 | 4.00 | 2.90 | 2.90 | 6.90 | 2.30 | 90.0 |  |\n")));
+        let equality =
+            "| one chain of classes, equality of its ends | 1861 | 24 | 55 | 1.00 | 0.25 |  | 1.25 |  |  |  |\n";
+        assert!(text.contains(equality));
+        let bar = format!("| twice the table, at most 2.3 times the time: {words} | at most 2.3");
+        assert!(bars(&report()).contains(&format!("{bar}0; 2.30 for the longest | met |")));
+        assert!(!bars(&report()).contains("equality"));
+        let mut slow = report();
+        slow.classes[1].whole = 6930.0;
+        assert!(bars(&slow).contains(&format!("{bar}1; 2.31 for the longest | **not met** |")));
+    }
+
+    #[test]
+    fn the_time_before_has_its_growth() {
+        let mut both = report();
+        both.classes[0].before = Some(24_000.0);
+        assert!(page(&both).contains("| 3.00 |  | 24.0 |  |\n"));
+        assert!(page(&both).contains("| 6.90 | 2.30 | 90.0 | 3.75 |\n"));
+    }
+
+    #[test]
+    fn lines_of_classes_are_read_as_they_are_written() {
+        let written = class_lines(&report().classes);
+        assert!(lines(&report()).contains(&written));
+        let read = read_lines(&written).expect("lines");
+        assert_eq!(read.len(), 3);
+        assert_eq!(read["growth: one chain of classes, functions that take its top, 3744 bytes"], 6900.0);
+        assert_eq!(read_lines("a\t1.0"), Err("a\t1.0".to_string()));
+        assert_eq!(read_lines(&format!("{written}a\tx\t\n")), Err("a\tx\t".to_string()));
     }
 
     /// 14,108 µs for 20 calls, 3,527 overloads and 2 arguments.

@@ -2,7 +2,7 @@
 
 use aura_judge::raw;
 use compare::load::Asked;
-use reading::bytes::without_superclasses;
+use reading::bytes::{class_places, without_interfaces, without_parents};
 use reading::name::NONE;
 use reading::places::with_sizes;
 use reading::words::table::record_lengths;
@@ -39,13 +39,19 @@ pub enum Fault {
     Load,
     /// No class goes where its superclass is expected.
     Subclass,
+    /// No class goes where one of its interfaces is expected.
+    Interface,
+    /// Of the interfaces of a class the second is forgotten.
+    SecondInterface,
+    /// A superclass or an interface may have a later record.
+    Late,
     /// The last two arguments of a call change their types, where both are leaves of one byte.
     Arguments,
     /// The size of a large Array loses its upper four bytes.
     Sizes,
 }
 
-const NAMES: [(&str, Fault); 16] = [
+const NAMES: [(&str, Fault); 19] = [
     ("number", Fault::Number),
     ("answer", Fault::Answer),
     ("buffer", Fault::Buffer),
@@ -60,6 +66,9 @@ const NAMES: [(&str, Fault); 16] = [
     ("read-before", Fault::ReadBefore),
     ("load", Fault::Load),
     ("subclass", Fault::Subclass),
+    ("interface", Fault::Interface),
+    ("second-interface", Fault::SecondInterface),
+    ("late", Fault::Late),
     ("arguments", Fault::Arguments),
     ("sizes", Fault::Sizes),
 ];
@@ -84,6 +93,9 @@ impl Fault {
     /// The proved judge's answer, made wrong.
     pub fn judge(self, table: &[u8], question: &[u8], buffer: &mut [u8], answer: &mut [u8]) -> u8 {
         let number = raw::judge(table, question, buffer, answer);
+        if let Some((table, question)) = self.instead(number, table, question) {
+            return raw::judge(&table, &question, buffer, answer);
+        }
         let last = buffer.len().wrapping_sub(1);
         match self {
             Fault::None | Fault::Load => {}
@@ -99,26 +111,29 @@ impl Fault {
                     answer[1] ^= 1;
                 }
             }
-            // Superclasses count for nothing else then.
-            Fault::Subclass if number == 0 && only_assignability_climbs(table, question) => {
-                return raw::judge(&without_superclasses(table), question, buffer, answer);
-            }
-            Fault::Subclass => {}
-            Fault::Arguments => {
-                if let ([front @ .., 0, a, 0, b], true) = (question, number == 0) {
-                    return raw::judge(table, &[front, &[0, *b, 0, *a]].concat(), buffer, answer);
-                }
-            }
-            Fault::Sizes if number == 0 => {
-                let (table, question) = with_sizes(table, question, &|size| size.map(|size| size & 0xffff_ffff));
-                return raw::judge(&table, &question, buffer, answer);
-            }
-            Fault::Sizes => {}
             Fault::Leak => std::mem::forget(black_box(vec![number; 64])),
-            // SAFETY: none, and that is what each is for.
+            // SAFETY: none, and that is what each of the others is for.
             _ => unsafe { self.overstep(table, question, buffer) },
         }
         number
+    }
+
+    /// The table and the question that a wrong judge answers in the place of those that it was asked.
+    fn instead(self, number: u8, table: &[u8], question: &[u8]) -> Option<(Vec<u8>, Vec<u8>)> {
+        let under = |table: Vec<u8>| Some((table, question.to_vec()));
+        match (self, number) {
+            // Superclasses count for nothing else then.
+            (Fault::Subclass, 0) if only_assignability_climbs(table, question) => under(without_parents(table)),
+            (Fault::Interface, 0) => under(without_interfaces(table)),
+            (Fault::SecondInterface, 0) => under(without_second_interfaces(table)),
+            (Fault::Late, 6) => under(without_parents(table)),
+            (Fault::Arguments, 0) => match question {
+                [front @ .., 0, a, 0, b] => Some((table.to_vec(), [front, &[0, *b, 0, *a]].concat())),
+                _ => None,
+            },
+            (Fault::Sizes, 0) => Some(with_sizes(table, question, &|size| size.map(|size| size & 0xffff_ffff))),
+            _ => None,
+        }
     }
 
     /// The proved library's load, made wrong.
@@ -155,6 +170,15 @@ impl Fault {
             _ => {}
         }
     }
+}
+
+/// The same table with no second interface in any class record.
+fn without_second_interfaces(table: &[u8]) -> Vec<u8> {
+    let mut bytes = table.to_vec();
+    for class in class_places(table) {
+        bytes[class + 7..class + 9].fill(0xff);
+    }
+    bytes
 }
 
 /// Whether protected access and operator methods have nothing to climb from: the question has no current type, and the

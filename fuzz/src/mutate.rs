@@ -1,6 +1,6 @@
 //! Mutations that keep the table's length right, and mostly its records and the tree whole.
 
-use reading::bytes::{array, array_body, binary, call, leaf, member, method, named_arg, unary, Bytes};
+use reading::bytes::{array, array_body, binary, call, leaf, member, method, named_arg, unary, Bytes, CLASS};
 use reading::gen::damage::damage;
 use reading::gen::model::random_type;
 use reading::gen::sweep::type_list;
@@ -23,6 +23,10 @@ const GROWTH: usize = 256;
 /// Sizes of Arrays at the limits of both kinds.
 const SIZES: [Option<u64>; 8] =
     [None, Some(0), Some(1), Some(u32::MAX as u64), Some(1 << 32), Some((1 << 32) + 1), Some(1 << 63), Some(u64::MAX)];
+
+/// Where a class record has its superclass, its interfaces and its package.
+const PARENTS: [usize; 3] = [3, 5, 7];
+const PACKAGE: usize = 9;
 
 #[no_mangle]
 pub extern "C" fn LLVMFuzzerCustomMutator(data: *mut u8, size: usize, most: usize, seed: u32) -> usize {
@@ -151,7 +155,7 @@ fn replaced(rng: &mut Rng, question: &[u8], part: &[u8]) -> Bytes {
     made
 }
 
-/// Another owner, name, superclass, package, visibility or flag in some record.
+/// Another owner, name, superclass, interface, package, visibility or flag in some record.
 fn change_field(rng: &mut Rng, table: &mut [u8]) {
     let mut at = 0;
     let mut records = Vec::new();
@@ -166,17 +170,22 @@ fn change_field(rng: &mut Rng, table: &mut [u8]) {
     }
     let id = if rng.chance(15) { NONE } else { some_id(rng, table) };
     let place = rng.pick(&records).clone();
-    // A superclass whose record stands earlier is accepted.
+    // A superclass or an interface whose record stands earlier is accepted.
     let above = class_ids(&table[..place.start]);
     let record = &mut table[place];
     match (rng.below(3), record[0]) {
         (1, 2) if !above.is_empty() && rng.chance(80) => {
-            record[3..5].copy_from_slice(&rng.pick(&above).to_le_bytes());
+            let at = *rng.pick(&PARENTS);
+            record[at..at + 2].copy_from_slice(&rng.pick(&above).to_le_bytes());
+        }
+        (1, 2) => {
+            let at = *rng.pick(&PARENTS);
+            record[at..at + 2].copy_from_slice(&id.to_le_bytes());
         }
         (0, _) => record[1..3].copy_from_slice(&id.to_le_bytes()),
         (1, _) => record[3..5].copy_from_slice(&id.to_le_bytes()),
-        (_, 2) if rng.chance(50) => record[5..7].copy_from_slice(&id.to_le_bytes()),
-        (_, 2) => record[7] ^= 1,
+        (_, 2) if rng.chance(50) => record[PACKAGE..PACKAGE + 2].copy_from_slice(&id.to_le_bytes()),
+        (_, 2) => record[CLASS - 1] ^= 1,
         (_, 4) if rng.chance(50) => record[6] ^= 1,
         (_, 4 | 6) => record[5] = rng.below(4) as u8,
         _ => {}

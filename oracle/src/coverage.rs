@@ -41,6 +41,7 @@ impl std::fmt::Display for Item {
 fn outside(why: Outside) -> &'static str {
     match why {
         Outside::Superclass => "a superclass",
+        Outside::Interface => "an interface",
         Outside::Spelling => "a base spells an owner",
         Outside::VarargNotLast => "a vararg that is not last",
         Outside::UnnamedArguments => "two unnamed arguments",
@@ -80,7 +81,7 @@ pub fn required() -> Vec<Item> {
     items
 }
 
-pub const RULINGS: [&str; 38] = [
+pub const RULINGS: [&str; 42] = [
     "an exact match",
     "an accepted match",
     "a type variable accepted",
@@ -119,6 +120,10 @@ pub const RULINGS: [&str; 38] = [
     "a List accepted by a large Array",
     "an operator method of a superclass",
     "protected access from a subclass",
+    "a class accepted through an interface",
+    "a class accepted along two ways",
+    "an operator method of an interface, not taken",
+    "protected access through an interface, not given",
 ];
 
 impl Coverage {
@@ -217,7 +222,7 @@ fn demand_three(judged: &Judged, typing: Option<&Typing>) -> Result<(), String> 
 }
 
 /// How many cases of the mixed profiles CI runs, beside every sweep whole.
-pub const CI_MIXED: u64 = 130_000;
+pub const CI_MIXED: u64 = 150_000;
 pub const CI_SEED: u64 = 1;
 
 /// The run that CI does.

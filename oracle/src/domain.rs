@@ -3,7 +3,7 @@
 
 use crate::answer::Run;
 use crate::rust::{Checker, Expr, ParamSym, Symbol, SymbolKind, Ty};
-use crate::table::{has_superclass, owners};
+use crate::table::{has_interface, has_superclass, owners};
 use reading::places::{in_question, in_table, parts};
 use reading::words::types::LARGE_ARRAY;
 use std::collections::HashMap;
@@ -13,6 +13,8 @@ use std::collections::HashMap;
 pub enum Outside {
     /// Document 02, order 2: "Runs beside the Rust use tables without superclasses."
     Superclass,
+    /// Document 02, order 6: "Runs beside the Rust use only 65,535 there", in the two interface ids of each class record.
+    Interface,
     /// Document 01: "Questions where a base that isn't Named has a `name()` spelling an owner of the table are outside the
     /// compared domain."
     Spelling,
@@ -29,8 +31,9 @@ pub enum Outside {
 }
 
 impl Outside {
-    pub const ALL: [Outside; 6] = [
+    pub const ALL: [Outside; 7] = [
         Outside::Superclass,
+        Outside::Interface,
         Outside::Spelling,
         Outside::VarargNotLast,
         Outside::UnnamedArguments,
@@ -46,6 +49,8 @@ pub fn outside_before(table: &[u8], question: &[u8]) -> Option<Outside> {
     let in_question = || in_question(question).into_iter().any(|place| large(&question[place]));
     if has_superclass(table) {
         Some(Outside::Superclass)
+    } else if has_interface(table) {
+        Some(Outside::Interface)
     } else if in_table() || in_question() {
         Some(Outside::LargeArray)
     } else {

@@ -19,7 +19,7 @@ pub const SEED: u64 = 2026;
 
 /// Per profile: how many cases, the longest input taken, and the step through the indices (a sweep
 /// is too long to be stored whole).
-const GENERATED: [(Profile, usize, usize, u64); 23] = [
+const GENERATED: [(Profile, usize, usize, u64); 24] = [
     (Profile::Rich, 180, 520, 1),
     (Profile::Calls, 350, 440, 1),
     (Profile::Wide, 300, 400, 1),
@@ -43,6 +43,7 @@ const GENERATED: [(Profile, usize, usize, u64); 23] = [
     (Profile::OwnParameters, 160, 900, 1_327),
     (Profile::Arrays, 200, 420, 1),
     (Profile::ArraySizes, 200, 900, 577),
+    (Profile::Interfaces, 200, 900, 577),
 ];
 
 /// The cases in order: the named examples, then the generated ones.

@@ -42,8 +42,9 @@ fn fill_record(r: &[u8], checker: &mut Checker, names: &mut Vec<String>) -> usiz
     };
     match r[0] {
         2 => {
-            checker.add_class(name(1), optional(3), optional(5), r[7] == 1);
-            8
+            // The Rust has no interfaces here: a table with one is outside its domain.
+            checker.add_class(name(1), optional(3), optional(9), r[11] == 1);
+            12
         }
         3 => {
             let mask = word(r, 3);
@@ -89,16 +90,27 @@ fn fill_record(r: &[u8], checker: &mut Checker, names: &mut Vec<String>) -> usiz
     }
 }
 
-/// Whether some class of an accepted table has a superclass.
-pub fn has_superclass(table: &[u8]) -> bool {
+/// The superclass and the two interfaces of each class of an accepted table.
+fn parents(table: &[u8]) -> Vec<[u16; 3]> {
+    let mut all = Vec::new();
     let mut rest = table;
     while let [kind @ (1 | 2), ..] = rest {
-        if *kind == 2 && word(rest, 3) != NONE {
-            return true;
+        if *kind == 2 {
+            all.push([3, 5, 7].map(|at| word(rest, at)));
         }
-        rest = &rest[if *kind == 1 { 26 } else { 8 }..];
+        rest = &rest[if *kind == 1 { 26 } else { 12 }..];
     }
-    false
+    all
+}
+
+/// Whether some class of an accepted table has a superclass.
+pub fn has_superclass(table: &[u8]) -> bool {
+    parents(table).iter().any(|parents| parents[0] != NONE)
+}
+
+/// Whether some class of an accepted table has an interface.
+pub fn has_interface(table: &[u8]) -> bool {
+    parents(table).iter().any(|parents| parents[1..] != [NONE, NONE])
 }
 
 /// The owners that an accepted table's records of kinds 4 to 8 name, spelled.

@@ -140,12 +140,16 @@ fn each_kind_of_owner_counts_for_the_domain() {
     assert_eq!(printed(&table.bytes(), &ask), "0 0 1 00 1\n20 0 3\n");
 }
 
-/// A table whose class 40 has this superclass; 41 has a record before it.
-fn with_superclass(superclass: u16, in_types: bool) -> Table {
+/// A table whose class 40 has these parents; 41 has a record before it.
+fn with_parents(parents: [u16; 3], in_types: bool) -> Table {
     let mut table = Table::with_names(&["Scan", "Page", "f"]);
     table.class(41, NONE, NONE, in_types);
-    table.class(40, superclass, NONE, in_types);
+    table.class_below(40, parents, NONE, in_types);
     table
+}
+
+fn with_superclass(superclass: u16, in_types: bool) -> Table {
+    with_parents([superclass, NONE, NONE], in_types)
 }
 
 #[test]
@@ -169,6 +173,30 @@ fn the_compared_domain_leaves_out_tables_with_a_superclass() {
     assert!(in_domain(&table.bytes(), &ask));
     // A class behind all others, and the last record of the table.
     table.class(0, 42, NONE, false);
+    assert!(!in_domain(&table.bytes(), &ask));
+}
+
+/// Document 02, order 6: "Runs beside the Rust use only 65,535 there."
+#[test]
+fn the_compared_domain_leaves_out_tables_with_an_interface() {
+    let ask = question(&leaf(&[INT]));
+    for in_types in [false, true] {
+        // With a record, without one, and a built-in name, in one place and in both.
+        for parents in [[NONE, 41, NONE], [NONE, NONE, 41], [NONE, 42, NONE], [NONE, NONE, 0], [NONE, 41, 41]] {
+            let table = with_parents(parents, in_types).bytes();
+            assert!(!in_domain(&table, &ask));
+            assert_eq!(Run::inside(&table, &ask).err(), Some(Outside::Interface));
+        }
+        let both = with_parents([41, 42, NONE], in_types).bytes();
+        assert_eq!(Run::inside(&both, &ask).err(), Some(Outside::Superclass));
+    }
+    // A refused table is inside: an undefined interface, and a late one.
+    for interface in [43, 40] {
+        assert!(in_domain(&with_parents([NONE, interface, NONE], true).bytes(), &ask));
+    }
+    // A class behind all others, and the last record of the table.
+    let mut table = with_superclass(NONE, true);
+    table.class_below(0, [NONE, NONE, 42], NONE, false);
     assert!(!in_domain(&table.bytes(), &ask));
 }
 

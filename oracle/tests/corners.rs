@@ -1,4 +1,4 @@
-//! Every sentence of document 01's "Corners in ..", and of document 02's orders 2 to 5, as a test that fails if the
+//! Every sentence of document 01's "Corners in ..", and of document 02's orders 2 to 6, as a test that fails if the
 //! sentence is false. Tests made by `sentences!` run the named examples of that sentence, whose answers were written by
 //! hand, through the Rust inside its domain and through the second reading elsewhere.
 
@@ -145,6 +145,26 @@ sentences! {
     comparisons_of_large_arrays
     other_operators_on_large_arrays
     unary_operators_on_large_arrays
+    assignability_reaches_through_superclass_and_interfaces_alike
+    a_class_is_reached_by_any_mix_of_superclass_and_interface_steps
+    a_class_that_is_reached_along_two_ways
+    a_tower_of_three_parents_each
+    every_class_record_leads_on_in_types_or_not
+    an_interface_without_a_record_is_reached_and_the_way_ends_there
+    the_same_interface_twice_and_a_superclass_as_an_interface_are_taken
+    an_interface_with_a_record_needs_it_earlier_else_number_6
+    undefined_interfaces_get_4
+    the_lowest_number_of_a_class_with_interfaces
+    package_and_flag_stand_behind_the_interfaces
+    a_class_record_has_12_bytes
+    through_interfaces_at_every_depth_where_assignability_compares_types
+    what_is_compared_whole_asks_no_interface
+    the_list_names_rules_are_not_asked_for_a_class_reached_through_an_interface
+    a_class_reached_through_an_interface_scores_1
+    comparisons_reach_through_interfaces_in_both_directions
+    protected_access_climbs_superclasses_only
+    operator_methods_climb_superclasses_only
+    a_page_class_that_is_printable_too
     limits_of_tables
     lengths_and_letters_of_names
     every_built_in_name_is_a_key
@@ -177,8 +197,8 @@ fn every_sentence_with_an_example_is_listed() {
     assert_eq!(used, listed);
 }
 
-/// Sentences of which no example is inside the Rust's domain: their examples need a superclass, two unnamed arguments, a
-/// vararg that is not last, a named argument where nothing matches, or a kind 22.
+/// Sentences of which no example is inside the Rust's domain: their examples need a superclass, an interface, two unnamed
+/// arguments, a vararg that is not last, a named argument where nothing matches, or a kind 22.
 const BY_THE_WORDS_ALONE: &[&str] = &[
     "named_a_assigns_to_named_b_if_b_is_met_climbing_from_a",
     "the_climb_stops_at_a_class_without_an_operator_set",
@@ -211,6 +231,20 @@ const BY_THE_WORDS_ALONE: &[&str] = &[
     "comparisons_of_large_arrays",
     "other_operators_on_large_arrays",
     "unary_operators_on_large_arrays",
+    "a_class_is_reached_by_any_mix_of_superclass_and_interface_steps",
+    "a_class_that_is_reached_along_two_ways",
+    "a_tower_of_three_parents_each",
+    "every_class_record_leads_on_in_types_or_not",
+    "an_interface_without_a_record_is_reached_and_the_way_ends_there",
+    "the_same_interface_twice_and_a_superclass_as_an_interface_are_taken",
+    "through_interfaces_at_every_depth_where_assignability_compares_types",
+    "what_is_compared_whole_asks_no_interface",
+    "the_list_names_rules_are_not_asked_for_a_class_reached_through_an_interface",
+    "a_class_reached_through_an_interface_scores_1",
+    "comparisons_reach_through_interfaces_in_both_directions",
+    "protected_access_climbs_superclasses_only",
+    "operator_methods_climb_superclasses_only",
+    "a_page_class_that_is_printable_too",
 ];
 
 #[test]

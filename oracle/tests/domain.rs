@@ -1,7 +1,7 @@
 //! Document 02, order 4: the domain as the second reading decides it, beside `oracle::domain`, which asks the Rust.
 
 use oracle::answer::{Outside, Run};
-use oracle::table::has_superclass;
+use oracle::table::{has_interface, has_superclass};
 use reading::gen::{self, Profile};
 use reading::words::calls::{fits, score, usable, Argument};
 use reading::words::question::{read, Shape, Tree};
@@ -50,7 +50,7 @@ fn call(symbols: &Symbols, tree: &Tree, types: &HashMap<usize, Vec<u8>>) -> Opti
     }
 }
 
-/// Why an accepted case without superclasses is outside by a call.
+/// Why an accepted case without superclasses and interfaces is outside by a call.
 fn by_the_words(table: &[u8], question: &[u8]) -> Option<Outside> {
     let (judged, _) = judge(table, question).expect("an accepted case");
     let (symbols, question) = (Symbols::of(table), read(question));
@@ -66,11 +66,11 @@ fn the_second_reading_decides_the_domain_as_the_rust_does() {
     for profile in [Profile::Calls, Profile::Wide, Profile::Typed, Profile::Arguments] {
         for index in 0..6_000 {
             let case = gen::case(profile, 7, index);
-            let (table, question) = (reading::bytes::without_superclasses(&case.table), &case.question);
+            let (table, question) = (reading::bytes::without_parents(&case.table), &case.question);
             if refusal(&table, question) != 0 {
                 continue;
             }
-            assert!(!has_superclass(&table));
+            assert!(!has_superclass(&table) && !has_interface(&table));
             let rust = Run::inside(&table, question).err();
             if rust == Some(Outside::Spelling) {
                 continue;

@@ -105,7 +105,7 @@ fn a_superclass_is_asked_for_first() {
     table.class(0, 1, NONE, true);
     table.field(0, 1, &array(Some(LEAST), &[INT]));
     assert_eq!(outside_before(&table.bytes(), &question(&leaf(&[INT]))), Some(Outside::Superclass));
-    let flat = without_superclasses(&table.bytes());
+    let flat = without_parents(&table.bytes());
     assert_eq!(outside_before(&flat, &question(&leaf(&[INT]))), Some(Outside::LargeArray));
 }
 
@@ -133,7 +133,7 @@ fn generated_cases_are_outside_only_where_a_22_stands() {
     for profile in [Profile::Rich, Profile::Boundary, Profile::Damaged, Profile::Typed, Profile::Arrays] {
         for index in 0..4_000 {
             let case = gen::case(profile, 11, index);
-            let (table, question) = (without_superclasses(&case.table), &case.question);
+            let (table, question) = (without_parents(&case.table), &case.question);
             if refusal(&table, question) != 0 {
                 continue;
             }

@@ -135,6 +135,13 @@ pub const NOT_NULL: u8 = 6;
 pub const DEFAULT: u8 = 1;
 pub const VARARG: u8 = 2;
 
+/// A class record whose flag may be malformed: name, superclass and interfaces, package, flag.
+pub fn class_record(name: u16, parents: [u16; 3], package: u16, flag: u8) -> Bytes {
+    let [superclass, first, second] = parents;
+    let ids = [name, superclass, first, second, package].map(u16::to_le_bytes);
+    with(2, &[ids.as_flattened(), &[flag]])
+}
+
 /// A parameter: name, flag, type.
 pub type Param = (u16, u8, Bytes);
 
@@ -170,8 +177,14 @@ impl Table {
         (BUILT_IN.len() + self.records[0].len() - 1) as u16
     }
 
+    /// A class without interfaces.
     pub fn class(&mut self, name: u16, superclass: u16, package: u16, in_types: bool) {
-        self.push(2, &[&name.to_le_bytes(), &superclass.to_le_bytes(), &package.to_le_bytes(), &[in_types as u8]]);
+        self.class_below(name, [superclass, NONE, NONE], package, in_types);
+    }
+
+    /// A class with its superclass and its two interfaces.
+    pub fn class_below(&mut self, name: u16, parents: [u16; 3], package: u16, in_types: bool) {
+        self.records[1].push(class_record(name, parents, package, in_types as u8));
     }
 
     pub fn operators(&mut self, class: u16, mask: u16) {
@@ -228,19 +241,67 @@ impl Table {
     }
 }
 
-/// The same table with no superclass in any class record. Bytes behind the first that is neither a name nor a whole class
-/// stay as they are.
-pub fn without_superclasses(table: &[u8]) -> Bytes {
-    let mut bytes = table.to_vec();
-    let mut rest = &mut bytes[..];
+/// The bytes of a name, and of a class.
+pub const NAME: usize = 26;
+pub const CLASS: usize = 12;
+
+/// Where the class records of a table begin, up to the first byte that begins neither a name nor a whole class.
+pub fn class_places(table: &[u8]) -> Vec<usize> {
+    let mut places = Vec::new();
+    let mut at = 0;
     loop {
-        rest = match rest {
-            [1, ..] if rest.len() >= 26 => &mut rest[26..],
-            [2, ..] if rest.len() >= 8 => {
-                rest[3..5].copy_from_slice(&NONE.to_le_bytes());
-                &mut rest[8..]
+        at += match &table[at..] {
+            [1, ..] if table.len() >= at + NAME => NAME,
+            [2, ..] if table.len() >= at + CLASS => {
+                places.push(at);
+                CLASS
             }
-            _ => return bytes,
+            _ => return places,
         }
     }
+}
+
+/// A class record's fields of two bytes: name, superclass, first and second interface, package.
+fn class_field(table: &[u8], class: usize, field: usize) -> u16 {
+    let at = class + 1 + 2 * field;
+    u16::from_le_bytes([table[at], table[at + 1]])
+}
+
+/// The superclass and the two interfaces of the class record at a place.
+pub fn parents(table: &[u8], class: usize) -> [u16; 3] {
+    [1, 2, 3].map(|field| class_field(table, class, field))
+}
+
+/// The same table with no superclass and no interface in any class record.
+pub fn without_parents(table: &[u8]) -> Bytes {
+    let mut bytes = table.to_vec();
+    for class in class_places(table) {
+        bytes[class + 3..class + 9].fill(0xff);
+    }
+    bytes
+}
+
+/// The same table with no interface in any class record.
+pub fn without_interfaces(table: &[u8]) -> Bytes {
+    let mut bytes = table.to_vec();
+    for class in class_places(table) {
+        bytes[class + 5..class + 9].fill(0xff);
+    }
+    bytes
+}
+
+/// The same table with class records of 8 bytes, as they were before document 02's order 6; none where a class has an
+/// interface.
+pub fn older(table: &[u8]) -> Option<Bytes> {
+    let mut bytes = Vec::new();
+    let mut at = 0;
+    for class in class_places(table) {
+        if parents(table, class)[1..] != [NONE, NONE] {
+            return None;
+        }
+        bytes.extend_from_slice(&table[at..class + 5]);
+        at = class + 9;
+    }
+    bytes.extend_from_slice(&table[at..]);
+    Some(bytes)
 }

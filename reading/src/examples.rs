@@ -2,6 +2,7 @@
 //! the answer that the documents have for it, written by hand. The stored sample begins with them.
 
 mod array_sizes;
+mod interfaces;
 mod name_counts;
 mod own_parameters;
 mod question_edges;
@@ -56,7 +57,7 @@ impl List {
     /// A case whose answer does not depend on superclasses, under its table and under the same without any.
     fn twice(&mut self, name: &str, table: &Table, question: Bytes, expected: &str) {
         self.ask(name, table, question.clone(), expected);
-        let flat = without_superclasses(&table.bytes());
+        let flat = without_parents(&table.bytes());
         self.raw(&format!("{}-without-superclasses", name), flat, question, expected);
     }
 
@@ -131,6 +132,7 @@ pub fn all() -> Vec<Example> {
     name_counts::add(&mut list);
     own_parameters::add(&mut list);
     array_sizes::add(&mut list);
+    interfaces::add(&mut list);
     table_edges::add(&mut list);
     question_edges::add(&mut list);
     list.all
@@ -802,7 +804,7 @@ fn table_refusals(list: &mut List) {
     let mut cut = name("a");
     cut.pop();
     put("table.2-a-cut-name", cut, 2);
-    let class = |flag: u8| vec![2, 0, 0, 255, 255, 255, 255, flag];
+    let class = |flag: u8| class_record(0, [NONE; 3], NONE, flag);
     put("table.a-class-in-types", class(1), 0);
     put("table.2-class-flag-2", class(2), 2);
     put("table.2-operator-mask-bit-11", vec![3, 0, 0, 0, 8], 2);
@@ -820,11 +822,11 @@ fn table_refusals(list: &mut List) {
     put("table.2-a-cut-type", vec![5, 0, 0, 0, 0, 12], 2);
     put("table.2-member-visibility-4", vec![6, 0, 0, 0, 0, 4], 2);
     put("table.3-kind-falls", joined(&[&[3, 0, 0, 1, 0], &class(1)]), 3);
-    put("table.3-before-4", joined(&[&[3, 0, 0, 1, 0], &[2, 99, 0, 255, 255, 255, 255, 1]]), 3);
+    put("table.3-before-4", joined(&[&[3, 0, 0, 1, 0], &class_record(99, [NONE; 3], NONE, 1)]), 3);
     put("table.2-before-3", joined(&[&[3, 0, 0, 1, 0], &class(2)]), 2);
-    put("table.4-undefined-class", vec![2, 40, 0, 255, 255, 255, 255, 0], 4);
-    put("table.4-undefined-superclass", vec![2, 0, 0, 40, 0, 255, 255, 0], 4);
-    put("table.4-undefined-package", vec![2, 0, 0, 255, 255, 40, 0, 0], 4);
+    put("table.4-undefined-class", class_record(40, [NONE; 3], NONE, 0), 4);
+    put("table.4-undefined-superclass", class_record(0, [40, NONE, NONE], NONE, 0), 4);
+    put("table.4-undefined-package", class_record(0, [NONE; 3], 40, 0), 4);
     put("table.4-no-owner-of-a-field", vec![5, 255, 255, 0, 0, 0], 4);
     put("table.4-no-owner-of-a-visibility", vec![6, 255, 255, 0, 0, 0], 4);
     put("table.4-no-owner-of-a-variant", vec![8, 255, 255, 0, 0], 4);
@@ -845,24 +847,21 @@ fn table_refusals(list: &mut List) {
     put("table.one-key-in-several-kinds", vec![5, 0, 0, 0, 0, 0, 6, 0, 0, 0, 0, 0, 7, 0, 0, 0, 0, 8, 0, 0, 0, 0], 0);
     put("table.5-a-parameter-name-twice", vec![4, 0, 0, 0, 0, 0, 0, 2, 0, 1, 0, 0, 0, 1, 0, 0, 0], 5);
     put("table.a-function-twice", vec![4, 0, 0, 0, 0, 0, 0, 0, 0, 4, 0, 0, 0, 0, 0, 0, 0, 0], 0);
-    let with_super = |class: u8, superclass: u8| vec![2, class, 0, superclass, 0, 255, 255, 0];
+    let with_super = |class: u16, superclass: u16| class_record(class, [superclass, NONE, NONE], NONE, 0);
+    let second = class_record(2, [NONE; 3], NONE, 0);
     put("table.6-its-own-superclass", with_super(1, 1), 6);
-    put("table.6-a-later-superclass", joined(&[&with_super(1, 2), &[2, 2, 0, 255, 255, 255, 255, 0]]), 6);
-    put("table.an-earlier-superclass", joined(&[&[2, 2, 0, 255, 255, 255, 255, 0], &with_super(1, 2)]), 0);
-    put(
-        "table.5-a-superclass-that-stands-earlier-and-again-later",
-        joined(&[&[2, 2, 0, 255, 255, 255, 255, 0], &with_super(1, 2), &[2, 2, 0, 255, 255, 255, 255, 0]]),
-        5,
-    );
+    put("table.6-a-later-superclass", joined(&[&with_super(1, 2), &second]), 6);
+    put("table.an-earlier-superclass", joined(&[&second, &with_super(1, 2)]), 0);
+    put("table.5-a-superclass-that-stands-earlier-and-again-later", joined(&[&second, &with_super(1, 2), &second]), 5);
     put("table.a-superclass-without-a-record", with_super(1, 2), 0);
     put(
         "table.a-superclass-behind-a-malformed-record-is-not-told-apart",
-        joined(&[&with_super(1, 2), &class(2), &[2, 2, 0, 255, 255, 255, 255, 0]]),
+        joined(&[&with_super(1, 2), &class(2), &second]),
         2,
     );
     put(
         "table.6-a-superclass-behind-a-record-with-an-undefined-id",
-        joined(&[&with_super(1, 2), &with_super(3, 77), &[2, 2, 0, 255, 255, 255, 255, 0]]),
+        joined(&[&with_super(1, 2), &with_super(3, 77), &second]),
         6,
     );
     put("table.7-error-in-a-type", vec![5, 0, 0, 0, 0, 15, 21], 7);
@@ -981,7 +980,7 @@ fn orders_of_refusal(list: &mut List) {
     list.raw("order.a-faulty-table-beside-an-over-long-question", vec![0], long, "2 0 0 - 0");
     list.raw("order.a-long-table-beside-no-question", vec![0; 60_001], vec![], "1 0 0 - 0");
     list.of("the_first_faulty_record");
-    let first = [&[2, 40, 0, 255, 255, 255, 255, 0][..], &[0]].concat();
+    let first = [class_record(40, [NONE; 3], NONE, 0), vec![0]].concat();
     list.raw("order.4-in-a-record-before-2-in-a-later-one", first, question(&leaf(&[INT])), "4 0 0 - 0");
     list.of("the_longest_types");
     let mut table = base();

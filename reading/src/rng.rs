@@ -14,6 +14,11 @@ impl Rng {
         rng
     }
 
+    /// A stream of its own, which leaves this one as it is.
+    pub fn aside(&self) -> Rng {
+        Rng::new(self.state, 1, 0)
+    }
+
     pub fn next(&mut self) -> u64 {
         self.state = self.state.wrapping_add(0x9e37_79b9_7f4a_7c15);
         let mut z = self.state;

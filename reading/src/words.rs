@@ -27,34 +27,44 @@ pub mod written;
 use crate::answer::{print_answer, Answer, Said, BUFFER};
 use clean::Typing;
 use judgement::Judged;
-use question::Question;
 use symbols::Symbols;
+use table::ClassForm;
 
 /// The number from the table and the question alone: 0 to 11. "Table first".
 pub fn refusal(table: &[u8], question: &[u8]) -> u8 {
-    match table::check(table) {
-        Ok(names) => question::number_under(question, names),
-        Err(number) => number,
-    }
+    refusal_of(table, question, ClassForm::Now)
 }
 
-/// What is read of an accepted table and a question accepted under it, or the number that refuses one of them.
-fn read<'a>(table: &'a [u8], question: &'a [u8]) -> Result<(Symbols<'a>, Question<'a>), u8> {
-    match refusal(table, question) {
-        0 => Ok((Symbols::of(table), question::read(question))),
-        number => Err(number),
+/// The same of a table with class records of this form.
+fn refusal_of(table: &[u8], question: &[u8], form: ClassForm) -> u8 {
+    match table::check_of(table, form) {
+        Ok(names) => question::number_under(question, names),
+        Err(fault) => fault.number,
     }
 }
 
 /// The judgement of a question under a table, and its typing where there is one; or the number of a refusal.
 pub fn judge(table: &[u8], question: &[u8]) -> Result<(Judged, Option<Typing>), u8> {
-    let (symbols, question) = read(table, question)?;
+    judge_of(table, question, ClassForm::Now)
+}
+
+fn judge_of(table: &[u8], question: &[u8], form: ClassForm) -> Result<(Judged, Option<Typing>), u8> {
+    match refusal_of(table, question, form) {
+        0 => {}
+        number => return Err(number),
+    }
+    let (symbols, question) = (Symbols::of_form(table, form), question::read(question));
     Ok((judgement::of(&symbols, &question), clean::typing(&symbols, &question)))
 }
 
 /// What the words say; the pass mark is "1 exactly when a typing exists".
 pub fn said(table: &[u8], question: &[u8]) -> Said {
-    match judge(table, question) {
+    said_of(table, question, ClassForm::Now)
+}
+
+/// What they say of a table with class records of this form.
+pub fn said_of(table: &[u8], question: &[u8], form: ClassForm) -> Said {
+    match judge_of(table, question, form) {
         Err(number) => Said::Refused(number),
         Ok((judged, typing)) => Said::Judged { ty: judged.ty, passed: typing.is_some(), diagnostics: judged.reports },
     }

@@ -1,9 +1,10 @@
-//! Document 02, order 2, over many tables of classes: who is met is found here without any climb. With order 5's Arrays of
-//! both kinds.
+//! Document 02, orders 2 and 6, over many tables of classes: who is reached is found here without any search. With order 5's
+//! Arrays of both kinds.
 
 use reading::bytes::*;
 use reading::name::NONE;
 use reading::rng::Rng;
+use reading::words::access::is_subclass;
 use reading::words::assign::can_assign_to;
 use reading::words::symbols::Symbols;
 use reading::words::table::table_number;
@@ -19,8 +20,8 @@ fn class(place: usize) -> u16 {
     }
 }
 
-/// A table of classes, and per place the place of its superclass. Some have no record, some no superclass.
-fn family(rng: &mut Rng) -> (Bytes, Vec<Option<usize>>) {
+/// A table of classes, and per place the places of its superclass and interfaces. Some have no record, some no parent.
+fn family(rng: &mut Rng) -> (Bytes, Vec<[Option<usize>; 3]>) {
     let mut table = Table::new();
     for place in 6..CLASSES {
         table.name(&format!("C{}", place));
@@ -31,37 +32,42 @@ fn family(rng: &mut Rng) -> (Bytes, Vec<Option<usize>>) {
     }
     let recorded = rng.below(CLASSES + 1);
     let near = rng.chance(50);
-    let mut superclasses = vec![None; CLASSES];
+    let interfaces = *rng.pick(&[0, 10, 60]);
+    let mut parents = vec![[None; 3]; CLASSES];
     for i in 0..recorded {
         // An earlier record, a name without one, or none.
-        let above = match rng.below(8) {
+        let mut one = |chance: usize| match rng.below(8) {
+            _ if !rng.chance(chance) => None,
             0 => None,
             1 if recorded < CLASSES => Some(places[recorded + rng.below(CLASSES - recorded)]),
             _ if i == 0 => None,
             _ => Some(places[if near { i - 1 } else { rng.below(i) }]),
         };
-        superclasses[places[i]] = above;
-        table.class(class(places[i]), above.map_or(NONE, class), NONE, rng.chance(50));
+        let three = [100, interfaces, interfaces].map(&mut one);
+        parents[places[i]] = three;
+        let ids = three.map(|parent| parent.map_or(NONE, class));
+        table.class_below(class(places[i]), ids, NONE, rng.chance(50));
     }
-    (table.bytes(), superclasses)
+    (table.bytes(), parents)
 }
 
-/// Per pair of places whether the second is met from the first: the least relation that has every superclass and is closed.
-fn met(superclasses: &[Option<usize>]) -> Vec<Vec<bool>> {
-    let mut met = vec![vec![false; CLASSES]; CLASSES];
-    for (a, above) in superclasses.iter().enumerate() {
-        if let Some(b) = above {
-            met[a][*b] = true;
-        }
-    }
+/// Per pair of places whether the second is reached from the first: the least relation that has every parent and is closed.
+fn reached(parents: &[[Option<usize>; 3]]) -> Vec<Vec<bool>> {
+    let mut reached: Vec<Vec<bool>> =
+        parents.iter().map(|own| (0..CLASSES).map(|place| own.contains(&Some(place))).collect()).collect();
     for through in 0..CLASSES {
         for a in 0..CLASSES {
             for b in 0..CLASSES {
-                met[a][b] |= met[a][through] && met[through][b];
+                reached[a][b] |= reached[a][through] && reached[through][b];
             }
         }
     }
-    met
+    reached
+}
+
+/// The same by superclasses alone.
+fn climbed(parents: &[[Option<usize>; 3]]) -> Vec<Vec<bool>> {
+    reached(&parents.iter().map(|own| [own[0], None, None]).collect::<Vec<_>>())
 }
 
 type Wrap = fn(&[u8]) -> Bytes;
@@ -98,13 +104,13 @@ const WHOLE: [Wrap; 7] = [
 ];
 
 #[test]
-fn a_class_assigns_to_itself_and_to_the_classes_that_are_met() {
-    let (mut yes, mut no, mut steps) = (0, 0, 0);
+fn a_class_assigns_to_itself_and_to_the_classes_that_are_reached() {
+    let (mut yes, mut no, mut steps, mut by_interface) = (0, 0, 0, 0);
     for index in 0..200 {
-        let (table, superclasses) = family(&mut Rng::new(1, 0, index));
+        let (table, parents) = family(&mut Rng::new(1, 0, index));
         assert_eq!(table_number(&table), 0);
         let symbols = Symbols::of(&table);
-        let met = met(&superclasses);
+        let (met, climbed) = (reached(&parents), climbed(&parents));
         for a in 0..CLASSES {
             for b in 0..CLASSES {
                 let (from, to) = (named(class(a)), named(class(b)));
@@ -118,11 +124,17 @@ fn a_class_assigns_to_itself_and_to_the_classes_that_are_met() {
                 }
                 yes += (met[a][b]) as usize;
                 no += (!goes) as usize;
-                steps += (met[a][b] && superclasses[a] != Some(b)) as usize;
+                by_interface += (met[a][b] && !climbed[a][b]) as usize;
+                assert_eq!(is_subclass(&symbols, class(a), class(b)), climbed[a][b]);
+                steps += (met[a][b] && !parents[a].contains(&Some(b))) as usize;
             }
         }
     }
-    assert!(yes > 4_000 && no > 50_000 && steps > 2_000, "{} {} {}", yes, no, steps);
+    println!(
+        "assign: {} reached, {} of them by more than a step, {} by an interface; {} not",
+        yes, steps, by_interface, no
+    );
+    assert!(yes > 6_000 && no > 50_000 && steps > 3_000 && by_interface > 1_500);
 }
 
 /// A class below a list name takes part in no rule of the list names.
@@ -130,9 +142,9 @@ fn a_class_assigns_to_itself_and_to_the_classes_that_are_met() {
 fn a_list_and_an_array_go_to_and_from_the_list_names_alone() {
     let (mut below, mut names) = (0, 0);
     for index in 0..200 {
-        let (table, superclasses) = family(&mut Rng::new(2, 0, index));
+        let (table, parents) = family(&mut Rng::new(2, 0, index));
         let symbols = Symbols::of(&table);
-        let met = met(&superclasses);
+        let met = reached(&parents);
         for place in 0..CLASSES {
             let ty = named(class(place));
             let is_name = (1..=3).contains(&place);

@@ -1,4 +1,5 @@
-/* The C interface on document 01's sample, `!!` on an Int, on a leaf of kind 22, and on a test load. From the repository's root:
+/* The C interface on document 01's sample, `!!` on an Int, on a leaf of kind 22, on a class with an interface, and on a test
+   load. From the repository's root:
    cc -Iinclude tests/c/judge.c crates/aura_c/out/libaura_c.a -o crates/aura_c/out/judge_c && crates/aura_c/out/judge_c */
 #include "aura_judge.h"
 
@@ -28,6 +29,31 @@ static int large_array(void) {
     if (answer[1] != 1 || answer[2] != length || answer[3] != 0 || memcmp(answer + 12, question + 6, length) != 0
         || !is_zero(answer + 12 + length, sizeof answer - 12 - length))
         return wrong("another type than a large Array");
+    return 0;
+}
+
+/* A class `plus` with the interface `minus` in its second place, and a function `times` of one parameter, a `minus`, with the
+   result Unit: a call of it with a `plus` passes. A class record of `minus` behind that of `plus` draws 6. */
+static int interface(void) {
+    const uint8_t class_plus[] = {2, 6, 0, 255, 255, 255, 255, 7, 0, 255, 255, 1};
+    const uint8_t class_minus[] = {2, 7, 0, 255, 255, 255, 255, 255, 255, 255, 255, 1};
+    const uint8_t function_times[] = {4, 255, 255, 8, 0, 0, 0, 1, 11, 20, 0, 0, 17, 7, 0};
+    const uint8_t question[] = {255, 255, 255, 255, 0, 5, 8, 0, 1, 0, 17, 6, 0};
+    uint8_t table[sizeof class_plus + sizeof class_minus + sizeof function_times];
+    uint8_t diagnostics[5], answer[AURA_JUDGE_ANSWER_SIZE];
+
+    memcpy(table, class_plus, sizeof class_plus);
+    memcpy(table + sizeof class_plus, function_times, sizeof function_times);
+    if (aura_judge(table, sizeof class_plus + sizeof function_times, question, sizeof question, diagnostics, sizeof diagnostics,
+                   answer, sizeof answer) != 0)
+        return wrong("a class with an interface is refused");
+    if (answer[1] != 1 || answer[2] != 1 || answer[12] != 11) return wrong("an interface is not reached");
+
+    memcpy(table + sizeof class_plus, class_minus, sizeof class_minus);
+    memcpy(table + sizeof class_plus + sizeof class_minus, function_times, sizeof function_times);
+    if (aura_judge(table, sizeof table, question, sizeof question, diagnostics, sizeof diagnostics, answer, sizeof answer) != 6
+        || answer[0] != 6 || !is_zero(answer + 1, sizeof answer - 1))
+        return wrong("an interface with a later record");
     return 0;
 }
 
@@ -82,7 +108,7 @@ int main(void) {
         || !is_zero(diagnostics, sizeof diagnostics) || !is_zero(answer, AURA_JUDGE_ANSWER_SIZE - 1)
         || answer[AURA_JUDGE_ANSWER_SIZE - 1] != 7)
         return wrong("too short an answer");
-    if (large_array() != 0 || load() != 0) return 1;
+    if (large_array() != 0 || interface() != 0 || load() != 0) return 1;
     printf("tests/c/judge.c: as the header says\n");
     return 0;
 }

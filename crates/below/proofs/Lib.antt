@@ -1,1 +1,11 @@
+pub mod ParentsFound
+pub mod MarksMade
+pub mod AnyParent
+pub mod Cases
+pub mod Order6
+pub mod MarkBits
+pub mod RecordBytes
+pub mod ParentTests
+pub mod StepsMet
 pub mod Belows
+pub mod Sweeps

@@ -1,1 +1,3 @@
 pub mod Below
+pub mod Inside
+pub mod Order6

@@ -53,7 +53,8 @@ impl<'a> Table<'a> {
 
     // How many names the table has.
     pub fn name_count(&self) -> usize
-        ensures { result ≡ name_count (records_of self.now) }
+        ensures count { result ≡ name_count (records_of self.now) }
+        ensures clean { table_fault self.now ≡ 0 }
     {
         entry_at(self.index, 0)
     }

@@ -8,7 +8,7 @@ use mathlib.Core.Path.{◌≡◌, refl, sym, ◌∙◌}
 use Rattle.operators.proofs.Assigns.{assigns_by}
 use Rattle.operators.specs.Assign.{assign_step, answer_by, can_assign}
 use Rattle.operators.specs.Operand.{is_kind}
-use Rattle.operators.specs.declared.assign.Next.TheVariants.{Yes, Left, Right, Both, Climb}
+use Rattle.operators.specs.declared.assign.Next.TheVariants.{Yes, Left, Right, Both, Classes}
 use Rattle.operators.specs.declared.assign.Next.{Next}
 use Rattle.ty.proofs.Choice.{by_choice, and_left, and_right}
 use Rattle.ty.specs.Bytes.{Ty, kind_of, is_array_kind, is_array}
@@ -62,19 +62,19 @@ module _ (a b : Ty) where
       by_choice (YesOr Left) _ (λ e. absurd (false≢true (sym k ∙ e))) λ _.
       by_choice (YesOr Left) _ (λ _. inr refl) (λ e. absurd (false≢true (sym e ∙ h)))
 
-  pub step_climb : is_kind named_kind a ≡ true → is_kind named_kind b ≡ true → YesOr Climb (assign_step a b)
+  pub step_climb : is_kind named_kind a ≡ true → is_kind named_kind b ≡ true → YesOr Classes (assign_step a b)
   unfolding assign_step
   step_climb h k =
-      by_choice (YesOr Climb) _ (λ _. inl refl) λ _.
-      by_choice (YesOr Climb) _ (λ e. one_kind named_kind list_kind a refl h (and_left _ _ e)) λ _.
-      by_choice (YesOr Climb) _ (λ _. inl refl) λ _.
-      by_choice (YesOr Climb) _ (λ e. no_array named_kind a refl h (and_left _ _ e)) λ _.
-      by_choice (YesOr Climb) _ (λ _. inl refl) λ _.
-      by_choice (YesOr Climb) _ (λ _. inl refl) λ _.
-      by_choice (YesOr Climb) _ (λ e. one_kind named_kind nullable_kind b refl k e) λ _.
-      by_choice (YesOr Climb) _ (λ e. one_kind named_kind nullable_kind a refl h e) λ _.
-      by_choice (YesOr Climb) _ (λ _. inl refl) λ _.
-      by_choice (YesOr Climb) _ (λ _. inr refl) (λ e. absurd (false≢true (sym e ∙ rw (h, k))))
+      by_choice (YesOr Classes) _ (λ _. inl refl) λ _.
+      by_choice (YesOr Classes) _ (λ e. one_kind named_kind list_kind a refl h (and_left _ _ e)) λ _.
+      by_choice (YesOr Classes) _ (λ _. inl refl) λ _.
+      by_choice (YesOr Classes) _ (λ e. no_array named_kind a refl h (and_left _ _ e)) λ _.
+      by_choice (YesOr Classes) _ (λ _. inl refl) λ _.
+      by_choice (YesOr Classes) _ (λ _. inl refl) λ _.
+      by_choice (YesOr Classes) _ (λ e. one_kind named_kind nullable_kind b refl k e) λ _.
+      by_choice (YesOr Classes) _ (λ e. one_kind named_kind nullable_kind a refl h e) λ _.
+      by_choice (YesOr Classes) _ (λ _. inl refl) λ _.
+      by_choice (YesOr Classes) _ (λ _. inr refl) (λ e. absurd (false≢true (sym e ∙ rw (h, k))))
 
   -- where the step that is named says yes, so does assignability
   pub yes_or : (below : ℕ → ℕ → Bool) (r : Next) → YesOr r (assign_step a b) → answer_by below r a b (λ x y. can_assign below x y) ≡ true

@@ -17,7 +17,7 @@ use Rattle.ty.specs.Bytes.{Ty, kind_of, name_of, is_array, inner_of}
 use Rattle.operators.specs.Assign.{assign_step, answer_by, assign_in, can_assign}
 use Rattle.operators.specs.Operand.{is_kind}
 use Rattle.operators.specs.declared.assign.Next.{Next}
-use Rattle.operators.specs.declared.assign.Next.TheVariants.{Yes, No, Left, Right, Both, Climb}
+use Rattle.operators.specs.declared.assign.Next.TheVariants.{Yes, No, Left, Right, Both, Classes}
 
 -- a test that may be left out
 pub or_yes : (s t : Bool) → t ≡ true → true ≡ s || t
@@ -44,7 +44,7 @@ Reason a b No = Unit
 Reason a b Left = (is_kind nullable_kind a ≡ true) × (is_kind nullable_kind b ≡ false)
 Reason a b Right = is_kind nullable_kind b ≡ true
 Reason a b Both = ((is_kind list_kind a ≡ true) ⊎ (is_array a ≡ true)) × (is_array b ≡ true)
-Reason a b Climb = (is_kind named_kind a ≡ true) × (is_kind named_kind b ≡ true)
+Reason a b Classes = (is_kind named_kind a ≡ true) × (is_kind named_kind b ≡ true)
 
 pub reason : (a b : Ty) → Reason a b (assign_step a b)
 unfolding assign_step Reason
@@ -70,7 +70,7 @@ Shorter a b No = Unit
 Shorter a b Left = length (inner_of a) < length a
 Shorter a b Right = length (inner_of b) < length b
 Shorter a b Both = (length (inner_of a) < length a) × (length (inner_of b) < length b)
-Shorter a b Climb = Unit
+Shorter a b Classes = Unit
 
 pub by_reason : (a b : Ty) (r : Next) → Reason a b r → Shorter a b r
 unfolding Reason Shorter
@@ -80,7 +80,7 @@ by_reason a b Left h = inner_shorter a (some a nullable_kind (omega arith) h.0)
 by_reason a b Right h = inner_shorter b (some b nullable_kind (omega arith) h)
 by_reason a b Both (inl h, k) = (inner_shorter a (some a list_kind (omega arith) h), inner_shorter b (array b k))
 by_reason a b Both (inr h, k) = (inner_shorter a (array a h), inner_shorter b (array b k))
-by_reason a b Climb h = tt
+by_reason a b Classes h = tt
 
 pub shorter : (a b : Ty) → Shorter a b (assign_step a b)
 shorter a b = by_reason a b (assign_step a b) (reason a b)
@@ -95,7 +95,7 @@ module _ (below : ℕ → ℕ → Bool) where
   same_answer a b Left f g s h = h (inner_of a) b (omega arith)
   same_answer a b Right f g s h = h a (inner_of b) (omega arith)
   same_answer a b Both f g s h = h (inner_of a) (inner_of b) (omega (arith, s.0, s.1))
-  same_answer a b Climb f g s h = refl
+  same_answer a b Classes f g s h = refl
 
   -- any fuel above the lengths is enough
   pub enough : (f g : ℕ) (a b : Ty) → length a + length b < f → length a + length b < g → assign_in below f a b ≡ assign_in below g a b
@@ -127,8 +127,8 @@ module _ (below : ℕ → ℕ → Bool) where
   pub both_is : (a b : Ty) → Both ≡ assign_step a b → can_assign below a b ≡ can_assign below (inner_of a) (inner_of b)
   both_is a b e = assigns_by a b Both e
 
-  pub climb_is : (a b : Ty) → Climb ≡ assign_step a b → can_assign below a b ≡ below (name_of a) (name_of b)
-  climb_is a b e = assigns_by a b Climb e
+  pub climb_is : (a b : Ty) → Classes ≡ assign_step a b → can_assign below a b ≡ below (name_of a) (name_of b)
+  climb_is a b e = assigns_by a b Classes e
 
 pub shorter_by : (a b : Ty) (r : Next) → r ≡ assign_step a b → Shorter a b r
 shorter_by a b r e = rw e (shorter a b)

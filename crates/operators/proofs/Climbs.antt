@@ -12,7 +12,8 @@ use native.Mathlib.Omega.{arith}
 use Rattle.operators.specs.Inside.MethodPlace.{first_result_place, class_place, climb_place, climb_place_from}
 use Rattle.operators.specs.OperatorMethod.{method_id, has_operator, at_class, climb, climb_from}
 use Rattle.record.specs.TableRefused.{table_fault}
-use Rattle.symbol.proofs.Ranks.{rank_of, class_rank, super_lower, height, height_low, some_height, super_below}
+use Rattle.symbol.specs.Inside.ClassRun.{rank_of}
+use Rattle.symbol.proofs.Ranks.{class_rank, super_lower, height, height_low, some_height, super_below}
 use Rattle.symbol.specs.Lookup.{symbols_of}
 use Rattle.symbol.specs.Symbols.{Symbols}
 use Rattle.ty.specs.Bytes.{Ty}

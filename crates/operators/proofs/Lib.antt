@@ -4,7 +4,10 @@ pub mod AssignSteps
 pub mod NullablesOpened
 pub mod Order2
 pub mod Order5Assign
+pub mod Order6Assign
+pub mod Order6Method
 pub mod Climbs
+pub mod Cores
 pub mod Each
 pub mod MethodLookups
 pub mod Ruling

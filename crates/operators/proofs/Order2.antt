@@ -14,7 +14,7 @@ use Rattle.operators.proofs.AssignSteps.{one_kind, no_array, yes_or, step_arrays
 use Rattle.operators.specs.Assign.{assign_step, can_assign, assigns}
 use Rattle.operators.specs.Operand.{is_kind}
 use Rattle.operators.specs.Order2.{ClassMet, named, arrays, list-array, to_nullable, from-nullable, assigns_unrelated, SubclassAssigns}
-use Rattle.operators.specs.declared.assign.Next.TheVariants.{Yes, No, Left, Right, Both, Climb}
+use Rattle.operators.specs.declared.assign.Next.TheVariants.{Yes, No, Left, Right, Both, Classes}
 use Rattle.operators.specs.declared.assign.Next.{Next}
 use Rattle.record.specs.TableRefused.{table_fault}
 use Rattle.symbol.specs.Lookup.{symbols_of}
@@ -43,7 +43,7 @@ module _ (below : ℕ → ℕ → Bool) (n : ℕ) (a b : Ty) (l : length a + len
   kept_by ih Both e h =
       let s = both_shorter a b e in
       assigns_by below a b Both e ∙ ih (inner_of a) (inner_of b) (omega (arith, s.0, s.1)) (sym (assigns_by unrelated a b Both e) ∙ h)
-  kept_by ih Climb e h = absurd (false≢true (sym (assigns_by unrelated a b Climb e) ∙ h))
+  kept_by ih Classes e h = absurd (false≢true (sym (assigns_by unrelated a b Classes e) ∙ h))
 
 kept_in : (below : ℕ → ℕ → Bool) (n : ℕ) (a b : Ty) → length a + length b < n → Kept below a b
 kept_in below zero a b l h = absurd (not-suc-le-zero l)
@@ -80,9 +80,9 @@ module _ (S : Symbols) where
         go : ((is_kind list_kind a ≡ true) ⊎ (is_array a ≡ true)) × (is_array b ≡ true) → ClassMet S (inner_of a) (inner_of b) → ClassMet S a b
         go (inl i, k) m = list-array i k m
         go (inr i, k) m = arrays i k m
-    known_by Climb e h =
-        let k = reason_by a b Climb e in
-        inr (named k.0 k.1 (below_then_met S (name_of a) (name_of b) (sym (assigns_by (is_below S) a b Climb e) ∙ h)))
+    known_by Classes e h =
+        let k = reason_by a b Classes e in
+        inr (named k.0 k.1 (below_then_met S (name_of a) (name_of b) (sym (assigns_by (is_below S) a b Classes e) ∙ h)))
 
   known_in : (n : ℕ) (a b : Ty) → length a + length b < n → assigns S a b ≡ true → Known a b
   known_in zero a b l h = absurd (not-suc-le-zero l)
@@ -113,7 +113,7 @@ module _ (t : List ℕ) (f : table_fault t ≡ 0) where
 
     other_goes : is_kind nullable_kind b ≡ false → Goes a b
     unfolding Reason Shorter
-    other_goes k (named h i m) = yes_or a b below Climb (step_climb a b h i) (met-below t f (name_of a) (name_of b) m)
+    other_goes k (named h i m) = yes_or a b below Classes (step_climb a b h i) (met-below t f (name_of a) (name_of b) m)
     other_goes k (arrays h i m) =
         let s = by_reason a b Both (inr h, i) in
         yes_or a b below Both (step_arrays a b (inr h) i) (ih (inner_of a) (inner_of b) (omega (arith, s.0, s.1)) m)

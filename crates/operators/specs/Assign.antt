@@ -1,5 +1,6 @@
 -- Assignability: `can_assign_to` of ty.rs, its checks in the source's order. Document 01, "Corners in ty.rs". The last of them is order 2's: "Named A now
--- assigns to Named B if B is met climbing from A, at every depth where assignability compares types".
+-- assigns to Named B if B is met climbing from A, at every depth where assignability compares types"; order 6: "Assignability reaches through superclass and
+-- interfaces alike".
 use Rattle.std.specs.Prelude.{ℕ, zero, suc, ◌+◌, Bool, true, false, ◌&&◌, ◌||◌, length, eqb}
 use Rattle.ty.specs.Choose.{choose}
 use Rattle.ty.specs.Kind.{any_kind, nothing_kind, nullable_kind, list_kind, named_kind, error_kind}
@@ -9,7 +10,7 @@ use Rattle.symbol.specs.Symbols.{Symbols}
 use Rattle.below.specs.Below.{is_below}
 use Rattle.operators.specs.Operand.{is_kind, numbers}
 use Rattle.operators.specs.declared.assign.Next.{Next}
-use Rattle.operators.specs.declared.assign.Next.TheVariants.{Yes, No, Left, Right, Both, Climb}
+use Rattle.operators.specs.declared.assign.Next.TheVariants.{Yes, No, Left, Right, Both, Classes}
 
 -- a Named of the name `id`
 abbrev pub is_named : ℕ → Ty → Bool
@@ -42,7 +43,7 @@ assign_step a b =
     (choose (is_kind nullable_kind b) Right
     (choose (is_kind nullable_kind a) Left
     (choose (is_kind nothing_kind a) Yes
-    (choose (is_kind named_kind a && is_kind named_kind b) Climb No)))))))))
+    (choose (is_kind named_kind a && is_kind named_kind b) Classes No)))))))))
 
 module _ (below : ℕ → ℕ → Bool) where
   -- a step's answer: `below` says whether one class is below another, and `ask` what holds of the types inside
@@ -52,7 +53,7 @@ module _ (below : ℕ → ℕ → Bool) where
   answer_by Left a b ask = ask (inner_of a) b
   answer_by Right a b ask = ask a (inner_of b)
   answer_by Both a b ask = ask (inner_of a) (inner_of b)
-  answer_by Climb a b ask = below (name_of a) (name_of b)
+  answer_by Classes a b ask = below (name_of a) (name_of b)
 
   unfoldable pub assign_in : ℕ → Ty → Ty → Bool
   assign_in zero a b = false

@@ -1,4 +1,5 @@
 -- What code and proofs of the operators hand each other.
+pub mod Core
 pub mod Looked
 pub mod MethodPlace
 pub mod Nullables

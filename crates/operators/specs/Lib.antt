@@ -6,6 +6,8 @@ pub mod Unary
 pub mod Assign
 pub mod Order2
 pub mod Order5Assign
+pub mod Order6Assign
+pub mod Order6Method
 pub mod Out
 pub mod Diag
 pub mod Made

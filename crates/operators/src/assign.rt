@@ -2,11 +2,11 @@
 ghost use Rattle.std.specs.Prelude.{◌≡◌};
 ghost use Rattle.symbol.specs.Lookup.{symbols_of};
 ghost use Rattle.operators.specs.Assign.{is_named, is_growing, is_list_name, assigns_at_once, assign_step, assigns};
+ghost use Rattle.operators.specs.Inside.Core.{goes_inside, core_of};
 ghost use Rattle.operators.specs.Inside.Nullables.{nullables as nullables_of};
 
 use crate::operand::numbers;
-use below::is_below;
-use index::table::Table;
+use below::above::Above;
 use ty::{Kind, NameId, is_kind};
 
 // What one look at two types says: yes, no, or it goes by the type inside the left one, inside the right one, or inside both, or by the classes of two
@@ -18,7 +18,7 @@ pub enum Next {
     Left,
     Right,
     Both,
-    Climb,
+    Classes,
 }
 
 // A Named of a name.
@@ -96,7 +96,7 @@ fn step(a: &[u8], b: &[u8]) -> Next
         return Next::Yes;
     }
     if (k == Kind::Named.number()) & (m == Kind::Named.number()) {
-        return Next::Climb;
+        return Next::Classes;
     }
     Next::No
 }
@@ -111,16 +111,38 @@ fn nullables(t: &[u8]) -> usize
 
 // Whether the type a assigns to the type b. Nullables are opened together, so that a type of 192 bytes takes no 192 calls.
 #[tactic(auto, using(crate::proofs::NullablesOpened::assign_steps))]
-pub fn can_assign_to(table: &Table<'_>, a: &[u8], b: &[u8]) -> bool
-    ensures { result ≡ assigns (symbols_of table.now) a.now b.now }
+pub fn can_assign_to(above: &Above<'_>, a: &[u8], b: &[u8]) -> bool
+    ensures { result ≡ assigns (symbols_of above.now) a.now b.now }
 {
     let next = step(a, b);
     match next {
         Next::Yes => true,
         Next::No => false,
-        Next::Left => can_assign_to(table, ty::tail(a, nullables(a)), b),
-        Next::Right => can_assign_to(table, a, ty::tail(b, nullables(b))),
-        Next::Both => can_assign_to(table, ty::inner(a), ty::inner(b)),
-        Next::Climb => is_below(table, ty::name_of(a), ty::name_of(b)),
+        Next::Left => can_assign_to(above, ty::tail(a, nullables(a)), b),
+        Next::Right => can_assign_to(above, a, ty::tail(b, nullables(b))),
+        Next::Both => can_assign_to(above, ty::inner(a), ty::inner(b)),
+        Next::Classes => above.is_below(ty::name_of(a), ty::name_of(b)),
     }
+}
+
+// A kind of a left type that assignability goes inside: Array, Nullable, List.
+fn goes_inside(k: u8) -> bool
+    ensures { result ≡ goes_inside k }
+{
+    ty::is_array_kind(k) | ((k == Kind::Nullable as u8) | (k == Kind::List as u8))
+}
+
+// The name of the Named that a type comes to inside Arrays, Nullables and Lists, and NameId::NONE where it comes to none. Of the classes above others,
+// assignability from the type asks only for those above this one.
+pub fn core_of(t: &[u8]) -> u16
+    ensures { result ≡ core_of t.now }
+{
+    let mut at = t;
+    while goes_inside(ty::kind_of(at)) {
+        at = ty::inner(at);
+    }
+    if is_kind(at, Kind::Named) {
+        return ty::name_of(at);
+    }
+    NameId::NONE
 }

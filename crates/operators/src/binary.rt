@@ -11,6 +11,7 @@ use crate::method::operator_overload_return;
 use crate::operand::{char_string, either, is_logical, numbers};
 use crate::ruled::{OneReport, Ruled, checked, clean, fails, plain, unless};
 use area::{DiagnosticKind, Source};
+use below::above::Above;
 use index::table::Table;
 use question::operator::BinOp;
 use ty::{Kind, NameId, is_kind};
@@ -64,8 +65,9 @@ fn arithmetic(lt: &[u8], rt: &[u8]) -> OneReport
 fn equality(table: &Table<'_>, lt: &[u8], rt: &[u8]) -> OneReport
     ensures { result ≡ equality_ruled (symbols_of table.now) lt.now rt.now }
 {
+    let above = Above::none(table);
     checked(
-        (can_assign_to(table, lt, rt) || can_assign_to(table, rt, lt))
+        (can_assign_to(&above, lt, rt) || can_assign_to(&above, rt, lt))
             || (either(Kind::Any, lt, rt) || char_string(lt, rt)),
         Source::Kind(Kind::Boolean),
         DiagnosticKind::Unrelated,

@@ -3,6 +3,7 @@ pub mod SingleReports
 pub mod OverloadFold
 pub mod Tallies
 pub mod CallAnswers
+pub mod ClassesGathered
 pub mod FunctionListWalk
 pub mod ReportBounds
 pub mod Exact

@@ -1,5 +1,5 @@
 // A call of a list of functions.
-ghost use Rattle.std.specs.Prelude.{◌+◌, ◌≤◌, ◌<◌, ◌≡◌};
+ghost use Rattle.std.specs.Prelude.{◌+◌, ◌≤◌, ◌<◌, ◌≡◌, length};
 ghost use Rattle.arrayvec.specs.ArrayVec.{array_vec_len};
 ghost use Rattle.area.specs.Diagnostic.{count_limit};
 ghost use Rattle.area.specs.Reported.{reported};
@@ -17,10 +17,13 @@ ghost use Rattle.overload.specs.Inside.BestPlace.{error_source};
 ghost use Rattle.overload.specs.Inside.Tally.{many_of, higher_with, unknowns_at, all_unknown_at, tally_with, tally_more, tally_of, most_diagnostics, Room};
 ghost use Rattle.overload.specs.Inside.CallSource.{settled_source, settled_diags, call_at, call_source};
 
+use crate::classes::classes_of;
 use crate::reports::{mismatches, report_if, unknown_names};
 use area::reports::Reports;
 use area::types::Slot;
 use area::{DiagnosticKind, Source};
+use below::above::{Above, IDS};
+use below::marks::{any_parent, mark_above};
 use index::index::Place;
 use index::table::Table;
 use scoring::args::Args;
@@ -92,12 +95,12 @@ fn higher(h: Option<Highest>, found: Part, s: Option<Score>) -> Option<Highest>
 }
 
 // What is asked here and below is in no type: that a function stands at p, since a place by itself is of no table; and room for what is reported, since its
-// bound goes by the number of nodes. table, slots and args stand apart, as scoring takes them: a struct of the three would be made once, and opened in each
+// bound goes by the number of nodes. above, slots and args stand apart, as scoring takes them: a struct of the three would be made once, and opened in each
 // function.
 
 // One more overload, which fits: its unknown names are reported, and it is scored.
 fn take_one(
-    table: &Table<'_>,
+    above: &Above<'_>,
     p: Place,
     f: &Function,
     slots: &[Slot],
@@ -105,12 +108,12 @@ fn take_one(
     w: Tally,
     reports: &mut Reports<'_>,
 ) -> Tally
-    requires { FunctionAt table.now p × (f.now ≡ function_at table.now p) × Room w reports.old }
-    ensures tally { result ≡ tally_with table.now (args_in slots.now args.now.items) w p }
-    ensures reports { reports.new ≡ reported reports.old (unknowns_at table.now p (args_in slots.now args.now.items)) }
+    requires { FunctionAt above.now p × (f.now ≡ function_at above.now p) × Room w reports.old }
+    ensures tally { result ≡ tally_with above.now (args_in slots.now args.now.items) w p }
+    ensures reports { reports.new ≡ reported reports.old (unknowns_at above.now p (args_in slots.now args.now.items)) }
 {
     unknown_names(&f.params, args, reports);
-    let score = score_function(table, f, slots, args);
+    let score = score_function(above, f, slots, args);
     Tally {
         first: w.first.or(Some(p)),
         fitting: w.fitting + 1,
@@ -121,7 +124,7 @@ fn take_one(
 // One more function of the list. own: builtins drop out; a flag, as walk says below.
 #[tactic(auto, using(crate::proofs::Tallies::turned))]
 fn turn(
-    table: &Table<'_>,
+    above: &Above<'_>,
     own: bool,
     p: Place,
     f: &Function,
@@ -130,22 +133,22 @@ fn turn(
     w: Tally,
     reports: &mut Reports<'_>,
 ) -> Tally
-    requires { FunctionAt table.now p × (f.now ≡ function_at table.now p) × Room w reports.old }
-    ensures tally { result ≡ tally_more table.now (args_in slots.now args.now.items) w (taken table.now own (array_vec_len args.now) p) }
+    requires { FunctionAt above.now p × (f.now ≡ function_at above.now p) × Room w reports.old }
+    ensures tally { result ≡ tally_more above.now (args_in slots.now args.now.items) w (taken above.now own (array_vec_len args.now) p) }
     ensures reports { reports.new ≡ reported reports.old
-        (all_unknown_at table.now (taken table.now own (array_vec_len args.now) p) (args_in slots.now args.now.items)) }
+        (all_unknown_at above.now (taken above.now own (array_vec_len args.now) p) (args_in slots.now args.now.items)) }
 {
     if (own & f.builtin) || !viable(f, args.len()) {
         return w;
     }
-    take_one(table, p, f, slots, args, w, reports)
+    take_one(above, p, f, slots, args, w, reports)
 }
 
 // The walk over the list. own goes down the walk as a flag: a test handed on as a closure would hold it too.
 // That there are at most 16 arguments is asked, as only a call of `len` tells it. clean: Table's own invariant, which the caller knows by no other call.
 #[tactic(auto, using(crate::proofs::FunctionListWalk::walk_start, crate::proofs::FunctionListWalk::walk_on))]
 fn walk(
-    table: &Table<'_>,
+    above: &Above<'_>,
     own: bool,
     owner: Option<u16>,
     id: u16,
@@ -154,12 +157,13 @@ fn walk(
     reports: &mut Reports<'_>,
 ) -> Tally
     requires { (array_vec_len args.now ≤ 16) × (reports.old.count + most_diagnostics ≤ count_limit) }
-    ensures tally { result ≡ tally_of table.now (args_in slots.now args.now.items) (picked_in table.now own (array_vec_len args.now) (id_number owner) id) }
+    ensures tally { result ≡ tally_of above.now (args_in slots.now args.now.items) (picked_in above.now own (array_vec_len args.now) (id_number owner) id) }
     ensures reports { reports.new ≡ reported reports.old
-        (all_unknown_at table.now (picked_in table.now own (array_vec_len args.now) (id_number owner) id) (args_in slots.now args.now.items)) }
+        (all_unknown_at above.now (picked_in above.now own (array_vec_len args.now) (id_number owner) id) (args_in slots.now args.now.items)) }
     ensures room { Room result reports.new }
-    ensures clean { table_fault table.now ≡ 0 }
+    ensures clean { table_fault above.now ≡ 0 }
 {
+    let table = above.table();
     let bytes = table.bytes();
     let mut c = Functions::first(table, owner, id);
     let mut w = Tally {
@@ -169,7 +173,7 @@ fn walk(
     };
     while let Some(p) = c.found() {
         let f = read_function(bytes, p);
-        w = turn(table, own, p, &f, slots, args, w, reports);
+        w = turn(above, own, p, &f, slots, args, w, reports);
         c = c.next(table);
     }
     w
@@ -189,7 +193,7 @@ fn none_fits(own: bool, node: usize, n: usize, reports: &mut Reports<'_>) -> Sou
 // A call of functions of which at least one fits in number, the first of them being at p.
 #[tactic(auto, using(crate::proofs::CallAnswers::settled), unfolding(crate::specs::Inside::DiagIf::diag_if, crate::specs::Resolve::tie_report))]
 fn settle(
-    table: &Table<'_>,
+    above: &Above<'_>,
     p: Place,
     node: usize,
     slots: &[Slot],
@@ -197,17 +201,17 @@ fn settle(
     w: Tally,
     reports: &mut Reports<'_>,
 ) -> Source
-    requires { FunctionAt table.now p × Room w reports.old }
-    ensures source { result ≡ settled_source table.now p w }
-    ensures reports { reports.new ≡ reported reports.old (settled_diags table.now p node (args_in slots.now args.now.items) w) }
+    requires { FunctionAt above.now p × Room w reports.old }
+    ensures source { result ≡ settled_source above.now p w }
+    ensures reports { reports.new ≡ reported reports.old (settled_diags above.now p node (args_in slots.now args.now.items) w) }
 {
     if let Some(best) = w.highest {
         report_if(1 < best.many, DiagnosticKind::Tie, node, best.many, reports);
         return Source::Part(best.result);
     }
     if w.fitting == 1 {
-        let f = read_function(table.bytes(), p);
-        mismatches(table, &f.params, slots, args, reports);
+        let f = read_function(above.table().bytes(), p);
+        mismatches(above, &f.params, slots, args, reports);
         return Source::Part(f.result);
     }
     // Every diagnostic of an answer has a number: 0 where its kind has nothing to count.
@@ -215,8 +219,53 @@ fn settle(
     Source::Kind(Kind::Error)
 }
 
+// A call with what is above some classes.
+fn resolve(
+    above: &Above<'_>,
+    owner: Option<u16>,
+    id: u16,
+    node: usize,
+    slots: &[Slot],
+    args: &Args,
+    reports: &mut Reports<'_>,
+) -> Source
+    requires { reports.old.count + most_diagnostics ≤ count_limit }
+    ensures source { result ≡ call_source above.now (id_number owner) id (args_in slots.now args.now.items) }
+    ensures reports { reports.new ≡ reported reports.old (call_at above.now (id_number owner) id node slots.now args.now.items).diags }
+{
+    let own = any_own(above.table(), owner, id);
+    let n = args.len();
+    let w = walk(above, own, owner, id, slots, args, reports);
+    match w.first {
+        None => none_fits(own, node, n, reports),
+        Some(p) => settle(above, p, node, slots, args, w, reports),
+    }
+}
+
+// The same where what is above the arguments' classes is marked first, once for all overloads. Not inlined, as the judge recurses: the marks have 4.7 KB.
+#[inline(never)]
+fn resolve_marked(
+    table: &Table<'_>,
+    classes: &[u16],
+    owner: Option<u16>,
+    id: u16,
+    node: usize,
+    slots: &[Slot],
+    args: &Args,
+    reports: &mut Reports<'_>,
+) -> Source
+    requires { (length classes.now ≤ 16) × (reports.old.count + most_diagnostics ≤ count_limit) }
+    ensures source { result ≡ call_source table.now (id_number owner) id (args_in slots.now args.now.items) }
+    ensures reports { reports.new ≡ reported reports.old (call_at table.now (id_number owner) id node slots.now args.now.items).diags }
+{
+    let mut marks = [0u16; IDS];
+    mark_above(table, classes, &mut marks);
+    let above = Above::of(table, classes, &marks);
+    resolve(&above, owner, id, node, slots, args, reports)
+}
+
 // The call at a node of the functions of an owner, if there is one, and a name, once its arguments are judged: where its type comes from. The types of the
-// arguments lie in their slots.
+// arguments lie in their slots. Above a class without parents there is nothing, so that where none has one there is nothing to mark.
 pub fn check_call_args(
     table: &Table<'_>,
     owner: Option<u16>,
@@ -230,11 +279,11 @@ pub fn check_call_args(
     ensures source { result ≡ call_source table.now (id_number owner) id (args_in slots.now args.now.items) }
     ensures reports { reports.new ≡ reported reports.old (call_at table.now (id_number owner) id node slots.now args.now.items).diags }
 {
-    let own = any_own(table, owner, id);
-    let n = args.len();
-    let w = walk(table, own, owner, id, slots, args, reports);
-    match w.first {
-        None => none_fits(own, node, n, reports),
-        Some(p) => settle(table, p, node, slots, args, w, reports),
+    let classes = classes_of(slots, args);
+    let classes = classes.as_slice();
+    if any_parent(table, classes) {
+        return resolve_marked(table, classes, owner, id, node, slots, args, reports);
     }
+    let above = Above::of(table, classes, &[]);
+    resolve(&above, owner, id, node, slots, args, reports)
 }

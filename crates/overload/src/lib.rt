@@ -3,4 +3,5 @@
 
 pub mod before;
 pub mod calls;
+pub mod classes;
 pub mod reports;

@@ -15,7 +15,7 @@ ghost use Rattle.ty.specs.Bytes.{Ty};
 use area::DiagnosticKind;
 use area::reports::Reports;
 use area::types::{Slot, type_of};
-use index::table::Table;
+use below::above::Above;
 use rules::accept::param_accepts;
 use scoring::args::Args;
 use scoring::parameter::{named_place, parameter_for};
@@ -60,10 +60,10 @@ pub fn unknown_names(params: &Params, args: &Args, reports: &mut Reports<'_>)
 }
 
 // Whether an argument of the type x suits a parameter of the type p.
-fn suits(table: &Table<'_>, p: &[u8], x: &[u8], vararg: bool) -> bool
-    ensures { result ≡ suits (symbols_of table.now) p.now x.now vararg }
+fn suits(above: &Above<'_>, p: &[u8], x: &[u8], vararg: bool) -> bool
+    ensures { result ≡ suits (symbols_of above.now) p.now x.now vararg }
 {
-    param_accepts(table, p, x, vararg)
+    param_accepts(above, p, x, vararg)
         || ty::is_kind(p, Kind::Any)
         || ty::is_kind(x, Kind::Error)
         || ty::is_kind(x, Kind::Any)
@@ -71,19 +71,20 @@ fn suits(table: &Table<'_>, p: &[u8], x: &[u8], vararg: bool) -> bool
 
 // The same for the parameter that it gets, if any.
 #[tactic(auto, using(crate::proofs::SingleReports::suits_told))]
-fn suits_param(table: &Table<'_>, param: Option<Param>, x: &[u8]) -> bool
-    ensures { result ≡ suits_param (symbols_of table.now) (param_here table.now param) x.now }
+fn suits_param(above: &Above<'_>, param: Option<Param>, x: &[u8]) -> bool
+    ensures { result ≡ suits_param (symbols_of above.now) (param_here above.now param) x.now }
 {
     let Some(p) = param else {
         return true;
     };
-    suits(table, area::part(table.bytes(), p.part), x, p.vararg)
+    let t = area::part(above.table().bytes(), p.part);
+    suits(above, t, x, p.vararg)
 }
 
-// The check of a single overload that does not match, in argument order: each argument against the parameter that it gets. For table, slots and args apart see
+// The check of a single overload that does not match, in argument order: each argument against the parameter that it gets. For above, slots and args apart see
 // calls.rt.
 pub fn mismatches(
-    table: &Table<'_>,
+    above: &Above<'_>,
     params: &Params,
     slots: &[Slot],
     args: &Args,
@@ -91,15 +92,15 @@ pub fn mismatches(
 )
     requires { reports.old.count + 16 ≤ count_limit }
     ensures { reports.new ≡ reported reports.old
-        (mismatches (symbols_of table.now) 1 (with_params (params_in table.now params.now.items) (args_in slots.now args.now.items))) }
+        (mismatches (symbols_of above.now) 1 (with_params (params_in above.now params.now.items) (args_in slots.now args.now.items))) }
 {
     let params = params.as_slice();
-    let marks = named_pass(table, params, slots, args).marks;
+    let marks = named_pass(above, params, slots, args).marks;
     let mut next = 0;
     for (i, x) in args.as_slice().iter().enumerate() {
         let own = parameter_for(params, marks, next, x.name);
         next = own.next;
-        let fine = suits_param(table, own.param, type_of(slots, x.node));
+        let fine = suits_param(above, own.param, type_of(slots, x.node));
         report_if(!fine, DiagnosticKind::Mismatch, x.node, i + 1, reports);
     }
 }

@@ -41,7 +41,7 @@ accepted_short t e = let l = not-le 60001 (length t) (λ h. omega (arith, long_f
 pub accepted_clean : (t : List ℕ) → table_fault t ≡ 0 → CleanFrom [] (records_of t)
 accepted_clean t e = clean-from [] (records_of t) (sym (short_fault t (accepted_short t e)) ∙ e)
 
-clean_drop : (n : ℕ) (rs : List Record) → n ≤ length rs → CleanFrom [] rs → CleanFrom (before n rs) (drop n rs)
+pub clean_drop : (n : ℕ) (rs : List Record) → n ≤ length rs → CleanFrom [] rs → CleanFrom (before n rs) (drop n rs)
 unfolding before
 clean_drop zero rs h c = c
 clean_drop (suc n) rs h c =

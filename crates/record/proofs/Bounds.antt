@@ -70,7 +70,7 @@ module _ (s : List ℕ) (some : 0 < length s) where
 
   class : Bounded s (class_head s)
   unfolding class_head
-  class = plain 8 _ 2 _ _ _ (omega arith)
+  class = plain 12 _ 2 _ _ _ (omega arith)
 
   operators : Bounded s (operators_head s)
   unfolding operators_head
@@ -105,7 +105,7 @@ pub short_head : (kind : ℕ) (s : List ℕ) → length s < 5 → head_by kind s
 unfolding head_by name_head class_head operators_head function_head field_head visibility_head suspend_head variant_head plain_head
 short_head kind s h =
     by_choice Is (eqb kind 1) (λ _. cut 26 _ (omega arith)) λ _.
-    by_choice Is (eqb kind 2) (λ _. cut 8 _ (omega arith)) λ _.
+    by_choice Is (eqb kind 2) (λ _. cut 12 _ (omega arith)) λ _.
     by_choice Is (eqb kind 3) (λ _. cut 5 _ h) λ _.
     by_choice Is (eqb kind 4) (λ _. cut 8 _ (omega arith)) λ _.
     by_choice Is (eqb kind 5) (λ _. cut 5 _ h) λ _.

@@ -9,7 +9,7 @@ use mathlib.Core.Path.{◌≡◌, refl, sym, ap, ◌∙◌}
 use Rattle.ty.specs.Choose.{choose}
 use Rattle.record.proofs.NoFault.{not_taken, not-false}
 use Rattle.record.proofs.Laid.{same_first}
-use Rattle.record.specs.Inside.HeadFault.{super_missing, own_fault, key_fault, is_builtin_name, has_key, has_class, last_kind, super_late, head_fault, found_from}
+use Rattle.record.specs.Inside.HeadFault.{id_missing, some_parent, parent_missing, own_fault, key_fault, is_builtin_name, has_key, has_class, last_kind, parent_late, head_fault, found_from}
 use Rattle.record.specs.Inside.Front.{front_of}
 use Rattle.record.specs.Inside.FrontRecord.{count_of}
 use Rattle.record.specs.TableRefused.{table_fault}
@@ -43,7 +43,7 @@ module _ (earlier : List Record) (r : Record) (rest : List Record) where
   split : head_fault earlier r rest ≡ choose (eqb (own_fault earlier r) 0) (key_fault earlier r rest) (own_fault earlier r)
   unfolding head_fault own_fault key_fault
   split = parts (front_of r).malformed (ltb (front_of r).kind (last_kind earlier)) (not (id_defined (front_of r).top (count_of 1 earlier))) (front_of r).repeated
-      (super_late earlier r rest) (front_of r).error (is_builtin_name r) (has_key r earlier)
+      (parent_late earlier r rest) (front_of r).error (is_builtin_name r) (has_key r earlier)
 
   pub own-number : (own_fault earlier r ≡ 0 → ⊥) → head_fault earlier r rest ≡ own_fault earlier r
   own-number h = split ∙ choose_no _ _ _ (ne_eqb _ _ h)
@@ -70,24 +70,22 @@ module _ (earlier : List Record) (r : Record) (rest : List Record) where
   unfolding key_fault
   key_clean e = (not_taken (has_key r earlier) 4 _ e).0
 
-  -- number 6
-  pub late_split : super_late earlier r rest ≡ (super_missing earlier r && has_class (front_of r).two rest)
-  unfolding super_late super_missing
-  late_split = three (eqb (front_of r).kind 2) (not (eqb (front_of r).two no_id)) (not (has_class (front_of r).two earlier)) (has_class (front_of r).two rest)
-    where
-      three : (a b c d : Bool) → a && (b && (c && d)) ≡ (a && (b && c)) && d
-      three true true c d = refl
-      three true false c d = refl
-      three false b c d = refl
+  -- number 6: a missing parent has a later record
+  pub late_split : parent_late earlier r rest ≡ (eqb (front_of r).kind 2 && some_parent (λ id. id_missing earlier id && has_class id rest) r)
+  unfolding parent_late
+  late_split = refl
 
--- what a superclass without an earlier record says
-pub missing_class : (earlier : List Record) (r : Record) → super_missing earlier r ≡ true → ((front_of r).kind ≡ 2) × ((front_of r).two ≡ no_id → ⊥)
-unfolding super_missing
+-- a record with a missing parent is a class
+pub missing_class : (earlier : List Record) (r : Record) → parent_missing earlier r ≡ true → ((front_of r).kind ≡ 2) × (some_parent (id_missing earlier) r ≡ true)
+unfolding parent_missing
 missing_class earlier r e =
-    let k = and_left (eqb (front_of r).kind 2) (not (eqb (front_of r).two no_id) && not (has_class (front_of r).two earlier)) e in
-    let m = and_left (not (eqb (front_of r).two no_id)) (not (has_class (front_of r).two earlier))
-    (and_right (eqb (front_of r).kind 2) (not (eqb (front_of r).two no_id) && not (has_class (front_of r).two earlier)) e) in
-    (eqb-true _ _ k, λ z. true≢false (sym m ∙ ap not (eq-eqb _ _ z)))
+    let k = and_left (eqb (front_of r).kind 2) (some_parent (id_missing earlier) r) e in
+    (eqb-true _ _ k, and_right (eqb (front_of r).kind 2) (some_parent (id_missing earlier) r) e)
+
+-- a missing id is given
+pub missing_given : (earlier : List Record) (id : ℕ) → id_missing earlier id ≡ true → id ≡ no_id → ⊥
+missing_given earlier id e z =
+    true≢false (sym (and_left (not (eqb id no_id)) (not (has_class id earlier)) e) ∙ ap not (eq-eqb _ _ z))
 
 pub short_fault : (t : List ℕ) → length t ≤ 60000 → table_fault t ≡ found_from [] (records_of t)
 unfolding table_fault choose

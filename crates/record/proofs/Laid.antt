@@ -12,10 +12,10 @@ use Rattle.record.proofs.RecordParts.{or_true}
 use Rattle.record.proofs.RecordSizes.{head_kind, head_known, head_ids}
 use Rattle.record.specs.Inside.Front.{front_of}
 use Rattle.record.specs.Inside.Keyed.{is_of}
-use Rattle.record.specs.Inside.HeadFault.{name_bytes, same_key, has_key, is_builtin_name, has_class, super_late, last_kind, head_fault, found_from}
+use Rattle.record.specs.Inside.HeadFault.{name_bytes, same_key, has_key, is_builtin_name, has_class, first_interface_at, second_interface_at, some_parent, id_late, parent_late, last_kind, head_fault, found_from}
 use Rattle.record.specs.Inside.FrontRecord.{count_of}
 use Rattle.record.specs.Layout.{Field, any_field, fields_of, fields_from, is_malformed, ids_used, record_kind, nth_field, value_in}
-use Rattle.record.specs.TableRefused.{key_repeated, is_late, kind_before, record_fault, first_fault}
+use Rattle.record.specs.TableRefused.{key_repeated, is_late, has_late_parent, kind_before, record_fault, first_fault}
 use Rattle.record.specs.Spelling.{builtin_names, spelled}
 use Rattle.record.specs.Table.{Record, of_kind, key_of, keyed, non_empty}
 use Rattle.record.specs.Inside.Front.{Front}
@@ -206,15 +206,45 @@ same_class class (r ∷ rs) =
     (λ i. (ap (λ (t : Bool). eqb (front_of r).kind 2 && t) (sym (and_true (eqb (front_of r).one class))) ∙ key_test 2 class 0 (omega arith) r) i || same_class class rs i)
     ∙ sym (some_more (eqb (record_kind r) 2 && same_bytes (key_of r) (class ∷ [])) r (keyed 2 (class ∷ []) rs))
 
-same_late : (earlier : List Record) (r : Record) (rest : List Record) → super_late earlier r rest ≡ (eqb (record_kind r) 2 && is_late (value_in 1 r) earlier rest)
-unfolding super_late is_late
-same_late earlier r rest =
-    (λ i. eqb (same_kind r i) 2 && (not (eqb (front_of r).two no_id) && (not (same_class (front_of r).two earlier i) && same_class (front_of r).two rest i)))
-    ∙ go (eqb (record_kind r) 2) refl
+-- the interfaces of a class stand behind its superclass
+pub class_value : (s : List ℕ) → record_kind s ≡ 2 → (i : ℕ) → value_in i s ≡ (nth_field (fields_from (fields_of 2 (get_or s 7 0)) s 1) i).value
+unfolding value_in
+class_value s e i =
+    let b = kind_byte s (omega arith) in
+    ap (λ (k : ℕ). (nth_field (fields_from (fields_of k (get_or s 7 0)) s 1) i).value) (b.1 ∙ e)
+
+pub same_first_interface : (s : List ℕ) → record_kind s ≡ 2 → first_interface_at s ≡ value_in 2 s
+same_first_interface s e = sym (class_value s e 2 ∙ here)
   where
-    go : (t : Bool) → eqb (record_kind r) 2 ≡ t → t && is_late (front_of r).two earlier rest ≡ (t && is_late (value_in 1 r) earlier rest)
-    go true e = let k = eqb-true (record_kind r) 2 e in ap (λ (z : ℕ). is_late z earlier rest) (same_two r (omega arith))
-    go false e = refl
+    here : (nth_field (fields_from (fields_of 2 (get_or s 7 0)) s 1) 2).value ≡ id_at s 5
+    here = unfold fields_of fields_from choose in refl
+
+pub same_second_interface : (s : List ℕ) → record_kind s ≡ 2 → second_interface_at s ≡ value_in 3 s
+same_second_interface s e = sym (class_value s e 3 ∙ here)
+  where
+    here : (nth_field (fields_from (fields_of 2 (get_or s 7 0)) s 1) 3).value ≡ id_at s 7
+    here = unfold fields_of fields_from choose in refl
+
+module _ (earlier rest : List Record) where
+  late_one : (id : ℕ) → id_late earlier rest id ≡ is_late id earlier rest
+  unfolding is_late
+  late_one id =
+      (λ i. (not (eqb id no_id) && not (same_class id earlier i)) && same_class id rest i)
+      ∙ and_shift (not (eqb id no_id)) (not (non_empty (keyed 2 (id ∷ []) earlier))) (non_empty (keyed 2 (id ∷ []) rest))
+    where
+      and_shift : (a b c : Bool) → (a && b) && c ≡ a && (b && c)
+      and_shift true b c = refl
+      and_shift false b c = refl
+
+  pub same_late : (r : Record) → parent_late earlier r rest ≡ (eqb (record_kind r) 2 && has_late_parent earlier r rest)
+  unfolding parent_late
+  same_late r = (λ i. eqb (same_kind r i) 2 && some_parent (id_late earlier rest) r) ∙ go (eqb (record_kind r) 2) refl
+    where
+      go : (t : Bool) → eqb (record_kind r) 2 ≡ t → t && some_parent (id_late earlier rest) r ≡ (t && has_late_parent earlier r rest)
+      go true e =
+          let k = eqb-true (record_kind r) 2 e in
+          λ i. late_one (same_two r (omega arith) i) i || (late_one (same_first_interface r k i) i || late_one (same_second_interface r k i) i)
+      go false e = refl
 
 same_before : (rs : List Record) → last_kind rs ≡ kind_before rs
 same_before [] = refl
@@ -234,7 +264,7 @@ same_number earlier r rest = go (is_malformed r) refl
         (choose (ltb (same_kind r i) (same_before earlier i)) 3
         (choose (not (d i)) 4
         (choose (same_repeated r e i || (same_builtin r i || keys_among r e earlier i)) 5
-        (choose (same_late earlier r rest i) 6
+        (choose (same_late earlier rest r i) 6
         (choose (same_error r e i) 7 0)))))
 
 pub same_first : (earlier rs : List Record) → found_from earlier rs ≡ first_fault earlier rs

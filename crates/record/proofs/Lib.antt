@@ -20,3 +20,4 @@ pub mod Accepts
 pub mod EveryRecord
 pub mod RecordParts
 pub mod Order3
+pub mod Order6Table

@@ -9,7 +9,7 @@ use native.Mathlib.Omega.{arith}
 use Rattle.ty.specs.Choose.{choose}
 use Rattle.ty.specs.Name.{id_defined}
 use Rattle.record.specs.Inside.Front.{front_of}
-use Rattle.record.specs.Inside.HeadFault.{is_builtin_name, has_key, super_late, last_kind, head_fault}
+use Rattle.record.specs.Inside.HeadFault.{is_builtin_name, has_key, parent_late, last_kind, head_fault}
 use Rattle.record.specs.Inside.FrontRecord.{count_of}
 use Rattle.record.specs.Table.{Record}
 
@@ -34,7 +34,7 @@ pub record Clean (earlier : List Record) (r : Record) (rest : List Record) : Typ
   pub distinct : (front_of r).repeated ≡ false
   pub own : is_builtin_name r ≡ false
   pub fresh : has_key r earlier ≡ false
-  pub super : super_late earlier r rest ≡ false
+  pub parent : parent_late earlier r rest ≡ false
   pub typed : (front_of r).error ≡ false
 
 pub clean_record : (earlier : List Record) (r : Record) (rest : List Record) → head_fault earlier r rest ≡ 0 → Clean earlier r rest
@@ -44,7 +44,7 @@ clean_record earlier r rest e =
     let b = not_taken (ltb (front_of r).kind (last_kind earlier)) 2 _ a.1 in
     let c = not_taken (not (id_defined (front_of r).top (count_of 1 earlier))) 3 _ b.1 in
     let d = not_taken ((front_of r).repeated || (is_builtin_name r || has_key r earlier)) 4 _ c.1 in
-    let f = not_taken (super_late earlier r rest) 5 _ d.1 in
+    let f = not_taken (parent_late earlier r rest) 5 _ d.1 in
     let g = not_taken (front_of r).error 6 _ f.1 in
     let h = or_false (front_of r).repeated (is_builtin_name r || has_key r earlier) d.0 in
     let i = or_false (is_builtin_name r) (has_key r earlier) h.1 in
@@ -55,6 +55,6 @@ clean_record earlier r rest e =
       distinct = h.0;
       own = i.0;
       fresh = i.1;
-      super = f.0;
+      parent = f.0;
       typed = g.0;
     }

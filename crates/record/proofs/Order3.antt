@@ -132,7 +132,7 @@ and_false true = refl
 and_false false = refl
 
 -- an id that is not defined is not among defined ones
-some_undefined : (id n : ℕ) (ids : List ℕ) → occurs id ids ≡ true → id_defined id n ≡ false → all_defined ids n ≡ false
+pub some_undefined : (id n : ℕ) (ids : List ℕ) → occurs id ids ≡ true → id_defined id n ≡ false → all_defined ids n ≡ false
 unfolding occurs all_defined
 some_undefined id n [] o u = absurd (false≢true o)
 some_undefined id n (x ∷ xs) o u = go (eqb x id) refl o (λ p. some_undefined id n xs p u)
@@ -159,7 +159,7 @@ module _ (t : List ℕ) where
     abbrev earlier : List Record
     earlier = before i (records_of t)
 
-    stop : (n : ℕ) → record_fault earlier (nth_record t i) (nth_record t i ∷ drop (suc i) (records_of t)) ≡ suc n → table_fault t ≡ suc n
+    pub stop : (n : ℕ) → record_fault earlier (nth_record t i) (nth_record t i ∷ drop (suc i) (records_of t)) ≡ suc n → table_fault t ≡ suc n
     stop n e =
         let f = same_number earlier (nth_record t i) (nth_record t i ∷ drop (suc i) (records_of t)) ∙ e in
         short_fault t o.short ∙ from_here i (omega (arith, o.some)) o.clean ∙ ap (found_from earlier) (drop-cons (records_of t) i [] o.some)

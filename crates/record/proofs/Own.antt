@@ -89,9 +89,13 @@ module _ (s : List ℕ) (m : ℕ) (short : m < length s) where
   class : (class_head s).len ≤ m → class_head own ≡ class_head s
   unfolding class_head
   class =
-      plain 8 _ _ 2 _ _ _ _ _ _
-      (λ h.
-      (rw (own_byte 7 (omega arith)), own_id 1 (omega arith), own_id 3 (omega arith), rw (own_id 1 (omega arith), own_id 3 (omega arith), own_id 5 (omega arith))))
+      plain 12 _ _ 2 _ _ _ _ _ _
+      (λ h. (
+        rw (own_byte 11 (omega arith)),
+        own_id 1 (omega arith),
+        own_id 3 (omega arith),
+        rw (own_id 1 (omega arith), own_id 3 (omega arith), own_id 5 (omega arith), own_id 7 (omega arith), own_id 9 (omega arith)),
+      ))
 
   operators : (operators_head s).len ≤ m → operators_head own ≡ operators_head s
   unfolding operators_head

@@ -82,11 +82,18 @@ pub or_none_lem : (i : ℕ) (js : List ℕ) → highest_of (choose (eqb i no_id)
 unfolding or_none
 or_none_lem i js = some_top (eqb i no_id) i js
 
-class_top : (a b c : ℕ) → max a (max (or_none b) (or_none c)) ≡ highest_of (a ∷ choose (eqb b no_id) [] (b ∷ []) ++ (choose (eqb c no_id) [] (c ∷ []) ++ []))
+-- an id that may be none, before others
+abbrev pub none_before : ℕ → List ℕ → List ℕ
+none_before i js = choose (eqb i no_id) [] (i ∷ []) ++ js
+
+class_top : (a b c d e : ℕ) → max a (max (or_none b) (max (max (or_none c) (or_none d)) (or_none e)))
+    ≡ highest_of (a ∷ none_before b (none_before c (none_before d (none_before e []))))
 unfolding highest_of
-class_top a b c =
-    let z : max (or_none c) (highest_of []) ≡ or_none c = omega arith in
-    ap (max a) (sym (or_none_lem b _ ∙ ap (max (or_none b)) (or_none_lem c [] ∙ z)))
+class_top a b c d e =
+    let z : max (or_none e) (highest_of []) ≡ or_none e = omega arith in
+    let m : max (max (or_none c) (or_none d)) (or_none e) ≡ max (or_none c) (max (or_none d) (or_none e)) = omega arith in
+    ap (max a)
+    (ap (max (or_none b)) (m ∙ sym (or_none_lem c _ ∙ ap (max (or_none c)) (or_none_lem d _ ∙ ap (max (or_none d)) (or_none_lem e [] ∙ z)))) ∙ sym (or_none_lem b _))
 
 suspend_top : (a b : ℕ) → max (or_none a) b ≡ highest_of (choose (eqb a no_id) [] (a ∷ []) ++ (b ∷ []))
 unfolding highest_of
@@ -102,12 +109,14 @@ one_top a = omega arith
 
 -- ---- the kinds of a fixed length
 module _ (s : List ℕ) where
-  pub class_agrees : Agrees s (fields_from (id ∷ id_or_none ∷ id_or_none ∷ byte 1 ∷ []) s 1) (class_head s)
+  pub class_agrees : Agrees s (fields_from (id ∷ id_or_none ∷ id_or_none ∷ id_or_none ∷ id_or_none ∷ byte 1 ∷ []) s 1) (class_head s)
   unfolding class_head fields_from any_field each_field lengths choose repeats
   class_agrees =
-      plain_agrees s 8 (ltb 1 (get_or s 7 0)) 2 (id_at s 1) (id_at s 3) _ (fields_from (id ∷ id_or_none ∷ id_or_none ∷ byte 1 ∷ []) s 1)
-      (absorb s 3 5 false _ (omega arith) ∙ absorb s 5 7 false _ (omega arith) ∙ absorb s 7 8 (ltb 1 (get_or s 7 0)) false (omega arith) ∙ or_nil _)
-      (record { whole = refl; len = refl; top = class_top (id_at s 1) (id_at s 3) (id_at s 5); repeated = refl; error = refl })
+      plain_agrees s 12 (ltb 1 (get_or s 11 0)) 2 (id_at s 1) (id_at s 3) _
+      (fields_from (id ∷ id_or_none ∷ id_or_none ∷ id_or_none ∷ id_or_none ∷ byte 1 ∷ []) s 1)
+      (absorb s 3 5 false _ (omega arith) ∙ absorb s 5 7 false _ (omega arith) ∙ absorb s 7 9 false _ (omega arith) ∙ absorb s 9 11 false _ (omega arith)
+      ∙ absorb s 11 12 (ltb 1 (get_or s 11 0)) false (omega arith) ∙ or_nil _)
+      (record { whole = refl; len = refl; top = class_top (id_at s 1) (id_at s 3) (id_at s 5) (id_at s 7) (id_at s 9); repeated = refl; error = refl })
 
   pub operators_agrees : Agrees s (fields_from (id ∷ mask 2047 ∷ []) s 1) (operators_head s)
   unfolding operators_head fields_from any_field each_field lengths choose repeats

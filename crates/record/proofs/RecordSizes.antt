@@ -33,7 +33,7 @@ use Rattle.record.specs.declared.walk.Cursor.{Cursor}
 -- the length n goes with the kind k
 pub record Fits (k n : ℕ) : Type 0 where
   pub name : k ≡ 1 → n ≡ 26
-  pub class : k ≡ 2 → n ≡ 8
+  pub class : k ≡ 2 → n ≡ 12
   pub operators : k ≡ 3 → n ≡ 5
   pub function : k ≡ 4 → 8 ≤ n
   pub field : k ≡ 5 → 5 ≤ n
@@ -62,7 +62,7 @@ fits-any k n h =
 fits_1 : Fits 1 26
 fits_1 = record { name = λ _. refl; class = λ e. omega arith; operators = λ e. omega arith; function = λ e. omega arith; field = λ e. omega arith; visibility = λ e. omega arith }
 
-fits_2 : Fits 2 8
+fits_2 : Fits 2 12
 fits_2 = record { name = λ e. omega arith; class = λ _. refl; operators = λ e. omega arith; function = λ e. omega arith; field = λ e. omega arith; visibility = λ e. omega arith }
 
 fits_3 : Fits 3 5
@@ -122,7 +122,7 @@ module _ (kind : ℕ) (s : List ℕ) where
 
   class : eqb kind 2 ≡ true → Shape kind s (class_head s)
   unfolding class_head
-  class k = plain 8 _ 2 _ _ _ fits_2 k (omega arith) (λ _. (refl, refl)) (omega arith)
+  class k = plain 12 _ 2 _ _ _ fits_2 k (omega arith) (λ _. (refl, refl)) (omega arith)
 
   operators : eqb kind 3 ≡ true → Shape kind s (operators_head s)
   unfolding operators_head

@@ -27,10 +27,12 @@ param_fields zero = []
 param_fields (suc n) = param ∷ byte 3 ∷ type ∷ param_fields n
 
 -- The fields of a record of that kind; the first stands at byte 1. A function's count says how many parameters it has. Undefined flag and mask bits are 0.
+-- Document 02, order 6: "The class record gains two interface ids behind its superclass, 65,535 for none".
 unfoldable pub fields_of : ℕ → ℕ → List Field
 fields_of kind count =
     choose (eqb kind 1) (name ∷ [])
-    (choose (eqb kind 2) (id ∷ id_or_none ∷ id_or_none ∷ byte 1 ∷ [])  -- class: name, superclass, package, flag (bit 0: in `types`)
+    -- class: name, superclass, two interfaces, package, flag (bit 0: in `types`)
+    (choose (eqb kind 2) (id ∷ id_or_none ∷ id_or_none ∷ id_or_none ∷ id_or_none ∷ byte 1 ∷ [])
     (choose (eqb kind 3) (id ∷ mask 2047 ∷ [])  -- operator set: class, mask (bit 0 plus to bit 10 ge)
     (choose (eqb kind 4) (id_or_none ∷ id ∷ byte 3 ∷ byte 1 ∷ byte 16 ∷ type ∷ param_fields count)  -- function: owner, name, visibility, flag, count; result
     (choose (eqb kind 5) (id ∷ id ∷ type ∷ [])  -- field: owner, name, type
@@ -152,11 +154,17 @@ class_field r = value_in 0 r
 abbrev pub superclass_field : List ℕ → ℕ
 superclass_field r = value_in 1 r
 
+abbrev pub first_interface_field : List ℕ → ℕ
+first_interface_field r = value_in 2 r
+
+abbrev pub second_interface_field : List ℕ → ℕ
+second_interface_field r = value_in 3 r
+
 abbrev pub package_field : List ℕ → ℕ
-package_field r = value_in 2 r
+package_field r = value_in 4 r
 
 abbrev pub types_field : List ℕ → ℕ
-types_field r = value_in 3 r
+types_field r = value_in 5 r
 
 -- of an operator set
 abbrev pub mask_field : List ℕ → ℕ

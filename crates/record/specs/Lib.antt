@@ -5,3 +5,4 @@ pub mod Table
 pub mod Spelling
 pub mod TableRefused
 pub mod Order3
+pub mod Order6Table

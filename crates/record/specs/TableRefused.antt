@@ -1,6 +1,6 @@
 -- The numbers 1 to 7 of a table. Document 01, "Refused, and by whose doing": the first faulty record, the lowest number within it.
 use Rattle.std.specs.Prelude.{ℕ, ltb, eqb, length, Bool, false, not, ◌&&◌, ◌||◌, List, [], ◌∷◌}
-use Rattle.record.specs.Layout.{is_malformed, has_error, ids_used, param_names, record_kind, superclass_field}
+use Rattle.record.specs.Layout.{is_malformed, has_error, ids_used, param_names, record_kind, superclass_field, first_interface_field, second_interface_field}
 use Rattle.record.specs.Spelling.{builtin_names, spelled}
 use Rattle.record.specs.Table.{Record, records_of, name_count, key_of, keyed, non_empty}
 use Rattle.ty.specs.Choose.{choose}
@@ -25,6 +25,11 @@ key_repeated earlier r =
 unfoldable pub is_late : ℕ → List Record → List Record → Bool
 is_late id earlier rest = not (eqb id no_id) && (not (non_empty (keyed 2 (id ∷ []) earlier)) && non_empty (keyed 2 (id ∷ []) rest))
 
+-- a superclass or interface of a class, with a record, but not an earlier one
+abbrev pub has_late_parent : List Record → Record → List Record → Bool
+has_late_parent earlier r rest =
+    is_late (superclass_field r) earlier rest || (is_late (first_interface_field r) earlier rest || is_late (second_interface_field r) earlier rest)
+
 -- the kind of the latest of the earlier records
 abbrev pub kind_before : List Record → ℕ
 kind_before [] = 0
@@ -32,14 +37,14 @@ kind_before (r ∷ rs) = record_kind r
 
 -- The number of a record, 0 for none. `earlier` are the records before it, the latest first; `rest` is it and those behind it.
 --   2 malformed or cut record; 3 kind falls; 4 undefined id; 5 key repeated (name bytes, built-ins included; class; owner and name; a parameter's name within
---   one function); 6 a superclass with a record, but not an earlier one; 7 Error in a type, or no end within 192 bytes
+--   one function); 6 a superclass or interface with a record, but not an earlier one; 7 Error in a type, or no end within 192 bytes
 unfoldable pub record_fault : List Record → Record → List Record → ℕ
 record_fault earlier r rest =
     choose (is_malformed r) 2
     (choose (ltb (record_kind r) (kind_before earlier)) 3
     (choose (not (all_defined (ids_used r) (name_count earlier))) 4
     (choose (repeats [] (param_names r) || key_repeated earlier r) 5
-    (choose (eqb (record_kind r) 2 && is_late (superclass_field r) earlier rest) 6
+    (choose (eqb (record_kind r) 2 && has_late_parent earlier r rest) 6
     (choose (has_error r) 7
     0)))))
 

@@ -14,6 +14,9 @@ pub const LONGEST: u16 = LONGEST_TYPE;
 // The bytes of a name's record: kind, length, 24 bytes.
 pub const NAME_BYTES: usize = 26;
 
+// Those of a class's: kind, name, superclass, two interfaces, package, flag.
+pub const CLASS_BYTES: usize = 12;
+
 // The kinds of a record.
 #[derive(Clone, Copy, PartialEq, Eq)]
 pub enum RecordKind {
@@ -177,8 +180,9 @@ fn read_kind(s: &[u8], kind: RecordKind) -> Option<Head>
     match kind {
         RecordKind::Name => read_name(s),
         RecordKind::Class => {
-            let top = one.max(or_none(two).max(or_none(id_at(s, 5))));
-            plain(s, 8, 1 < byte_at(s, 7), kind, one, two, top)
+            let interfaces = or_none(id_at(s, 5)).max(or_none(id_at(s, 7)));
+            let top = one.max(or_none(two).max(interfaces.max(or_none(id_at(s, 9)))));
+            plain(s, CLASS_BYTES, 1 < byte_at(s, 11), kind, one, two, top)
         }
         RecordKind::Operators => plain(s, 5, 2047 < two, kind, one, two, one),
         RecordKind::Function => read_function_head(s),

@@ -2,5 +2,6 @@ pub mod MemberLookups
 pub mod MemberRuling
 pub mod Bases
 pub mod Order5Member
+pub mod Order6Access
 pub mod Packages
 pub mod Owners

@@ -3,6 +3,7 @@ ghost use Rattle.std.specs.Prelude.{◌≡◌};
 ghost use Rattle.symbol.specs.Lookup.{symbols_of};
 ghost use Rattle.rules.specs.Accept.{is_variable_name, is_type_variable, param_accepts};
 
+use below::above::Above;
 use index::table::Table;
 use operators::assign::can_assign_to;
 use symbol::lookups::{in_types, is_capital};
@@ -24,12 +25,12 @@ pub fn is_type_variable(table: &Table<'_>, t: &[u8]) -> bool
 
 // Whether a parameter of the type p, vararg or not, takes an argument of the type x.
 #[tactic(auto, unfolding(crate::specs::Accept::param_accepts))]
-pub fn param_accepts(table: &Table<'_>, p: &[u8], x: &[u8], vararg: bool) -> bool
-    ensures { result ≡ param_accepts (symbols_of table.now) p.now x.now vararg }
+pub fn param_accepts(above: &Above<'_>, p: &[u8], x: &[u8], vararg: bool) -> bool
+    ensures { result ≡ param_accepts (symbols_of above.now) p.now x.now vararg }
 {
     ty::same_bytes(x, p)
-        || can_assign_to(table, x, p)
-        || is_type_variable(table, p)
+        || can_assign_to(above, x, p)
+        || is_type_variable(above.table(), p)
         || vararg
         || is_kind(p, Kind::Any)
 }

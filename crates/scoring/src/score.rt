@@ -10,7 +10,7 @@ ghost use Rattle.scoring.specs.Inside.Scored.{score_of, as_score, points_of, com
 use crate::args::Args;
 use crate::parameter::{at_place, mark, named_place, next_unmarked};
 use area::types::{Slot, type_of};
-use index::table::Table;
+use below::above::Above;
 use rules::accept::param_accepts;
 use symbol::functions::{Function, Param};
 
@@ -48,21 +48,21 @@ fn add(a: Option<Score>, b: Option<Score>) -> Option<Score>
 // An argument of the type x against a parameter, and `otherwise` where there is none.
 #[tactic(auto, using(crate::proofs::Scores::comparison))]
 fn compare(
-    table: &Table<'_>,
+    above: &Above<'_>,
     param: Option<Param>,
     otherwise: Option<Score>,
     x: &[u8],
 ) -> Option<Score>
-    ensures { result ≡ as_score (compared_or (symbols_of table.now) (score_of otherwise) (param_here table.now param) x.now) }
+    ensures { result ≡ as_score (compared_or (symbols_of above.now) (score_of otherwise) (param_here above.now param) x.now) }
 {
     let Some(p) = param else {
         return otherwise;
     };
-    let t = area::part(table.bytes(), p.part);
+    let t = area::part(above.table().bytes(), p.part);
     if ty::same_bytes(x, t) {
         return Some(Score { points: 2 });
     }
-    if param_accepts(table, t, x, p.vararg) {
+    if param_accepts(above, t, x, p.vararg) {
         return Some(Score { points: 1 });
     }
     None
@@ -71,30 +71,30 @@ fn compare(
 // One argument more in the named pass: a named one is compared with the parameter of its name, which it marks.
 #[tactic(auto, using(crate::proofs::Scores::named_one_more))]
 fn named_turn(
-    table: &Table<'_>,
+    above: &Above<'_>,
     params: &[Param],
     name: Option<u16>,
     x: &[u8],
     m: NamedPass,
 ) -> NamedPass
     requires { points_of m.score ≤ 64 }
-    ensures { result ≡ named_more table.now params.now (optional name) x.now m }
+    ensures { result ≡ named_more above.now params.now (optional name) x.now m }
 {
     match name {
         None => m,
         Some(id) => {
             let place = named_place(params, id);
-            let score = add(m.score, compare(table, at_place(params, place), None, x));
+            let score = add(m.score, compare(above, at_place(params, place), None, x));
             let marks = mark(params, id, m.marks);
             NamedPass { score, marks }
         }
     }
 }
 
-// The named pass. Table, slots and arguments apart, here and below: a struct of the three would be taken apart in each function that it comes to.
+// The named pass. What is above, slots and arguments apart, here and below: a struct of the three would be taken apart in each function that it comes to.
 #[tactic(auto, using(crate::proofs::Scores::named_whole))]
-pub fn named_pass(table: &Table<'_>, params: &[Param], slots: &[Slot], args: &Args) -> NamedPass
-    ensures is { result ≡ named_in table.now params.now (args_in slots.now args.now.items) }
+pub fn named_pass(above: &Above<'_>, params: &[Param], slots: &[Slot], args: &Args) -> NamedPass
+    ensures is { result ≡ named_in above.now params.now (args_in slots.now args.now.items) }
     ensures few { points_of result.score ≤ 64 }
 {
     let mut m = NamedPass {
@@ -102,14 +102,14 @@ pub fn named_pass(table: &Table<'_>, params: &[Param], slots: &[Slot], args: &Ar
         marks: [false; 16],
     };
     for a in args.iter() {
-        m = named_turn(table, params, a.name, type_of(slots, a.node), m);
+        m = named_turn(above, params, a.name, type_of(slots, a.node), m);
     }
     m
 }
 
 // One argument more in the positional pass: an unnamed one is compared with the next parameter that is left, and scores 1 where none is.
 fn unnamed_turn(
-    table: &Table<'_>,
+    above: &Above<'_>,
     params: &[Param],
     marks: [bool; 16],
     name: Option<u16>,
@@ -117,13 +117,13 @@ fn unnamed_turn(
     w: PositionalPass,
 ) -> PositionalPass
     requires { points_of w.score ≤ 64 }
-    ensures { TakenOne table.now params.now marks (optional name) x.now w result }
+    ensures { TakenOne above.now params.now marks (optional name) x.now w result }
 {
     if name.is_some() {
         return w;
     }
     let own = next_unmarked(params, marks, w.next);
-    let one = compare(table, own.param, Some(Score { points: 1 }), x);
+    let one = compare(above, own.param, Some(Score { points: 1 }), x);
     PositionalPass {
         score: add(w.score, one),
         next: own.next,
@@ -133,13 +133,13 @@ fn unnamed_turn(
 // The positional pass.
 #[tactic(auto, using(crate::proofs::Scores::unnamed_whole))]
 fn positional_pass(
-    table: &Table<'_>,
+    above: &Above<'_>,
     params: &[Param],
     marks: [bool; 16],
     slots: &[Slot],
     args: &Args,
 ) -> Option<Score>
-    ensures is { result ≡ as_score (positional_in table.now params.now marks (args_in slots.now args.now.items)) }
+    ensures is { result ≡ as_score (positional_in above.now params.now marks (args_in slots.now args.now.items)) }
     ensures few { points_of result ≤ 64 }
 {
     let mut w = PositionalPass {
@@ -147,17 +147,17 @@ fn positional_pass(
         next: 0,
     };
     for a in args.iter() {
-        w = unnamed_turn(table, params, marks, a.name, type_of(slots, a.node), w);
+        w = unnamed_turn(above, params, marks, a.name, type_of(slots, a.node), w);
     }
     w.score
 }
 
 // The score of an overload, and none where an argument does not match.
-pub fn score_function(table: &Table<'_>, f: &Function, slots: &[Slot], args: &Args) -> Option<Score>
-    ensures { result ≡ as_score (score_in table.now f.now (args_in slots.now args.now.items)) }
+pub fn score_function(above: &Above<'_>, f: &Function, slots: &[Slot], args: &Args) -> Option<Score>
+    ensures { result ≡ as_score (score_in above.now f.now (args_in slots.now args.now.items)) }
 {
     let params = f.params.as_slice();
-    let named = named_pass(table, params, slots, args);
-    let score = positional_pass(table, params, named.marks, slots, args);
+    let named = named_pass(above, params, slots, args);
+    let score = positional_pass(above, params, named.marks, slots, args);
     add(named.score, score)
 }

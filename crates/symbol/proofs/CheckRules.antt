@@ -1,6 +1,5 @@
 -- The lemmas that the functions of the check cite together.
-use Rattle.index.proofs.KindTests.{kinds_differ, kinds_agree}
-use Rattle.symbol.proofs.SuperLate.{missing_other, missing_none, missing_told}
+use Rattle.symbol.proofs.ParentLate.{one_none, one_before, one_told}
 
--- of a superclass without an earlier record
-pub ruleset missing_rules = (missing_other, missing_none, missing_told, kinds_differ, kinds_agree)
+-- of a class without an earlier record
+pub ruleset missing_rules = (one_none, one_before, one_told)

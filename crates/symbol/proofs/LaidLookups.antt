@@ -13,14 +13,15 @@ use Rattle.record.proofs.Accepts.{accepted_clean}
 use Rattle.record.proofs.Agree.{same_error}
 use Rattle.record.proofs.NoFault.{or_false}
 use Rattle.record.proofs.EveryRecord.{Every, Own, records-own, with_every}
-use Rattle.record.proofs.Laid.{kind_byte, same_kind, same_two, same_count, key_test}
+use Rattle.record.proofs.Laid.{kind_byte, same_kind, same_two, same_first_interface, same_second_interface, same_count, key_test}
+use Rattle.record.specs.Inside.HeadFault.{first_interface_at, second_interface_at}
 use Rattle.symbol.proofs.LaidFunctions.{type_length_lem, type_place, same_function}
 use Rattle.symbol.proofs.Wholes.{field_whole}
 use Rattle.record.specs.Inside.Front.{front_of}
 use Rattle.record.specs.Inside.Keyed.{records_with, type_length}
-use Rattle.symbol.specs.Inside.FoundSymbols.{super_in, package_in, types_in, mask_in, field_in, visibility_in, any_in, overload_found}
+use Rattle.symbol.specs.Inside.FoundSymbols.{super_in, first_interface_in, second_interface_in, package_in, types_in, mask_in, field_in, visibility_in, any_in, overload_found}
 use Rattle.record.specs.Inside.FrontRecord.{count_of}
-use Rattle.record.specs.Layout.{Field, name, id, id_or_none, param, byte, mask, type, unknown, FieldAt, field_at, type_read, fields_of, fields_from, fields_in, any_field, record_kind, nth_field, field_bytes, value_in, bytes_in, superclass_field, package_field, types_field, mask_field, visibility_field, type_field}
+use Rattle.record.specs.Layout.{Field, name, id, id_or_none, param, byte, mask, type, unknown, FieldAt, field_at, type_read, fields_of, fields_from, fields_in, any_field, record_kind, nth_field, field_bytes, value_in, bytes_in, superclass_field, first_interface_field, second_interface_field, package_field, types_field, mask_field, visibility_field, type_field}
 use Rattle.symbol.specs.Lookup.{overload_of, of_first, symbols_in, symbols_of}
 use Rattle.record.specs.TableRefused.{table_fault}
 use Rattle.record.specs.Table.{Record, records_of, key_of, keyed}
@@ -69,13 +70,13 @@ module _ {A : Type 0} (d : A) (f g : Record → A) (k : ℕ) (alike : (r : Recor
 super_same : (r : Record) → record_kind r ≡ 2 → (front_of r).two ≡ value_in 1 r
 super_same r k = same_two r (omega arith)
 
-package_same : (r : Record) → record_kind r ≡ 2 → id_at r 5 ≡ value_in 2 r
+package_same : (r : Record) → record_kind r ≡ 2 → id_at r 9 ≡ value_in 4 r
 unfolding fields_of fields_from choose
-package_same r k = sym (value_by 2 2 (omega arith) r k)
+package_same r k = sym (value_by 4 2 (omega arith) r k)
 
-types_same : (r : Record) → record_kind r ≡ 2 → eqb (get_or r 7 0) 1 ≡ eqb (value_in 3 r) 1
+types_same : (r : Record) → record_kind r ≡ 2 → eqb (get_or r 11 0) 1 ≡ eqb (value_in 5 r) 1
 unfolding fields_of fields_from choose
-types_same r k = ap (λ (n : ℕ). eqb n 1) (sym (value_by 3 2 (omega arith) r k))
+types_same r k = ap (λ (n : ℕ). eqb n 1) (sym (value_by 5 2 (omega arith) r k))
 
 mask_same : (r : Record) → record_kind r ≡ 3 → some (front_of r).two ≡ some (value_in 1 r)
 mask_same r k = ap (λ (n : ℕ). some n) (same_two r (omega arith))
@@ -143,11 +144,19 @@ super_first : (rs : List Record) → super_in rs ≡ of_first no_id (λ r. (fron
 super_first [] = refl
 super_first (r ∷ rs) = refl
 
-package_first : (rs : List Record) → package_in rs ≡ of_first no_id (λ r. id_at r 5) rs
+first_interface_first : (rs : List Record) → first_interface_in rs ≡ of_first no_id first_interface_at rs
+first_interface_first [] = refl
+first_interface_first (r ∷ rs) = refl
+
+second_interface_first : (rs : List Record) → second_interface_in rs ≡ of_first no_id second_interface_at rs
+second_interface_first [] = refl
+second_interface_first (r ∷ rs) = refl
+
+package_first : (rs : List Record) → package_in rs ≡ of_first no_id (λ r. id_at r 9) rs
 package_first [] = refl
 package_first (r ∷ rs) = refl
 
-types_first : (rs : List Record) → types_in rs ≡ of_first false (λ r. eqb (get_or r 7 0) 1) rs
+types_first : (rs : List Record) → types_in rs ≡ of_first false (λ r. eqb (get_or r 11 0) 1) rs
 types_first [] = refl
 types_first (r ∷ rs) = refl
 
@@ -175,17 +184,29 @@ module _ (rs : List Record) where
       ap super_in (same_keyed 2 class 0 (omega arith) rs) ∙ super_first (keyed 2 (class ∷ []) rs)
       ∙ first_same no_id (λ r. (front_of r).two) superclass_field 2 super_same (keyed 2 (class ∷ []) rs) (keyed_kind 2 (class ∷ []) rs)
 
+  pub first_interface_told : (class : ℕ) → first_interface_in (records_with 2 class 0 rs) ≡ (symbols_in rs).first_interface_of class
+  unfolding symbols_in choose
+  first_interface_told class =
+      ap first_interface_in (same_keyed 2 class 0 (omega arith) rs) ∙ first_interface_first (keyed 2 (class ∷ []) rs)
+      ∙ first_same no_id first_interface_at first_interface_field 2 same_first_interface (keyed 2 (class ∷ []) rs) (keyed_kind 2 (class ∷ []) rs)
+
+  pub second_interface_told : (class : ℕ) → second_interface_in (records_with 2 class 0 rs) ≡ (symbols_in rs).second_interface_of class
+  unfolding symbols_in choose
+  second_interface_told class =
+      ap second_interface_in (same_keyed 2 class 0 (omega arith) rs) ∙ second_interface_first (keyed 2 (class ∷ []) rs)
+      ∙ first_same no_id second_interface_at second_interface_field 2 same_second_interface (keyed 2 (class ∷ []) rs) (keyed_kind 2 (class ∷ []) rs)
+
   pub package_told : (class : ℕ) → package_in (records_with 2 class 0 rs) ≡ (symbols_in rs).package_of class
   unfolding symbols_in choose
   package_told class =
       ap package_in (same_keyed 2 class 0 (omega arith) rs) ∙ package_first (keyed 2 (class ∷ []) rs)
-      ∙ first_same no_id (λ r. id_at r 5) package_field 2 package_same (keyed 2 (class ∷ []) rs) (keyed_kind 2 (class ∷ []) rs)
+      ∙ first_same no_id (λ r. id_at r 9) package_field 2 package_same (keyed 2 (class ∷ []) rs) (keyed_kind 2 (class ∷ []) rs)
 
   pub types_told : (class : ℕ) → types_in (records_with 2 class 0 rs) ≡ (symbols_in rs).in_types class
   unfolding symbols_in choose
   types_told class =
       ap types_in (same_keyed 2 class 0 (omega arith) rs) ∙ types_first (keyed 2 (class ∷ []) rs)
-      ∙ first_same false (λ r. eqb (get_or r 7 0) 1) (λ r. eqb (types_field r) 1) 2 types_same (keyed 2 (class ∷ []) rs) (keyed_kind 2 (class ∷ []) rs)
+      ∙ first_same false (λ r. eqb (get_or r 11 0) 1) (λ r. eqb (types_field r) 1) 2 types_same (keyed 2 (class ∷ []) rs) (keyed_kind 2 (class ∷ []) rs)
 
   pub mask_told : (class : ℕ) → mask_in (records_with 3 class 0 rs) ≡ (symbols_in rs).operators_of class
   unfolding symbols_in choose

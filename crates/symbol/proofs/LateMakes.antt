@@ -10,7 +10,7 @@ use Rattle.index.proofs.Aheads.{ahead_made}
 use Rattle.index.specs.Inside.Ahead.{marked_from, Looked}
 use Rattle.record.proofs.Records.{here_cons, before_next, records-end}
 use Rattle.record.specs.Inside.Front.{front_of}
-use Rattle.record.specs.Inside.HeadFault.{super_missing, own_fault, key_fault}
+use Rattle.record.specs.Inside.HeadFault.{parent_missing, own_fault, key_fault}
 use Rattle.record.specs.Inside.Walk.{start, Sits, CursorAt, StepIs, record_at}
 use Rattle.record.specs.Table.{Record, records_of, before}
 use Rattle.record.specs.Inside.Front.{Front}
@@ -71,15 +71,15 @@ module _ (t : List ℕ) (p : ℕ) (earlier : List Record) (r : Record) (rs : Lis
   late_own h = choose_no _ _ _ (ne_eqb _ _ h)
 
   module _ (own : own_fault earlier r ≡ 0) where
-    late_missing : super_missing earlier r ≡ true → late_from t p earlier (r ∷ rs) late ≡ marked_from t p late
+    late_missing : parent_missing earlier r ≡ true → late_from t p earlier (r ∷ rs) late ≡ marked_from t p late
     unfolding late_from
     late_missing m = choose_yes _ _ _ (eq-eqb _ _ own) ∙ choose_yes _ _ _ m
 
-    late_key : super_missing earlier r ≡ false → (key_fault earlier r (r ∷ rs) ≡ 0 → ⊥) → late_from t p earlier (r ∷ rs) late ≡ late
+    late_key : parent_missing earlier r ≡ false → (key_fault earlier r (r ∷ rs) ≡ 0 → ⊥) → late_from t p earlier (r ∷ rs) late ≡ late
     unfolding late_from
     late_key m h = choose_yes _ _ _ (eq-eqb _ _ own) ∙ choose_no _ _ _ m ∙ choose_no _ _ _ (ne_eqb _ _ h)
 
-    late_on : super_missing earlier r ≡ false → key_fault earlier r (r ∷ rs) ≡ 0
+    late_on : parent_missing earlier r ≡ false → key_fault earlier r (r ∷ rs) ≡ 0
         → late_from t p earlier (r ∷ rs) late ≡ late_from t (p + (front_of r).len) (r ∷ earlier) rs late
     unfolding late_from
     late_on m h = choose_yes _ _ _ (eq-eqb _ _ own) ∙ choose_no _ _ _ m ∙ choose_yes _ _ _ (eq-eqb _ _ h)
@@ -114,7 +114,7 @@ module _ (t late₀ late : List ℕ) (c : Cursor) (looked : Bool) (m : Noting t 
           go true q = q
           go false q = sym (cons ∙ late_own t c.at _ _ _ late (λ z. h (own ∙ z))) ∙ q
 
-      module _ (zero : f ≡ 0) (missing : Bool) (is : missing ≡ super_missing (before c.index (records_of t)) (record_at t c)) (late' : List ℕ)
+      module _ (zero : f ≡ 0) (missing : Bool) (is : missing ≡ parent_missing (before c.index (records_of t)) (record_at t c)) (late' : List ℕ)
           (made : late' ≡ late_looked t c.at missing looked late) (f₂ : ℕ)
           (key : f₂ ≡ key_fault (before c.index (records_of t)) (record_at t c) (records_of (drop c.at t))) where
         key_here_lem : f₂ ≡ key_fault (before c.index (records_of t)) (record_at t c) Here
@@ -125,7 +125,7 @@ module _ (t late₀ late : List ℕ) (c : Cursor) (looked : Bool) (m : Noting t 
         noting_key h = made ∙ go looked m missing is
           where
             go : (v : Bool) → choose v late (Left (records_of (drop c.at t))) ≡ late_made t late₀ → (w : Bool)
-                → w ≡ super_missing (before c.index (records_of t)) (record_at t c) → late_looked t c.at w v late ≡ late_made t late₀
+                → w ≡ parent_missing (before c.index (records_of t)) (record_at t c) → late_looked t c.at w v late ≡ late_made t late₀
             go true q w z = q
             go false q true z = sym (cons ∙ late_missing t c.at _ _ _ late (sym own ∙ zero) (sym z)) ∙ q
             go false q false z = sym (cons ∙ late_key t c.at _ _ _ late (sym own ∙ zero) (sym z) (λ y. h (key_here_lem ∙ y))) ∙ q
@@ -143,7 +143,7 @@ module _ (t late₀ late : List ℕ) (c : Cursor) (looked : Bool) (m : Noting t 
                 λ i. late_from t (q i) (before_next t c a p st i) (records_of (drop p.next.at t)) l
 
             go : (v : Bool) → choose v late (Left (records_of (drop c.at t))) ≡ late_made t late₀ → (w : Bool)
-                → w ≡ super_missing (before c.index (records_of t)) (record_at t c)
+                → w ≡ parent_missing (before c.index (records_of t)) (record_at t c)
                 → choose (v || w) (late_looked t c.at w v late) (late_from t p.next.at (before p.next.index (records_of t)) (records_of (drop p.next.at t)) (late_looked t c.at w v late))
                 ≡ late_made t late₀
             go true q w z = q

@@ -2,7 +2,7 @@ pub mod LaidFunctions
 pub mod Verdicts
 pub mod LaidLookups
 pub mod PlacesFound
-pub mod SuperLate
+pub mod ParentLate
 pub mod Wholes
 pub mod ParamsLaid
 pub mod ParamNames
@@ -13,6 +13,7 @@ pub mod LateMakes
 pub mod Passes
 pub mod NamePasses
 pub mod Ranks
+pub mod ClassRuns
 pub mod Subclasses
 pub mod RecordCases
 pub mod CheckRules

@@ -61,15 +61,15 @@ module _ (t : List ℕ) (a b : ℕ) where
     pub super_here : HereIs t (found t 2 a 0) 2 a 0 p → (symbols_of t).super_of a ≡ id_at t (p.at + 3)
     super_here h = rw (← super_told (records_of t) a, h.first, place-two t _ 2 a 0 p h (omega arith))
 
-    pub package_here : HereIs t (found t 2 a 0) 2 a 0 p → (symbols_of t).package_of a ≡ id_at t (p.at + 5)
+    pub package_here : HereIs t (found t 2 a 0) 2 a 0 p → (symbols_of t).package_of a ≡ id_at t (p.at + 9)
     package_here h =
         let n = (place-fits t _ 2 a 0 p h).class refl in
-        rw (← package_told (records_of t) a, h.first) (place_id t _ 2 a 0 p h 5 (omega arith))
+        rw (← package_told (records_of t) a, h.first) (place_id t _ 2 a 0 p h 9 (omega arith))
 
-    pub types_here : HereIs t (found t 2 a 0) 2 a 0 p → (symbols_of t).in_types a ≡ eqb (get_or t (p.at + 7) 0) 1
+    pub types_here : HereIs t (found t 2 a 0) 2 a 0 p → (symbols_of t).in_types a ≡ eqb (get_or t (p.at + 11) 0) 1
     types_here h =
         let n = (place-fits t _ 2 a 0 p h).class refl in
-        rw (← types_told (records_of t) a, h.first, place_byte t _ 2 a 0 p h 7 (omega arith))
+        rw (← types_told (records_of t) a, h.first, place_byte t _ 2 a 0 p h 11 (omega arith))
 
     pub mask_here : HereIs t (found t 3 a 0) 3 a 0 p → (symbols_of t).operators_of a ≡ maybe.some (id_at t (p.at + 3))
     mask_here h = rw (← mask_told (records_of t) a, h.first, place-two t _ 3 a 0 p h (omega arith))
@@ -99,6 +99,6 @@ module _ (t : List ℕ) (a b : ℕ) where
 
   -- ---- there is one or not
   pub types_answer : (f : Found) (r : Bool) → FoundIs t (found t 2 a 0) 2 a 0 f → (Said : Place → Type 0) → MatchOption f (r ≡ false) Said
-      → ((p : Place) → Said p → r ≡ eqb (get_or t (p.at + 7) 0) 1) → r ≡ (symbols_of t).in_types a
+      → ((p : Place) → Said p → r ≡ eqb (get_or t (p.at + 11) 0) 1) → r ≡ (symbols_of t).in_types a
   types_answer None r h Said m g = m ∙ sym (no_types h)
   types_answer (Some p) r h Said m g = g p m ∙ sym (types_here p h)

@@ -13,7 +13,7 @@ use Rattle.record.proofs.NameRecords.{name_by, whole_name, name_some, name_byte}
 use Rattle.record.proofs.Records.{record_own}
 use Rattle.record.specs.Inside.Front.{Front, name_head, name_front, front_of, front_at}
 use Rattle.record.specs.Inside.FrontRecord.{count_of}
-use Rattle.record.specs.Inside.HeadFault.{name_bytes, is_builtin_name, has_class, has_key, last_kind, super_late, head_fault}
+use Rattle.record.specs.Inside.HeadFault.{name_bytes, is_builtin_name, has_key, last_kind, some_parent, id_late, parent_late, head_fault}
 use Rattle.record.specs.Inside.Walk.{record_at}
 use Rattle.record.specs.Spelling.{builtin_names, spelled}
 use Rattle.record.specs.Table.{Record, records_of, before}
@@ -28,7 +28,7 @@ use Rattle.symbol.specs.declared.checks.TableFault.{TableFault}
 use Rattle.symbol.specs.declared.checks.TableFault.TheVariants.{KeyRepeated}
 use Rattle.ty.proofs.Choice.{choose_no, chosen, passed}
 use Rattle.ty.specs.Choose.{choose}
-use Rattle.ty.specs.Name.{no_id, id_defined}
+use Rattle.ty.specs.Name.{id_defined}
 
 module _ (t x : List ℕ) (c : Cursor) (a : NameAsked t x c) where
   abbrev earlier : List Record
@@ -70,7 +70,7 @@ module _ (t x : List ℕ) (c : Cursor) (a : NameAsked t x c) where
 
     -- its number: 5 for a spelling that is a built-in name's or an earlier record's
     number : fault_at t c ≡ choose (spelled (name_bytes_at t c.at) builtin_names || has_key r earlier) 5 0
-    unfolding head_fault super_late
+    unfolding head_fault parent_late
     number =
         sym (passed _ _ _ _ (ap (λ (z : Front). z.malformed) own)
         (passed _ _ _ _ (ap (λ (z : Front). ltb z.kind (last_kind earlier)) own ∙ le-ltb _ _ a.kind)
@@ -82,11 +82,11 @@ module _ (t x : List ℕ) (c : Cursor) (a : NameAsked t x c) where
             ap (λ (z : Front). z.repeated || (eqb z.kind 1 && spelled (name_bytes r) builtin_names || has_key r earlier)) own
             ∙ ap (λ (b : List ℕ). spelled b builtin_names || has_key r earlier) (sym (standing_bytes t c name_front stands refl))
 
-        late : super_late earlier r (records_of (drop c.at t)) ≡ false
+        late : parent_late earlier r (records_of (drop c.at t)) ≡ false
         late =
-            ap (λ (z : Front). eqb z.kind 2 && (not (eqb z.two no_id) && (not (has_class z.two earlier) && has_class z.two (records_of (drop c.at t))))) own
+            ap (λ (z : Front). eqb z.kind 2 && some_parent (id_late earlier (records_of (drop c.at t))) r) own
 
-        none : ◌≡◌ {A = ℕ} (choose (super_late earlier r (records_of (drop c.at t))) 6 (choose (front_of r).error 7 0)) 0
+        none : ◌≡◌ {A = ℕ} (choose (parent_late earlier r (records_of (drop c.at t))) 6 (choose (front_of r).error 7 0)) 0
         none = choose_no _ _ _ late ∙ choose_no _ _ _ (ap (λ (z : Front). z.error) own)
 
     module _ (b : List ℕ) (is : b ≡ name_bytes_at t c.at) (v : Bool) (e : v ≡ spelled b builtin_names) where

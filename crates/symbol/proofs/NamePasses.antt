@@ -3,7 +3,7 @@ use Prim.Native.Nat.{ℕ, suc, ◌≤◌, ◌<◌}
 use borrow.Author.Tests.{eqb-true, eqb-false}
 use lib.Dec.{eqb}
 use lib.ListN.{length, get_or, drop, set}
-use mathlib.Core.Bool.{Bool, true, false, not, ◌&&◌}
+use mathlib.Core.Bool.{Bool, true, false, ◌&&◌}
 use mathlib.Core.List.{List}
 use mathlib.Core.Logic.{◌⊎◌, inl, inr}
 use mathlib.Core.Path.{◌≡◌, refl, sym, ap, ◌∙◌, subst}
@@ -15,7 +15,7 @@ use Rattle.record.proofs.NameRecords.{named, named_step, broken_step, name_by, n
 use Rattle.record.proofs.NamesCounted.{walk_names, behind_counted}
 use Rattle.record.proofs.Records.{record_own, before_next}
 use Rattle.record.specs.Inside.Front.{Front, front_of, name_front, name_head, broken_head}
-use Rattle.record.specs.Inside.HeadFault.{last_kind, has_class, super_missing}
+use Rattle.record.specs.Inside.HeadFault.{last_kind, id_missing, some_parent, parent_missing}
 use Rattle.record.specs.Inside.Walk.{start, CursorAt, StepIs, Stands, record_at}
 use Rattle.record.specs.Inside.NamesBefore.{WalkAt, walk_start, behind_name}
 use Rattle.record.specs.Table.{records_of, before}
@@ -34,7 +34,6 @@ use Rattle.symbol.specs.TableFault.{table_fault_number}
 use Rattle.symbol.specs.declared.checks.Entry.TheVariants as entry
 use Rattle.symbol.specs.declared.checks.TableFault.{TableFault}
 use Rattle.ty.specs.Choose.{choose}
-use Rattle.ty.specs.Name.{no_id}
 
 -- at the start
 pub names_start : (t x : List ℕ) (w : TableWalk) → length t ≤ 60000 → w ≡ walk_start → IndexRoom t x → NamesPassed t x x w
@@ -70,11 +69,11 @@ module _ (t x₀ x : List ℕ) (w : TableWalk) (g : NamesPassed t x₀ x w) (byt
   own : (front_of (record_at t c)).malformed ≡ false → front_of (record_at t c) ≡ name_front
   own m = record_own t c (name_some t c byte) ∙ whole_name (drop c.at t) (name_byte t c byte) (ap (λ (z : Front). z.malformed) (sym (record_own t c (name_some t c byte))) ∙ m)
 
-  -- no name has a superclass to look ahead for
-  no_super : (front_of (record_at t c)).malformed ≡ false → false ≡ super_missing (before c.index (records_of t)) (record_at t c)
-  unfolding super_missing
-  no_super m =
-      ap (λ (z : Front). eqb z.kind 2 && (not (eqb z.two no_id) && not (has_class z.two (before c.index (records_of t))))) (sym (own m))
+  -- no name has a superclass or interface to look ahead for
+  no_parent : (front_of (record_at t c)).malformed ≡ false → false ≡ parent_missing (before c.index (records_of t)) (record_at t c)
+  unfolding parent_missing
+  no_parent m =
+      ap (λ (z : Front). eqb z.kind 2 && some_parent (id_missing (before c.index (records_of t))) (record_at t c)) (sym (own m))
 
   by_itself : own_fault_at t c ≡ 0 → (front_of (record_at t c)).malformed ≡ false
   by_itself z = (own-clean (before c.index (records_of t)) (record_at t c) (records_of (drop c.at t)) z).0
@@ -91,7 +90,7 @@ module _ (t x₀ x : List ℕ) (w : TableWalk) (g : NamesPassed t x₀ x w) (byt
           go false q = noting_own t late late c false (noting late) at p st (own_fault_at t c) refl (eqb-false _ 0 q)
           go true q =
               let z = eqb-true _ 0 q in
-              noting_key t late late c false (noting late) at p st (own_fault_at t c) refl z false (no_super (by_itself z)) late refl (key_fault_at t c) refl
+              noting_key t late late c false (noting late) at p st (own_fault_at t c) refl z false (no_parent (by_itself z)) late refl (key_fault_at t c) refl
               (λ k. some (fault ∙ key_number _ _ _ z ∙ k))
 
       refused : (r : TableFault) → table_fault_number r ≡ f → NameRefused t x₀ x r
@@ -149,7 +148,7 @@ module _ (t x₀ x : List ℕ) (w : TableWalk) (g : NamesPassed t x₀ x w) (byt
       later : (late : List ℕ) → Noting t late late p.next false
       unfolding late_looked choose
       later late =
-          noting_next t late late c false (noting late) at p st (own_fault_at t c) refl own_none false (no_super (by_itself own_none)) late refl (key_fault_at t c) refl
+          noting_next t late late c false (noting late) at p st (own_fault_at t c) refl own_none false (no_parent (by_itself own_none)) late refl (key_fault_at t c) refl
           key_none false refl
 
       late : (late : List ℕ) → late_from t p.next.at (before p.next.index (records_of t)) (records_of (drop p.next.at t)) late ≡ late_made t late

@@ -1,5 +1,5 @@
 -- Names have 26 bytes each, so there are few before a cursor, and ids that are defined there are low.
-use Prim.Native.Nat.{ℕ, zero, suc, ◌+◌, ◌*◌, ◌≤◌, ◌<◌, max}
+use Prim.Native.Nat.{ℕ, zero, suc, ◌+◌, ◌*◌, ◌≤◌, ◌<◌}
 use borrow.Author.Tests.{eqb-true, ne_eqb, ltb-true, lt-ltb}
 use lib.Dec.{eqb, ltb}
 use lib.ListN.{length, get_or, drop, length-append, length-drop}
@@ -13,6 +13,7 @@ use Rattle.record.specs.Inside.Front.{front_of_head}
 use Rattle.record.specs.RecordKind.{record_kind_number}
 use Rattle.ty.specs.Choose.{choose}
 use Rattle.ty.proofs.Choice.{by_choice, choose_no}
+use Rattle.index.proofs.ListSearch.{drop_id}
 use Rattle.ty.specs.Bytes.{id_at}
 use Rattle.ty.specs.Name.{first_table_id, no_id, id_defined}
 use Rattle.record.proofs.Bounds.{head_bounded}
@@ -84,30 +85,46 @@ module _ (t : List ℕ) (c : Cursor) (a : CursorAt t c) where
     pub id_low : id < late_size (length t)
     id_low = omega (arith, below, names_fit, a.inside)
 
--- ---- a superclass is among the ids that a class record examines
-record Examined (h : Front) : Type 0 where
-  two : h.kind ≡ 2 → (h.two ≡ no_id → ⊥) → h.two ≤ h.top
+-- ---- superclass and interfaces are among the ids that a class record examines
+pub record Examined (s : List ℕ) (h : Front) : Type 0 where
+  pub two : h.kind ≡ 2 → or_none h.two ≤ h.top
+  pub first_interface : h.kind ≡ 2 → or_none (id_at s 5) ≤ h.top
+  pub second_interface : h.kind ≡ 2 → or_none (id_at s 7) ≤ h.top
 
-class_examined : (s : List ℕ) → Examined (class_head s)
+pub class_examined : (s : List ℕ) → Examined s (class_head s)
 unfolding class_head plain_head
 class_examined s =
-    by_choice Examined (ltb (length s) 8) (λ _. broken) λ _.
-    by_choice Examined (ltb 1 (get_or s 7 0)) (λ _. broken) (λ _. record { two = λ _ n. superclass n })
+    by_choice (Examined s) (ltb (length s) 12) (λ _. broken) λ _.
+    by_choice (Examined s) (ltb 1 (get_or s 11 0)) (λ _. broken)
+    (λ _. record { two = λ _. omega arith; first_interface = λ _. omega arith; second_interface = λ _. omega arith })
   where
-    broken : Examined (broken_head s)
-    broken = record { two = λ e. absurd (omega arith) }
+    broken : Examined s (broken_head s)
+    broken = record { two = λ e. absurd (omega arith); first_interface = λ e. absurd (omega arith); second_interface = λ e. absurd (omega arith) }
 
-    superclass : (id_at s 3 ≡ no_id → ⊥) → id_at s 3 ≤ max (id_at s 1) (max (or_none (id_at s 3)) (or_none (id_at s 5)))
-    superclass n =
-        let e : or_none (id_at s 3) ≡ id_at s 3 = unfold or_none in choose_no (eqb (id_at s 3) no_id) 0 (id_at s 3) (ne_eqb _ _ n) in
-        omega arith
+-- so they are defined where the record's highest id is, if they are given
+abbrev pub DefinedIn : ℕ → ℕ → Type 0
+DefinedIn names id = (id ≡ no_id → ⊥) → id_defined id names ≡ true
 
-pub super_defined : (t : List ℕ) (c : Cursor) (h : Head) → Stands t c h → record_kind_number h.kind ≡ 2 → (h.two ≡ no_id → ⊥) → (names : ℕ) → id_defined h.top names ≡ true
-    → id_defined h.two names ≡ true
-super_defined t c h st k n names d =
+pub record ParentsDefined (t : List ℕ) (c : Cursor) (h : Head) (names : ℕ) : Type 0 where
+  pub two : DefinedIn names h.two
+  pub first_interface : DefinedIn names (id_at t (c.at + 5))
+  pub second_interface : DefinedIn names (id_at t (c.at + 7))
+
+pub parents_defined : (t : List ℕ) (c : Cursor) (h : Head) → Stands t c h → record_kind_number h.kind ≡ 2 → (names : ℕ) → id_defined h.top names ≡ true
+    → ParentsDefined t c h names
+parents_defined t c h st k names d =
     let e : front_of_head h ≡ class_head (drop c.at t) = st.head ∙ head_by_lem (drop c.at t) 2 (omega arith) (sym (ap (λ (x : Front). x.kind) st.head) ∙ k) ∙ by_class (drop c.at t) in
-    let x : Examined (front_of_head h) = subst Examined (sym e) (class_examined (drop c.at t)) in
-    lt-ltb h.two (first_table_id + names) (omega (arith, x.two k n, ltb-true h.top (first_table_id + names) d))
+    let x : Examined (drop c.at t) (front_of_head h) = subst (Examined (drop c.at t)) (sym e) (class_examined (drop c.at t)) in
+    record {
+      two = defined h.two (x.two k);
+      first_interface = subst (DefinedIn names) (drop_id t c.at 5) (defined (id_at (drop c.at t) 5) (x.first_interface k));
+      second_interface = subst (DefinedIn names) (drop_id t c.at 7) (defined (id_at (drop c.at t) 7) (x.second_interface k));
+    }
   where
     by_class : (s : List ℕ) → head_by 2 s ≡ class_head s
     by_class s = unfold head_by choose in refl
+
+    defined : (id : ℕ) → or_none id ≤ h.top → DefinedIn names id
+    defined id l n =
+        let e : or_none id ≡ id = unfold or_none in choose_no (eqb id no_id) 0 id (ne_eqb _ _ n) in
+        lt-ltb id (first_table_id + names) (omega (arith, ltb-true h.top (first_table_id + names) d))

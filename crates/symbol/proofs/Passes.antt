@@ -1,21 +1,22 @@
 -- The pass over a table: what holds at each record of it, and what follows at its end.
 use Prim.Native.Nat.{ℕ, zero, suc, ◌+◌, ◌≤◌, ◌<◌}
-use borrow.Author.Tests.{eqb-true, eqb-false, le-ltb, ltb-false}
+use borrow.Author.Tests.{eqb-true, eqb-false, ne_eqb, le-ltb, ltb-false}
 use lib.Dec.{eqb, ltb}
 use lib.ListN.{length, get_or, drop, set, length-drop, length-take}
 use lib.Seq.{drop-cons, get_or-drop, get_or-set_same, get_or-set_other}
-use mathlib.Core.Bool.{Bool, true, false, ◌||◌, true≢false}
+use mathlib.Core.Bool.{Bool, true, false, not, ◌||◌, true≢false}
 use mathlib.Core.List.{List, [], ◌∷◌}
 use mathlib.Core.Path.{◌≡◌, refl, sym, ap, ◌∙◌, subst}
 use native.Mathlib.Omega.{arith, not-le}
 use Rattle.ty.proofs.Choice.{chosen}
 use Rattle.ty.specs.Choose.{choose}
-use Rattle.ty.specs.Name.{id_defined}
+use Rattle.ty.specs.Name.{no_id, id_defined}
 use Rattle.index.proofs.Aheads.{looked_on}
 use Rattle.index.proofs.Chains.{entered-start, lasts_start, first_done, next_done}
-use Rattle.record.proofs.Faults.{fault_stop, fault_on, own-number, key_number, own-clean, own_rises, key_clean, missing_class, short_fault}
+use Rattle.record.proofs.Faults.{fault_stop, fault_on, own-number, key_number, own-clean, own_rises, key_clean, missing_given, short_fault}
 use Rattle.record.proofs.Bounds.{short_head}
 use Rattle.record.proofs.Laid.{same_count}
+use Rattle.record.proofs.RecordParts.{or_true}
 use Rattle.record.proofs.RecordSizes.{head_kind, head_known}
 use Rattle.record.proofs.NamesCounted.{walk_names, walk_new}
 use Rattle.record.specs.Inside.NamesBefore.{WalkAt, walk_start}
@@ -24,25 +25,26 @@ use Rattle.symbol.specs.Inside.NamesChecked.{RecordsPassed, NamesDone}
 use Rattle.symbol.proofs.Joins.{Joining, joining}
 use Rattle.symbol.proofs.IndexMakes.{placed-joined}
 use Rattle.symbol.proofs.LateMakes.{look_after, look_seen}
-use Rattle.symbol.proofs.NamesFit.{id_low, super_defined}
-use Rattle.symbol.proofs.SuperLate.{missing_is}
+use Rattle.symbol.proofs.NamesFit.{DefinedIn, ParentsDefined, parents_defined, id_low}
+use Rattle.symbol.proofs.ParentLate.{own-three, one_is, of-class, missing_some, class_id}
 use Rattle.record.proofs.Records.{here_cons, before_next, records-end, record_own}
 use Rattle.index.proofs.SearchTrees.{tree_same, tree_start_lem}
 use Rattle.record.specs.Inside.Walk.{Sits, StepIs, Stands, record_at, behind}
 use Rattle.index.specs.Inside.IndexedTable.{IndexRoom, IndexedTable}
 use Rattle.index.specs.Inside.Ahead.{late_size, LateRoom, Looked}
-use Rattle.symbol.specs.Inside.Asked.{KindLimit, Asked, Prepared, super_missing_at, fault_at, own_fault_at, key_fault_at}
-use Rattle.record.specs.Inside.HeadFault.{super_missing, own_fault, key_fault, has_key, last_kind, head_fault, found_from}
+use Rattle.symbol.specs.Inside.Asked.{KindLimit, Asked, Prepared, missing_one, none_missing, missing_at, any_missing, fault_at, own_fault_at, key_fault_at}
+use Rattle.record.specs.Inside.HeadFault.{first_interface_at, second_interface_at, id_missing, parent_missing, own_fault, key_fault, has_key, last_kind, head_fault, found_from}
 use Rattle.record.specs.Inside.Front.{front_of, front_of_head, front_at}
 use Rattle.record.specs.Inside.FrontRecord.{count_of}
 use Rattle.record.specs.TableRefused.{table_fault}
 use Rattle.record.specs.Table.{Record, records_of, name_count, before}
 use Rattle.index.specs.Inside.Index.{root_at, first_at, child_at, next_at}
-use Rattle.symbol.specs.Inside.Join.{EntryIs, KeyAsked, JoinAsked, index_joined}
+use Rattle.symbol.specs.Inside.Join.{EntryIs, AheadAsked, KeyAsked, JoinAsked, index_joined}
 use Rattle.symbol.specs.Inside.IndexMade.{placed}
 use Rattle.symbol.specs.Inside.LateMade.{late_looked}
 use Rattle.index.specs.Inside.SearchTree.{Tree}
 use Rattle.symbol.specs.declared.checks.Entry.{Entry}
+use Rattle.symbol.specs.declared.checks.Missing.{Missing}
 use Rattle.record.specs.Inside.Front.{Front}
 use Rattle.record.specs.RecordKind.{record_kind_number}
 use Rattle.record.specs.declared.front.Head.{Head}
@@ -289,7 +291,7 @@ module _ (t x late : List ℕ) (w : TableWalk) (k : RecordKind) (looked : Bool) 
 
     -- beside the others
     module _ (late' : List ℕ) (more : length late' ≡ length late) (looked' missing : Bool) (turned : looked' ≡ (looked || missing))
-        (made : late' ≡ late_looked t w.here.at missing looked late) (is : missing ≡ super_missing (before w.here.index (records_of t)) (record_at t w.here))
+        (made : late' ≡ late_looked t w.here.at missing looked late) (is : missing ≡ parent_missing (before w.here.index (records_of t)) (record_at t w.here))
         (e : Option Entry) (entry : EntryIs t x w.here e) where
       sits : Sits t w.here.at
       sits = record { index = w.here.index; at = g.passed.walk.at }
@@ -300,24 +302,64 @@ module _ (t x late : List ℕ) (w : TableWalk) (k : RecordKind) (looked : Bool) 
       seen : missing ≡ true → looked' ≡ true
       seen = look_seen t w.here.at late sits missing looked g.ahead late' looked' turned made
 
-      pub going_key : (m : Option ℕ) → m ≡ super_missing_at t w.here → KeyAsked t late' w.here h e m
-      going_key m told =
-          record {
-            stands = stands;
-            key = entry.key;
-            is = told;
-            ahead = λ id z. subst (λ (b : Bool). Looked t late' w.here.at b) (seen (is ∙ (missing_is t w.here m told id z).0)) look;
-            low = λ id z. subst (λ (i : ℕ). i < length late') (ap (λ (y : Front). y.two) own ∙ (missing_is t w.here m told id z).1)
-                (low (is ∙ (missing_is t w.here m told id z).0));
-          }
-        where
-          low : missing ≡ true → h.two < length late'
-          low z =
-              let m = missing_class (before w.here.index (records_of t)) (record_at t w.here) (sym is ∙ z) in
-              let d = super_defined t w.here h stands (ap (λ (z : Front). z.kind) own ∙ m.0) (λ y. m.1 (sym (ap (λ (z : Front). z.two) own) ∙ y))
-              (count_of 1 (before w.here.index (records_of t)))
-              (ap (λ (z : Front). id_defined z.top (count_of 1 (before w.here.index (records_of t)))) own ∙ by_itself.1) in
-              omega (arith, id_low t w.here g.passed.walk.at h.two d, g.long, more)
+      module _ (m : Missing) (told : m ≡ missing_at t w.here) where
+        -- of one that is missing the record is looked for ahead
+        ahead_asked : (field : Missing → ℕ) → field none_missing ≡ no_id → (not (eqb (field m) no_id) ≡ true → any_missing m ≡ true) → (id : ℕ)
+            → field (own-three (before w.here.index (records_of t)) (record_at t w.here)) ≡ missing_one (before w.here.index (records_of t)) id
+            → (record_kind_number h.kind ≡ 2 → DefinedIn (count_of 1 (before w.here.index (records_of t))) id)
+            → AheadAsked t late' w.here (field m)
+        ahead_asked field absent any id same defined =
+            record {
+              ahead = λ z. subst (λ (b : Bool). Looked t late' w.here.at b) (seen (missed z)) look;
+              low = λ z. subst (λ (i : ℕ). i < length late') (sym (is_id z)) (low z);
+            }
+          where
+            by : (field m ≡ no_id → ⊥) → (eqb (front_of (record_at t w.here)).kind 2 ≡ true)
+                × (field m ≡ field (own-three (before w.here.index (records_of t)) (record_at t w.here)))
+            by z = of-class (before w.here.index (records_of t)) (record_at t w.here) field absent m told z
+
+            one : (field m ≡ no_id → ⊥) → (id_missing (before w.here.index (records_of t)) id ≡ true)
+                × (missing_one (before w.here.index (records_of t)) id ≡ id)
+            one z = one_is (before w.here.index (records_of t)) id (λ y. z ((by z).1 ∙ same ∙ y))
+
+            is_id : (field m ≡ no_id → ⊥) → field m ≡ id
+            is_id z = (by z).1 ∙ same ∙ (one z).1
+
+            missed : (field m ≡ no_id → ⊥) → missing ≡ true
+            missed z = is ∙ sym (missing_some (before w.here.index (records_of t)) (record_at t w.here) m told) ∙ any (ap not (ne_eqb _ _ z))
+
+            low : (field m ≡ no_id → ⊥) → id < length late'
+            low z =
+                let d = defined (ap (λ (y : Front). y.kind) own ∙ eqb-true _ _ (by z).0) (missing_given (before w.here.index (records_of t)) id (one z).0) in
+                omega (arith, id_low t w.here g.passed.walk.at id d, g.long, more)
+
+        pub going_key : KeyAsked t late' w.here h e m
+        going_key =
+            record {
+              stands = stands;
+              key = entry.key;
+              is = told;
+              superclass =
+                  ahead_asked (λ x. x.superclass) refl (λ z. ap (λ (b : Bool). b || (not (eqb m.first_interface no_id) || not (eqb m.second_interface no_id))) z)
+                  (front_of (record_at t w.here)).two refl
+                  (λ k. subst (DefinedIn (count_of 1 (before w.here.index (records_of t)))) (ap (λ (y : Front). y.two) own) (parents k).two);
+              first_interface =
+                  ahead_asked (λ x. x.first_interface) refl
+                  (λ z. ap (λ (b : Bool). not (eqb m.superclass no_id) || (b || not (eqb m.second_interface no_id))) z ∙ or_true (not (eqb m.superclass no_id)))
+                  (first_interface_at (record_at t w.here)) refl
+                  (λ k. subst (DefinedIn (count_of 1 (before w.here.index (records_of t)))) (sym (class_id t w.here h stands k 5 (omega arith))) (parents k).first_interface);
+              second_interface =
+                  ahead_asked (λ x. x.second_interface) refl
+                  (λ z. ap (λ (b : Bool). not (eqb m.superclass no_id) || (not (eqb m.first_interface no_id) || b)) z
+                  ∙ ap (λ (b : Bool). not (eqb m.superclass no_id) || b) (or_true (not (eqb m.first_interface no_id))) ∙ or_true (not (eqb m.superclass no_id)))
+                  (second_interface_at (record_at t w.here)) refl
+                  (λ k. subst (DefinedIn (count_of 1 (before w.here.index (records_of t)))) (sym (class_id t w.here h stands k 7 (omega arith))) (parents k).second_interface);
+            }
+          where
+            parents : record_kind_number h.kind ≡ 2 → ParentsDefined t w.here h (count_of 1 (before w.here.index (records_of t)))
+            parents k =
+                parents_defined t w.here h stands k (count_of 1 (before w.here.index (records_of t)))
+                (ap (λ (z : Front). id_defined z.top (count_of 1 (before w.here.index (records_of t)))) own ∙ by_itself.1)
 
       module _ (f : ℕ) (key : f ≡ key_fault_at t w.here) (zero : f ≡ 0) where
         number : f ≡ fault_at t w.here

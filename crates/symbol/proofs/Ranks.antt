@@ -1,40 +1,35 @@
--- In an accepted table superclasses do not go round: each class has a rank of at most the number of classes, and its superclass, if there is one, a lower one.
+-- In an accepted table superclasses and interfaces do not go round: each class has a rank of at most the number of classes, and its superclass and its
+-- interfaces, if it has them, have lower ones.
 use Prim.Native.Nat.{ℕ, suc, ◌+◌, ◌-◌, ◌≤◌, ◌<◌}
 use borrow.Author.Tests.{eqb-false, ne_eqb}
 use lib.Dec.{eqb}
 use mathlib.Core.Bool.{Bool, true, false, not, ◌&&◌, ◌||◌, true≢false, false≢true}
 use mathlib.Core.List.{List, [], ◌∷◌}
 use mathlib.Core.Logic.{◌⊎◌, inl, inr, ⊎_elim}
-use mathlib.Core.Path.{◌≡◌, refl, sym, ap, ◌∙◌}
+use mathlib.Core.Path.{◌≡◌, refl, sym, ap, ◌∙◌, subst}
 use native.Mathlib.Omega.{arith}
-use Rattle.symbol.proofs.LaidLookups.{classes_told, super_told}
+use Rattle.symbol.proofs.LaidLookups.{classes_told, super_told, first_interface_told, second_interface_told}
 use Rattle.record.proofs.Accepts.{CleanFrom, accepted_clean}
 use Rattle.record.specs.Inside.Front.{front_of}
 use Rattle.record.specs.Inside.Keyed.{is_of, records_with}
-use Rattle.symbol.specs.Inside.FoundSymbols.{super_in}
-use Rattle.record.specs.Inside.HeadFault.{is_class, has_class, super_late}
+use Rattle.symbol.specs.Inside.FoundSymbols.{super_in, first_interface_in, second_interface_in}
+use Rattle.record.specs.Inside.HeadFault.{is_class, has_class, first_interface_at, second_interface_at, some_parent, id_late, parent_late}
 use Rattle.record.specs.Inside.FrontRecord.{count_of}
+use Rattle.symbol.specs.Inside.ClassRun.{classes_from, rank_in, rank_of}
 use Rattle.symbol.specs.Lookup.{symbols_of}
 use Rattle.record.specs.TableRefused.{table_fault}
 use Rattle.record.specs.Table.{Record, records_of}
+use Rattle.record.proofs.NoFault.{or_false}
+use Rattle.ty.proofs.Choice.{and_left}
 use Rattle.ty.specs.Choose.{choose}
 use Rattle.ty.specs.Name.{no_id}
 
--- how many class records there are from that of c on
-unfoldable pub classes_from : ℕ → List Record → ℕ
-classes_from c [] = 0
-classes_from c (r ∷ rs) = choose (is_class c (front_of r)) (suc (count_of 2 rs)) (classes_from c rs)
-
--- a class with a record has a rank from 1 on, the higher the later the record stands; others have 0
-unfoldable pub rank_in : List Record → ℕ → ℕ
-rank_in rs c = choose (has_class c rs) (suc (count_of 2 rs) - classes_from c rs) 0
-
 -- ---- small laws
-here : (c : ℕ) (r : Record) (rs : List Record) → is_class c (front_of r) ≡ true → classes_from c (r ∷ rs) ≡ suc (count_of 2 rs)
+pub here : (c : ℕ) (r : Record) (rs : List Record) → is_class c (front_of r) ≡ true → classes_from c (r ∷ rs) ≡ suc (count_of 2 rs)
 unfolding classes_from choose
 here c r rs e = rw e
 
-there : (c : ℕ) (r : Record) (rs : List Record) → is_class c (front_of r) ≡ false → classes_from c (r ∷ rs) ≡ classes_from c rs
+pub there : (c : ℕ) (r : Record) (rs : List Record) → is_class c (front_of r) ≡ false → classes_from c (r ∷ rs) ≡ classes_from c rs
 unfolding classes_from choose
 there c r rs e = rw e
 
@@ -46,11 +41,11 @@ counted c r rs e = go (eqb (front_of r).kind 2) e
     go true h = omega arith
     go false h = absurd (false≢true h)
 
-more : (r : Record) (rs : List Record) → count_of 2 rs ≤ count_of 2 (r ∷ rs)
+pub more : (r : Record) (rs : List Record) → count_of 2 rs ≤ count_of 2 (r ∷ rs)
 unfolding count_of
 more r rs = omega arith
 
-few : (c : ℕ) (rs : List Record) → classes_from c rs ≤ count_of 2 rs
+pub few : (c : ℕ) (rs : List Record) → classes_from c rs ≤ count_of 2 rs
 unfolding classes_from count_of
 few c [] = omega arith
 few c (r ∷ rs) = go (is_class c (front_of r)) refl (few c rs)
@@ -59,7 +54,7 @@ few c (r ∷ rs) = go (is_class c (front_of r)) refl (few c rs)
     go true e h = rw (here c r rs e, counted c r rs e) (omega arith)
     go false e h = rw (there c r rs e) (omega (arith, more r rs))
 
-some : (c : ℕ) (rs : List Record) → has_class c rs ≡ true → 0 < classes_from c rs
+pub some : (c : ℕ) (rs : List Record) → has_class c rs ≡ true → 0 < classes_from c rs
 unfolding has_class
 some c [] e = absurd (false≢true e)
 some c (r ∷ rs) e = go (is_class c (front_of r)) refl e (some c rs)
@@ -69,7 +64,7 @@ some c (r ∷ rs) e = go (is_class c (front_of r)) refl e (some c rs)
     go false i h k = rw (there c r rs i) (k h)
 
 -- the record of a class is the first that a lookup finds
-is_class_lem : (c : ℕ) (r : Record) → is_of 2 c 0 (front_of r) ≡ is_class c (front_of r)
+pub is_class_lem : (c : ℕ) (r : Record) → is_of 2 c 0 (front_of r) ≡ is_class c (front_of r)
 is_class_lem c r = go (eqb (front_of r).kind 2) (eqb (front_of r).one c)
   where
     go : (a b : Bool) → a && (b && true) ≡ a && b
@@ -77,15 +72,15 @@ is_class_lem c r = go (eqb (front_of r).kind 2) (eqb (front_of r).one c)
     go true false = refl
     go false b = refl
 
-with_here : (c : ℕ) (r : Record) (rs : List Record) → is_class c (front_of r) ≡ true → records_with 2 c 0 (r ∷ rs) ≡ r ∷ records_with 2 c 0 rs
+pub with_here : (c : ℕ) (r : Record) (rs : List Record) → is_class c (front_of r) ≡ true → records_with 2 c 0 (r ∷ rs) ≡ r ∷ records_with 2 c 0 rs
 unfolding records_with choose
 with_here c r rs e = rw (is_class_lem c r ∙ e)
 
-with_there : (c : ℕ) (r : Record) (rs : List Record) → is_class c (front_of r) ≡ false → records_with 2 c 0 (r ∷ rs) ≡ records_with 2 c 0 rs
+pub with_there : (c : ℕ) (r : Record) (rs : List Record) → is_class c (front_of r) ≡ false → records_with 2 c 0 (r ∷ rs) ≡ records_with 2 c 0 rs
 unfolding records_with choose
 with_there c r rs e = rw (is_class_lem c r ∙ e)
 
-no_record : (c : ℕ) (rs : List Record) → has_class c rs ≡ false → records_with 2 c 0 rs ≡ []
+pub no_record : (c : ℕ) (rs : List Record) → has_class c rs ≡ false → records_with 2 c 0 rs ≡ []
 unfolding has_class records_with
 no_record c [] e = refl
 no_record c (r ∷ rs) e = go (is_class c (front_of r)) refl e (no_record c rs)
@@ -94,19 +89,13 @@ no_record c (r ∷ rs) e = go (is_class c (front_of r)) refl e (no_record c rs)
     go true i h k = absurd (true≢false h)
     go false i h k = with_there c r rs i ∙ k h
 
--- ---- what an accepted record says of its superclass
-earlier_or_none : (k o : Bool) (n a b : Bool) → k && o ≡ true → n ≡ false → k && (not n && (not a && b)) ≡ false → (a ≡ true) ⊎ (b ≡ false)
-earlier_or_none true o n true b i m h = inl refl
-earlier_or_none true o false false b i m h = inr h
-earlier_or_none true o true false b i m h = absurd (true≢false m)
-earlier_or_none false o n a b i m h = absurd (false≢true i)
+-- ---- what an accepted record says of an id among its superclass and interfaces
+earlier_or_none : (n a b : Bool) → n ≡ false → (not n && not a) && b ≡ false → (a ≡ true) ⊎ (b ≡ false)
+earlier_or_none n true b m h = inl refl
+earlier_or_none false false b m h = inr h
+earlier_or_none true false b m h = absurd (true≢false m)
 
-super_stands : (earlier : List Record) (c : ℕ) (r : Record) (rest : List Record) → super_late earlier r rest ≡ false → is_class c (front_of r) ≡ true
-    → ((front_of r).two ≡ no_id → ⊥) → (has_class (front_of r).two earlier ≡ true) ⊎ (has_class (front_of r).two rest ≡ false)
-unfolding super_late
-super_stands earlier c r rest l i n = earlier_or_none (eqb (front_of r).kind 2) (eqb (front_of r).one c) (eqb (front_of r).two no_id) _ _ i (ne_eqb _ _ n) l
-
--- the superclass s of the class c, of which the record stands in rest: it stands before rest, it does not stand in rest, or it stands before c
+-- the parent s of the class c, of which the record stands in rest: it stands before rest, it does not stand in rest, or it stands before c
 abbrev Stands : List Record → ℕ → ℕ → List Record → Type 0
 Stands earlier c s rest = (has_class s earlier ≡ true) ⊎ ((has_class s rest ≡ false) ⊎ (classes_from c rest < classes_from s rest))
 
@@ -125,20 +114,47 @@ back earlier c s r rs i h = go (is_class s (front_of r)) refl
         ⊎_elim (λ a. inl (sym (ap (λ (b : Bool). b || has_class s earlier) j) ∙ a))
         (⊎_elim (λ a. inr (inl (ap (λ (b : Bool). b || has_class s rs) j ∙ a))) (λ a. inr (inr (rw (there s r rs j, there c r rs i) a)))) h
 
-stands : (earlier : List Record) (c : ℕ) (rest : List Record) → CleanFrom earlier rest → (super_in (records_with 2 c 0 rest) ≡ no_id → ⊥)
-    → Stands earlier c (super_in (records_with 2 c 0 rest)) rest
-unfolding records_with
-stands earlier c [] e n = absurd (n refl)
-stands earlier c (r ∷ rs) e n = go (is_class c (front_of r)) refl (stands (r ∷ earlier) c rs e.1)
-  where
-    go : (b : Bool) → is_class c (front_of r) ≡ b
-        → ((super_in (records_with 2 c 0 rs) ≡ no_id → ⊥) → Stands (r ∷ earlier) c (super_in (records_with 2 c 0 rs)) rs)
-        → Stands earlier c (super_in (records_with 2 c 0 (r ∷ rs))) (r ∷ rs)
-    go true i k =
-        rw (with_here c r rs i)
-        (⊎_elim (λ a. inl a) (λ a. inr (inl a))
-        (super_stands earlier c r (r ∷ rs) e.0.super i (rw (with_here c r rs i) at n)))
-    go false i k = rw (with_there c r rs i) (back earlier c _ r rs i (k (rw (with_there c r rs i) at n)))
+-- a superclass or interface: what the first record of a class says, and what that is of a record; an accepted record's is not late
+pub record ParentField (of : List Record → ℕ) (id : Record → ℕ) : Type 0 where
+  pub empty : of [] ≡ no_id
+  pub first : (r : Record) (rs : List Record) → of (r ∷ rs) ≡ id r
+  pub timely : (earlier : List Record) (r : Record) (rest : List Record) → eqb (front_of r).kind 2 ≡ true → parent_late earlier r rest ≡ false
+      → id_late earlier rest (id r) ≡ false
+
+none_late : (earlier : List Record) (r : Record) (rest : List Record) → eqb (front_of r).kind 2 ≡ true → parent_late earlier r rest ≡ false
+    → (id_late earlier rest (front_of r).two ≡ false)
+    × ((id_late earlier rest (first_interface_at r) ≡ false) × (id_late earlier rest (second_interface_at r) ≡ false))
+unfolding parent_late
+none_late earlier r rest k e =
+    let a = or_false _ _ (sym (ap (λ (b : Bool). b && some_parent (id_late earlier rest) r) k) ∙ e) in
+    (a.0, or_false _ _ a.1)
+
+superclass_parent : ParentField super_in (λ r. (front_of r).two)
+superclass_parent = record { empty = refl; first = λ r rs. refl; timely = λ earlier r rest k e. (none_late earlier r rest k e).0 }
+
+first_interface_parent : ParentField first_interface_in first_interface_at
+first_interface_parent = record { empty = refl; first = λ r rs. refl; timely = λ earlier r rest k e. (none_late earlier r rest k e).1.0 }
+
+second_interface_parent : ParentField second_interface_in second_interface_at
+second_interface_parent = record { empty = refl; first = λ r rs. refl; timely = λ earlier r rest k e. (none_late earlier r rest k e).1.1 }
+
+module _ (of : List Record → ℕ) (id : Record → ℕ) (field : ParentField of id) where
+  stands : (earlier : List Record) (c : ℕ) (rest : List Record) → CleanFrom earlier rest → (of (records_with 2 c 0 rest) ≡ no_id → ⊥)
+      → Stands earlier c (of (records_with 2 c 0 rest)) rest
+  unfolding records_with
+  stands earlier c [] e n = absurd (n field.empty)
+  stands earlier c (r ∷ rs) e n = go (is_class c (front_of r)) refl (stands (r ∷ earlier) c rs e.1)
+    where
+      go : (b : Bool) → is_class c (front_of r) ≡ b
+          → ((of (records_with 2 c 0 rs) ≡ no_id → ⊥) → Stands (r ∷ earlier) c (of (records_with 2 c 0 rs)) rs)
+          → Stands earlier c (of (records_with 2 c 0 (r ∷ rs))) (r ∷ rs)
+      go true i k =
+          let q : of (records_with 2 c 0 (r ∷ rs)) ≡ id r = ap of (with_here c r rs i) ∙ field.first r (records_with 2 c 0 rs) in
+          let l = field.timely earlier r (r ∷ rs) (and_left (eqb (front_of r).kind 2) (eqb (front_of r).one c) i) e.0.parent in
+          subst (λ (s : ℕ). Stands earlier c s (r ∷ rs)) (sym q)
+          (⊎_elim (λ a. inl a) (λ a. inr (inl a))
+          (earlier_or_none (eqb (id r) no_id) (has_class (id r) earlier) (has_class (id r) (r ∷ rs)) (ne_eqb _ _ (λ z. n (q ∙ z))) l))
+      go false i k = rw (with_there c r rs i) (back earlier c _ r rs i (k (rw (with_there c r rs i) at n)))
 
 -- ---- the laws
 module _ (rs : List Record) where
@@ -150,41 +166,49 @@ module _ (rs : List Record) where
       go true e = rw e (omega (arith, some c rs e))
       go false e = rw e (omega arith)
 
-  rank_of_lem : (c : ℕ) → has_class c rs ≡ true → rank_in rs c ≡ suc (count_of 2 rs) - classes_from c rs
+  pub rank_of_lem : (c : ℕ) → has_class c rs ≡ true → rank_in rs c ≡ suc (count_of 2 rs) - classes_from c rs
   unfolding rank_in choose
   rank_of_lem c e = rw e
 
-  rank_none : (c : ℕ) → has_class c rs ≡ false → rank_in rs c ≡ 0
+  pub rank_none : (c : ℕ) → has_class c rs ≡ false → rank_in rs c ≡ 0
   unfolding rank_in choose
   rank_none c e = rw e
 
-  has_record : (c : ℕ) → (super_in (records_with 2 c 0 rs) ≡ no_id → ⊥) → has_class c rs ≡ true
-  has_record c n = go (has_class c rs) refl
-    where
-      go : (b : Bool) → has_class c rs ≡ b → has_class c rs ≡ true
-      go true e = e
-      go false e = absurd (n (rw (no_record c rs e)))
+  module _ (of : List Record → ℕ) (id : Record → ℕ) (field : ParentField of id) where
+    has_record : (c : ℕ) → (of (records_with 2 c 0 rs) ≡ no_id → ⊥) → has_class c rs ≡ true
+    has_record c n = go (has_class c rs) refl
+      where
+        go : (b : Bool) → has_class c rs ≡ b → has_class c rs ≡ true
+        go true e = e
+        go false e = absurd (n (ap of (no_record c rs e) ∙ field.empty))
 
-  pub rank_falls : CleanFrom [] rs → (c : ℕ) → (super_in (records_with 2 c 0 rs) ≡ no_id → ⊥) → rank_in rs (super_in (records_with 2 c 0 rs)) < rank_in rs c
-  unfolding has_class
-  rank_falls e c n =
-      ⊎_elim (λ a. absurd (false≢true a))
-      (⊎_elim (λ a. rw (rank_none _ a, rank_of_lem c (has_record c n)) (omega (arith, few c rs))) (λ a. go _ (has_class (super_in (records_with 2 c 0 rs)) rs) refl a))
-      (stands [] c rs e n)
-    where
-      go : (s : ℕ) (b : Bool) → has_class s rs ≡ b → classes_from c rs < classes_from s rs → rank_in rs s < rank_in rs c
-      go s true i a = rw (rank_of_lem s i, rank_of_lem c (has_record c n)) (omega (arith, few s rs, few c rs))
-      go s false i a = rw (rank_none s i, rank_of_lem c (has_record c n)) (omega (arith, few c rs))
+    rank_falls : CleanFrom [] rs → (c : ℕ) → (of (records_with 2 c 0 rs) ≡ no_id → ⊥) → rank_in rs (of (records_with 2 c 0 rs)) < rank_in rs c
+    unfolding has_class
+    rank_falls e c n =
+        ⊎_elim (λ a. absurd (false≢true a))
+        (⊎_elim (λ a. rw (rank_none _ a, rank_of_lem c (has_record c n)) (omega (arith, few c rs))) (λ a. go _ (has_class (of (records_with 2 c 0 rs)) rs) refl a))
+        (stands of id field [] c rs e n)
+      where
+        go : (s : ℕ) (b : Bool) → has_class s rs ≡ b → classes_from c rs < classes_from s rs → rank_in rs s < rank_in rs c
+        go s true i a = rw (rank_of_lem s i, rank_of_lem c (has_record c n)) (omega (arith, few s rs, few c rs))
+        go s false i a = rw (rank_none s i, rank_of_lem c (has_record c n)) (omega (arith, few c rs))
 
 -- the same of an accepted table
-abbrev pub rank_of : List ℕ → ℕ → ℕ
-rank_of t c = rank_in (records_of t) c
-
 module _ (t : List ℕ) (e : table_fault t ≡ 0) where
+  -- of one of a class's superclass and interfaces, by a lookup `find` that finds it
+  lower-by : (of : List Record → ℕ) (id : Record → ℕ) → ParentField of id → (find : ℕ → ℕ) → ((c : ℕ) → of (records_with 2 c 0 (records_of t)) ≡ find c)
+      → (c : ℕ) → (find c ≡ no_id → ⊥) → rank_of t (find c) < rank_of t c
+  lower-by of id field find told c n =
+      rw (← told c) (rank_falls (records_of t) of id field (accepted_clean t e) c (λ z. n (sym (told c) ∙ z)))
+
   pub super_lower : (c : ℕ) → ((symbols_of t).super_of c ≡ no_id → ⊥) → rank_of t ((symbols_of t).super_of c) < rank_of t c
-  super_lower c n =
-      let s = super_told (records_of t) c in
-      rw (← s) (rank_falls (records_of t) (accepted_clean t e) c (λ z. n (sym s ∙ z)))
+  super_lower = lower-by super_in _ superclass_parent (symbols_of t).super_of (super_told (records_of t))
+
+  pub first_lower : (c : ℕ) → ((symbols_of t).first_interface_of c ≡ no_id → ⊥) → rank_of t ((symbols_of t).first_interface_of c) < rank_of t c
+  first_lower = lower-by first_interface_in _ first_interface_parent (symbols_of t).first_interface_of (first_interface_told (records_of t))
+
+  pub second_lower : (c : ℕ) → ((symbols_of t).second_interface_of c ≡ no_id → ⊥) → rank_of t ((symbols_of t).second_interface_of c) < rank_of t c
+  second_lower = lower-by second_interface_in _ second_interface_parent (symbols_of t).second_interface_of (second_interface_told (records_of t))
 
 pub class_rank : (t : List ℕ) (c : ℕ) → rank_of t c ≤ (symbols_of t).classes
 class_rank t c = omega (arith, rank_low (records_of t) c, classes_told (records_of t))

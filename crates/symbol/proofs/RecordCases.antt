@@ -22,8 +22,8 @@ pub record Is (s : List ℕ) (kind len : ℕ) (ids params : List ℕ) (bad unend
 
 pub record Kinds : Type 0 where
   pub a_name : Is names 1 26 [] [] false false false
-  pub a_class : Is (class_b ++ operators_a) 2 8 (41 ∷ 40 ∷ 40 ∷ []) [] false false false
-  pub without : Is class_a 2 8 (40 ∷ []) [] false false false
+  pub a_class : Is (class_b ++ operators_a) 2 12 (41 ∷ 40 ∷ 6 ∷ 40 ∷ []) [] false false false
+  pub without : Is class_a 2 12 (40 ∷ []) [] false false false
   pub operators : Is operators_a 3 5 (40 ∷ []) [] false false false
   pub a_function : Is functions 4 21 (40 ∷ 41 ∷ 6 ∷ 7 ∷ 40 ∷ []) (6 ∷ 7 ∷ []) false false false
   pub open_function_lem : Is open_function 4 211 (41 ∷ 40 ∷ 6 ∷ 7 ∷ []) (6 ∷ 7 ∷ []) false true true

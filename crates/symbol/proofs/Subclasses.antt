@@ -13,7 +13,8 @@ use Rattle.ty.specs.Name.{no_id, known_id, id_number}
 use Rattle.symbol.specs.Lookup.{symbols_of}
 use Rattle.record.specs.TableRefused.{table_fault}
 use Rattle.symbol.specs.Subclass.{climbs, is_subclass}
-use Rattle.symbol.proofs.Ranks.{rank_of, class_rank, super_lower, height, super_below}
+use Rattle.symbol.proofs.Ranks.{class_rank, super_lower, height, super_below}
+use Rattle.symbol.specs.Inside.ClassRun.{rank_of}
 
 unfoldable pub less : ℕ → ℕ
 less zero = zero

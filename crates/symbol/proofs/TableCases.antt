@@ -21,12 +21,28 @@ use Rattle.record.specs.Table.{records_from, of_kind, key_of, keyed}
 unfoldable pub names : List ℕ
 names = (1 ∷ 1 ∷ 65 ∷ replicate 23 0) ++ (1 ∷ 1 ∷ 98 ∷ replicate 23 0)
 
--- class A in `types`, then class b of superclass A and package A
+-- class A in `types`, then class b of superclass A, second interface 6 and package A
 unfoldable pub class_a : List ℕ
-class_a = 2 ∷ 40 ∷ 0 ∷ 255 ∷ 255 ∷ 255 ∷ 255 ∷ 1 ∷ []
+class_a = 2 ∷ 40 ∷ 0 ∷ 255 ∷ 255 ∷ 255 ∷ 255 ∷ 255 ∷ 255 ∷ 255 ∷ 255 ∷ 1 ∷ []
 
 unfoldable pub class_b : List ℕ
-class_b = 2 ∷ 41 ∷ 0 ∷ 40 ∷ 0 ∷ 40 ∷ 0 ∷ 0 ∷ []
+class_b = 2 ∷ 41 ∷ 0 ∷ 40 ∷ 0 ∷ 255 ∷ 255 ∷ 6 ∷ 0 ∷ 40 ∷ 0 ∷ 0 ∷ []
+
+-- class b with parents a, b, c, of which each has two bytes
+unfoldable pub class_of : List ℕ → List ℕ → List ℕ → List ℕ
+class_of a b c = (2 ∷ 41 ∷ 0 ∷ []) ++ a ++ b ++ c ++ (255 ∷ 255 ∷ 0 ∷ [])
+
+unfoldable pub no_one : List ℕ
+no_one = 255 ∷ 255 ∷ []
+
+unfoldable pub is_a : List ℕ
+is_a = 40 ∷ 0 ∷ []
+
+unfoldable pub is_b : List ℕ
+is_b = 41 ∷ 0 ∷ []
+
+unfoldable pub is_undefined : List ℕ
+is_undefined = 42 ∷ 0 ∷ []
 
 -- operators of A: plus and ge
 unfoldable pub operators_a : List ℕ
@@ -66,7 +82,7 @@ pub record Cases : Type 0 where
   pub long_enough : table_fault (names ++ replicate 60001 0) ≡ 1
   pub kind_0 : table_fault (0 ∷ []) ≡ 2
   pub kind_9 : table_fault (9 ∷ []) ≡ 2
-  pub cut : table_fault (names ++ (2 ∷ 40 ∷ 0 ∷ 255 ∷ 255 ∷ 255 ∷ 255 ∷ [])) ≡ 2
+  pub cut : table_fault (names ++ (2 ∷ 40 ∷ 0 ∷ 255 ∷ 255 ∷ 255 ∷ 255 ∷ 255 ∷ 255 ∷ 255 ∷ 255 ∷ [])) ≡ 2
   pub falls : table_fault (names ++ class_a ++ operators_a ++ class_b) ≡ 3
   pub falls_malformed : table_fault (names ++ class_a ++ (1 ∷ 0 ∷ [])) ≡ 2
   pub undefined : table_fault class_a ≡ 4
@@ -75,7 +91,15 @@ pub record Cases : Type 0 where
   pub builtin : table_fault (1 ∷ 3 ∷ 103 ∷ 101 ∷ 116 ∷ replicate 21 0) ≡ 5
   pub parameter : table_fault twice ≡ 5
   pub late : table_fault (names ++ class_b ++ class_a) ≡ 6
-  pub own : table_fault (names ++ (2 ∷ 40 ∷ 0 ∷ 40 ∷ 0 ∷ 255 ∷ 255 ∷ 0 ∷ [])) ≡ 6
+  pub own : table_fault (names ++ class_of is_b no_one no_one) ≡ 6
+  pub late_first : table_fault (names ++ class_of no_one is_a no_one ++ class_a) ≡ 6
+  pub late_second : table_fault (names ++ class_of no_one no_one is_a ++ class_a) ≡ 6
+  pub late_all : table_fault (names ++ class_of is_a is_a is_a ++ class_a) ≡ 6
+  pub own_second : table_fault (names ++ class_a ++ class_of is_a is_a is_b) ≡ 6
+  pub twice_taken : table_fault (names ++ class_a ++ class_of is_a is_a is_a) ≡ 0
+  pub without_record : table_fault (names ++ class_of no_one is_a is_a) ≡ 0
+  pub undefined_first : table_fault (names ++ class_of no_one is_undefined no_one) ≡ 4
+  pub undefined_second : table_fault (names ++ class_of no_one is_b is_undefined) ≡ 4
   pub hidden : table_fault (names ++ class_b ++ (9 ∷ class_a)) ≡ 2
   pub error : table_fault (names ++ (5 ∷ 40 ∷ 0 ∷ 41 ∷ 0 ∷ 12 ∷ 21 ∷ [])) ≡ 7
   pub no_end_lem : table_fault (names ++ (5 ∷ 40 ∷ 0 ∷ 41 ∷ 0 ∷ endless)) ≡ 7
@@ -89,6 +113,8 @@ pub record Cases : Type 0 where
   pub functions_repeat : table_fault (names ++ functions ++ functions) ≡ 0
   pub open_function_lem : table_fault (names ++ open_function) ≡ 7
   pub superclass : (symbols_of table).super_of 41 ≡ 40
+  pub interface_1 : (symbols_of table).first_interface_of 41 ≡ 65535
+  pub interface_2 : (symbols_of table).second_interface_of 41 ≡ 6
   pub pkg : (symbols_of table).package_of 41 ≡ 40
   pub listed : (symbols_of table).in_types 40 ≡ true
   pub unlisted : (symbols_of table).in_types 41 ≡ false
@@ -117,7 +143,7 @@ pub record Cases : Type 0 where
       (symbols_of table).functions_of 65535 41 ≡ record { builtin = true; visibility = 0; params = []; result = 11 ∷ [] } ∷ []
 
 pub cases : Cases
-unfolding choose same_bytes size_width body_length child_count number_at id_in item_of item_at no_end read_from read_type own_ids ids_from ids_in builtin_names spelled param_fields fields_of good_name fields_from any_field each_field lengths record_kind record_size value_in bytes_in records_from of_kind key_of keyed all_defined occurs repeats key_repeated is_late record_fault first_fault table_fault params_by overload_from overload_of symbols_in climbs is_subclass names class_a class_b operators_a functions field_a others table twice endless open_function
+unfolding choose same_bytes size_width body_length child_count number_at id_in item_of item_at no_end read_from read_type own_ids ids_from ids_in builtin_names spelled param_fields fields_of good_name fields_from any_field each_field lengths record_kind record_size value_in bytes_in records_from of_kind key_of keyed all_defined occurs repeats key_repeated is_late record_fault first_fault table_fault params_by overload_from overload_of symbols_in climbs is_subclass names class_a class_b class_of no_one is_a is_b is_undefined operators_a functions field_a others table twice endless open_function
 cases =
     record {
       empty = refl;
@@ -136,6 +162,14 @@ cases =
       parameter = refl;
       late = refl;
       own = refl;
+      late_first = refl;
+      late_second = refl;
+      late_all = refl;
+      own_second = refl;
+      twice_taken = refl;
+      without_record = refl;
+      undefined_first = refl;
+      undefined_second = refl;
       hidden = refl;
       error = refl;
       no_end_lem = refl;
@@ -149,6 +183,8 @@ cases =
       functions_repeat = refl;
       open_function_lem = refl;
       superclass = refl;
+      interface_1 = refl;
+      interface_2 = refl;
       pkg = refl;
       listed = refl;
       unlisted = refl;

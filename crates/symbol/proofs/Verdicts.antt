@@ -9,7 +9,7 @@ use Rattle.record.specs.Table.{records_of, name_count}
 use Rattle.symbol.specs.Inside.Checked.{checked_number}
 use Rattle.symbol.specs.TableFault.{table_fault_number}
 use Rattle.symbol.specs.declared.checks.TableFault.{TableFault}
-use Rattle.symbol.specs.declared.checks.TableFault.TheVariants.{TooLong, Malformed, KindFalls, UndefinedId, KeyRepeated, SuperclassLate, HasError}
+use Rattle.symbol.specs.declared.checks.TableFault.TheVariants.{TooLong, Malformed, KindFalls, UndefinedId, KeyRepeated, ParentLate, HasError}
 
 -- a refusal has a number
 pub fault_some : (f : TableFault) → table_fault_number f ≡ 0 → ⊥
@@ -18,7 +18,7 @@ fault_some Malformed e = omega arith
 fault_some KindFalls e = omega arith
 fault_some UndefinedId e = omega arith
 fault_some KeyRepeated e = omega arith
-fault_some SuperclassLate e = omega arith
+fault_some ParentLate e = omega arith
 fault_some HasError e = omega arith
 
 -- AN ANSWER WITH NAMES accepts the table, and has its names

@@ -10,3 +10,4 @@ pub mod FunctionFields
 pub mod LateMade
 pub mod NamesChecked
 pub mod FunctionCursor
+pub mod ClassRun

@@ -1,8 +1,8 @@
 -- What the rules see of a table, from its records' fields (document 01, "Table and question"; sema/symbol.rs).
 use Rattle.std.specs.Prelude.{ℕ, ◌-◌, ◌%◌, ltb, leb, eqb, length, get_or, drop, Bool, true, false, ◌&&◌, List, [], ◌∷◌, map}
 use Rattle.std.proofs.Math.Option.{none, some}
-use Rattle.record.specs.Layout.{FieldAt, fields_in, nth_field, field_bytes, superclass_field, package_field, types_field, mask_field, visibility_field}
-use Rattle.record.specs.Layout.{type_field}
+use Rattle.record.specs.Layout.{FieldAt, fields_in, nth_field, field_bytes, superclass_field, first_interface_field, second_interface_field, package_field}
+use Rattle.record.specs.Layout.{types_field, mask_field, visibility_field, type_field}
 use Rattle.symbol.specs.Symbols.{Param, Overload, Symbols}
 use Rattle.record.specs.Table.{Record, records_of, of_kind, keyed}
 use Rattle.ty.specs.Choose.{choose}
@@ -46,6 +46,8 @@ symbols_in rs =
     record {
       classes = length (of_kind 2 rs);
       super_of = λ class. of_first no_id superclass_field (keyed 2 (class ∷ []) rs);
+      first_interface_of = λ class. of_first no_id first_interface_field (keyed 2 (class ∷ []) rs);
+      second_interface_of = λ class. of_first no_id second_interface_field (keyed 2 (class ∷ []) rs);
       package_of = λ class. of_first no_id package_field (keyed 2 (class ∷ []) rs);
       in_types = λ class. of_first false (λ r. eqb (types_field r) 1) (keyed 2 (class ∷ []) rs);
       operators_of = λ class. of_first none (λ r. some (mask_field r)) (keyed 3 (class ∷ []) rs);

@@ -1,5 +1,5 @@
 -- What the rules see of a table: a function for each lookup. Ids are as document 01 has them, with 65,535 (`no_id`) for none in the owner of a function
--- or suspend function, in superclasses and in packages.
+-- or suspend function, in superclasses, interfaces and packages.
 use Rattle.std.specs.Prelude.{ℕ, Bool, List}
 use Rattle.std.proofs.Math.Option.{Option}
 use Rattle.ty.specs.Bytes.{Ty}
@@ -21,6 +21,8 @@ pub record Overload : Type 0 where
 pub record Symbols : Type 0 where
   pub classes : ℕ  -- how many class records there are
   pub super_of : ℕ → ℕ  -- a class's superclass
+  pub first_interface_of : ℕ → ℕ  -- a class's interfaces
+  pub second_interface_of : ℕ → ℕ
   pub package_of : ℕ → ℕ  -- a class's package
   pub in_types : ℕ → Bool  -- whether a name is in `types`
   pub operators_of : ℕ → Option ℕ  -- the mask of a class's operator set

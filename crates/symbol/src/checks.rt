@@ -1,7 +1,7 @@
 // The table's refusals.
 ghost use Rattle.std.specs.Prelude.{ℕ, List, ◌≡◌, ◌||◌, ◌≤◌, length, IfOk};
 ghost use Rattle.index.specs.Inside.Ahead.{late_size, LateRoom};
-ghost use Rattle.symbol.specs.Inside.Asked.{Asked, Prepared, Planted, super_missing_at, own_fault_at, key_fault_at};
+ghost use Rattle.symbol.specs.Inside.Asked.{Asked, Prepared, Planted, missing_one, missing_at, any_missing, is_ahead, any_ahead, own_fault_at, key_fault_at};
 ghost use Rattle.symbol.specs.Inside.Join.{EntryIs, KeyAsked, JoinAsked, index_joined};
 ghost use Rattle.symbol.specs.Inside.IndexMade.{index_made};
 ghost use Rattle.symbol.specs.Inside.LateMade.{late_looked, late_made};
@@ -21,8 +21,8 @@ use index::list::enter;
 use index::tree::{Key, search, tree_of};
 use record::front::{Head, RecordKind};
 use record::walk::{Cursor, TableWalk};
-use ty::known_id;
 use ty::name::id_defined;
+use ty::{NameId, id_at};
 
 // So many bytes a table has at most.
 const LONGEST_TABLE: usize = 60000;
@@ -38,8 +38,8 @@ pub enum TableFault {
     UndefinedId,
     // A record's key, or a parameter's name within one function.
     KeyRepeated,
-    // A superclass has a record, but not an earlier one.
-    SuperclassLate,
+    // A superclass or interface has a record, but not an earlier one.
+    ParentLate,
     // In a type; or a type has no end.
     HasError,
 }
@@ -51,6 +51,15 @@ impl TableFault {
     {
         self as u8
     }
+}
+
+// Of a class's superclass and interfaces each that has no earlier record; NameId::NONE for the others. Three ids fill a register, where each as an Option takes
+// twice as much, and every record's answer is tested.
+#[derive(Clone, Copy)]
+pub struct Missing {
+    pub superclass: u16,
+    pub first_interface: u16,
+    pub second_interface: u16,
 }
 
 // What a record that is not refused does in the index: it fills an empty entry of its tree, or joins a list of functions. An enum, as neither is a none.
@@ -79,20 +88,62 @@ fn class_before(t: &[u8], x: &[u16], me: Cursor, id: u16) -> bool
     search(t, x, key, tree_of(t, key)).is_ok()
 }
 
-// The superclass of the record h at me that has no earlier record; none where there is no such superclass.
+// The class id, if no earlier record is it; NameId::NONE otherwise.
 #[tactic(auto, using(crate::proofs::CheckRules::missing_rules))]
-fn super_missing(t: &[u8], x: &[u16], me: Cursor, h: Head) -> Option<u16>
-    requires { Prepared t.now x.now me h }
-    ensures { result ≡ super_missing_at t.now me }
+fn missing_one(t: &[u8], x: &[u16], me: Cursor, id: u16) -> u16
+    requires { CursorAt t.now me × Planted t.now x.now me.at }
+    ensures { result ≡ missing_one (before me.index (records_of t.now)) id }
 {
-    if h.kind != RecordKind::Class {
-        return None;
+    if id == NameId::NONE || class_before(t, x, me, id) {
+        return NameId::NONE;
     }
-    let id = known_id(h.two)?;
-    (!class_before(t, x, me, id)).then_some(id)
+    id
 }
 
-// Looks ahead for the classes, once, where a superclass has no earlier record; answers whether that was done.
+// The superclass and the interfaces of the record h at me that have no earlier record; of other kinds none.
+fn parents_missing(t: &[u8], x: &[u16], me: Cursor, h: Head) -> Missing
+    requires { Prepared t.now x.now me h }
+    ensures { result ≡ missing_at t.now me }
+{
+    if h.kind != RecordKind::Class {
+        return Missing {
+            superclass: NameId::NONE,
+            first_interface: NameId::NONE,
+            second_interface: NameId::NONE,
+        };
+    }
+    Missing {
+        superclass: missing_one(t, x, me, h.two),
+        first_interface: missing_one(t, x, me, id_at(t, me.at + 5)),
+        second_interface: missing_one(t, x, me, id_at(t, me.at + 7)),
+    }
+}
+
+// Whether the superclass or an interface is missing.
+fn any_missing(m: Missing) -> bool
+    ensures { result ≡ any_missing m }
+{
+    (m.superclass != NameId::NONE)
+        | ((m.first_interface != NameId::NONE) | (m.second_interface != NameId::NONE))
+}
+
+// Whether a missing class has a record at byte p or behind it, by the classes ahead.
+fn is_ahead(late: &[u16], p: usize, id: u16) -> bool
+    ensures { result ≡ is_ahead late.now p id }
+{
+    id != NameId::NONE && class_ahead(late, p, id)
+}
+
+// Whether one of the missing has a record at byte p or behind it.
+fn any_ahead(late: &[u16], p: usize, m: Missing) -> bool
+    ensures { result ≡ any_ahead late.now p m }
+{
+    is_ahead(late, p, m.superclass)
+        || is_ahead(late, p, m.first_interface)
+        || is_ahead(late, p, m.second_interface)
+}
+
+// Looks ahead for the classes, once, where a superclass or interface has no earlier record; answers whether that was done.
 // Two flags in a routine of its own: one clause says what the entries are in each case; inside check_records the loop's proof did not close.
 #[tactic(auto, using(crate::proofs::LateMakes::look_before, crate::proofs::LateMakes::look_none, crate::proofs::LateMakes::look_made))]
 fn look(t: &[u8], me: Cursor, late: &mut [u16], missing: bool, looked: bool) -> bool
@@ -153,7 +204,7 @@ fn entry_for(t: &[u8], x: &[u16], me: Cursor, h: Head) -> Option<Entry>
     }
 }
 
-// The record h at me beside the others; `missing` is its superclass if that has no earlier record.
+// The record h at me beside the others; `missing` are those of its superclass and interfaces that have no earlier record.
 #[tactic(auto, using(record::proofs::RecordSizes::stands_own), unfolding(record::specs::Inside::HeadFault::key_fault, ty::specs::Choose::choose))]
 fn check_key(
     t: &[u8],
@@ -161,7 +212,7 @@ fn check_key(
     me: Cursor,
     h: Head,
     entry: Option<Entry>,
-    missing: Option<u16>,
+    missing: Missing,
 ) -> Result<(), TableFault>
     requires { KeyAsked t.now late.now me h entry missing }
     ensures { checked_number result ≡ key_fault_at t.now me }
@@ -169,8 +220,8 @@ fn check_key(
     if entry.is_none() {
         return Err(TableFault::KeyRepeated);
     }
-    if missing.is_some_and(|id| class_ahead(late, me.at, id)) {
-        return Err(TableFault::SuperclassLate);
+    if any_ahead(late, me.at, missing) {
+        return Err(TableFault::ParentLate);
     }
     if h.error {
         return Err(TableFault::HasError);
@@ -212,8 +263,8 @@ fn check_records(t: &[u8], x: &mut [u16], late: &mut [u16]) -> Result<u16, Table
         check_own(w, h, kind)?;
         let me = w.here;
         let entry = entry_for(t, x, me, h);
-        let missing = super_missing(t, x, me, h);
-        looked = look(t, me, late, missing.is_some(), looked);
+        let missing = parents_missing(t, x, me, h);
+        looked = look(t, me, late, any_missing(missing), looked);
         check_key(t, late, me, h, entry, missing)?;
         join(x, t.len(), Place { at: me.at }, entry);
         kind = h.kind;

@@ -5,6 +5,7 @@ ghost use Rattle.record.specs.TableRefused.{table_fault};
 ghost use Rattle.symbol.specs.Inside.LookupAnswer.{optional, optional_level};
 ghost use Rattle.symbol.specs.Inside.Places.{first_place, function_places, field_part};
 ghost use Rattle.symbol.specs.Inside.FunctionCursor.{functions_first, found_here, functions_next, AtFunction};
+ghost use Rattle.symbol.specs.Inside.ClassRun.{rank_of, number_by};
 ghost use Rattle.symbol.specs.Lookup.{symbols_of};
 ghost use Rattle.ty.specs.Name.{known_id, id_number};
 
@@ -13,7 +14,7 @@ use crate::visibility::Visibility;
 use index::index::Place;
 use index::list::ListCursor;
 use index::table::Table;
-use record::front::RecordKind;
+use record::front::{CLASS_BYTES, NAME_BYTES, RecordKind};
 use ty::{NameId, Part, byte_at, id_at, id_number, known_id};
 
 // The superclass of a class, if it has one. `accepted`: a climb along superclasses ends, since in an accepted table they are earlier records.
@@ -27,12 +28,21 @@ pub fn superclass_of(table: &Table<'_>, class: u16) -> Option<u16>
     known_id(id_at(t, p.at + 3))
 }
 
+// How many class records stand before that of a class, if it has one: the classes stand behind the names.
+pub fn class_number(table: &Table<'_>, class: u16) -> Option<usize>
+    ensures { result ≡ number_by (rank_of table.now class) }
+{
+    let first = NAME_BYTES * table.name_count();
+    let p = table.seek(RecordKind::Class, class, 0)?;
+    Some((p.at - first) / CLASS_BYTES)
+}
+
 // The package of a class, if it is known.
 pub fn package_of(table: &Table<'_>, class: u16) -> Option<u16>
     ensures { result ≡ known_id ((symbols_of table.now).package_of class) }
 {
     let p = table.seek(RecordKind::Class, class, 0)?;
-    known_id(id_at(table.bytes(), p.at + 5))
+    known_id(id_at(table.bytes(), p.at + 9))
 }
 
 // Whether a name is in `types`.
@@ -41,7 +51,7 @@ pub fn in_types(table: &Table<'_>, class: u16) -> bool
 {
     let t = table.bytes();
     let p = table.seek(RecordKind::Class, class, 0);
-    p.is_some_and(|p| byte_at(t, p.at + 7) == 1)
+    p.is_some_and(|p| byte_at(t, p.at + 11) == 1)
 }
 
 // The mask of a class's operator set.

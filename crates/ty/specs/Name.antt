@@ -126,7 +126,7 @@ keys_id = 39
 abbrev pub first_table_id : ℕ
 first_table_id = 40
 
--- no name: document 01, "In owner, superclass and package fields 65,535 means none"
+-- no name: document 01, "In owner, superclass and package fields 65,535 means none"; document 02, order 6: the same in interface fields
 abbrev pub no_id : ℕ
 no_id = 65535
 

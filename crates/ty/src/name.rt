@@ -91,7 +91,7 @@ impl NameId {
     // The first id of a table's names.
     pub const FIRST_OF_TABLE: u16 = 40;
 
-    // No name, in owner, superclass and package fields.
+    // No name, in owner, superclass, interface and package fields.
     pub const NONE: u16 = 65535;
 }
 

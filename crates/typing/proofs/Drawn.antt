@@ -7,7 +7,7 @@ use native.Mathlib.Omega.{arith}
 use Rattle.record.specs.TableRefused.{table_fault}
 use Rattle.typing.proofs.Computed.{computed}
 use Rattle.typing.proofs.Demand1.{demand1, longer}
-use Rattle.typing.proofs.Samples.{letter, class, no_super, function, script, leaf, unary, int, error, named_class}
+use Rattle.typing.proofs.Samples.{letter, class, class_with, parent, no_parent, function, script, leaf, unary, int, error, named_class}
 use Rattle.typing.specs.Answer.{answer_of, zeros}
 
 -- n times address-of, before a tree
@@ -33,13 +33,17 @@ pub record Drawn : Type 0 where
   two : number (0 ∷ []) [] ≡ 2
   two_cut : number (1 ∷ 1 ∷ []) [] ≡ 2
   -- "3 kind falls;" (a class before a name)
-  three : number (class 0 no_super ++ letter 120) [] ≡ 3
+  three : number (class 0 no_parent ++ letter 120) [] ≡ 3
   -- "4 undefined id;" (class 40 without a name)
-  four : number (class 40 no_super) [] ≡ 4
+  four : number (class 40 no_parent) [] ≡ 4
+  -- of interfaces document 02 says "and undefined ones get 4" (names 40 and a second interface 41), and "an interface with a record needs it earlier, else
+  -- number 6"
+  four_interface : number (letter 120 ++ class_with 40 no_parent no_parent (parent 41)) [] ≡ 4
   -- "5 key repeated" (a name twice)
   five : number (letter 120 ++ letter 120) [] ≡ 5
   -- "6 a superclass with a record, but not an earlier one;"
-  six : number (class 0 (1 ∷ 0 ∷ []) ++ class 1 no_super) [] ≡ 6
+  six : number (class 0 (parent 1) ++ class 1 no_parent) [] ≡ 6
+  six_interface : number (class_with 0 no_parent no_parent (parent 1) ++ class 1 no_parent) [] ≡ 6
   -- "7 Error in a type, or no end within 192 bytes." (a function whose result is Error; one whose result is 192 Nullable)
   seven : number (letter 120 ++ function 40 error 0 []) [] ≡ 7
   seven_endless : number (letter 120 ++ function 40 (replicate 192 12) 0 []) [] ≡ 7
@@ -65,8 +69,10 @@ drawn = record {
   two_cut = refl;
   three = refl;
   four = refl;
+  four_interface = refl;
   five = refl;
   six = refl;
+  six_interface = refl;
   seven = refl;
   seven_endless = refl;
   eight = refl;

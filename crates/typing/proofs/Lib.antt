@@ -21,6 +21,9 @@ pub mod Samples
 pub mod Computed
 pub mod Marked
 pub mod LargeArrays
+pub mod OneTyping
+pub mod TwoWays
+pub mod Interfaces
 pub mod Drawn
 pub mod Wrong
 pub mod Distinct

@@ -13,7 +13,7 @@ use Rattle.symbol.specs.Lookup.{symbols_of}
 use Rattle.symbol.specs.Symbols.{Symbols}
 use Rattle.ty.specs.Name.{list_id, mutable_list_id, no_id}
 use Rattle.typing.proofs.Computed.{computed}
-use Rattle.typing.proofs.Samples.{letter, class, no_super, operators, function, param, script, leaf, binary, unary, named, call, int, long, float, double, boolean, string, any, error, nullable, pointer, array, list, map_to, function_to, named_class, diagnostic, Says, Passes, Fails}
+use Rattle.typing.proofs.Samples.{letter, class, parent, no_parent, operators, function, param, script, leaf, binary, unary, named, call, int, long, float, double, boolean, string, any, error, nullable, pointer, array, list, map_to, function_to, named_class, diagnostic, Says, Passes, Fails}
 use Rattle.typing.specs.Answer.{Answer, refused, answer_of, buffer_of}
 
 -- an argument of a type, with a name or without
@@ -39,11 +39,11 @@ sample_question = 255 ∷ 255 ∷ 255 ∷ 255 ∷ 0 ∷ 2 ∷ 6 ∷ 0 ∷ 0 ∷ 
 
 -- x is 40, y is 41, z is 42; y is x's superclass, and z is y's. x and z have operator sets, z's with plus; y has one with the mask, where there is one
 abbrev chain : List ℕ → List ℕ
-chain sets = letter 120 ++ (letter 121 ++ (letter 122 ++ (class 42 no_super ++ (class 41 (42 ∷ 0 ∷ []) ++ (class 40 (41 ∷ 0 ∷ []) ++ sets)))))
+chain sets = letter 120 ++ (letter 121 ++ (letter 122 ++ (class 42 no_parent ++ (class 41 (parent 42) ++ (class 40 (parent 41) ++ sets)))))
 
 -- x is 40 and y, its superclass, is 41; f is 42 and p 43
 abbrev related : List ℕ
-related = letter 120 ++ (letter 121 ++ (letter 102 ++ (letter 112 ++ (class 41 no_super ++ class 40 (41 ∷ 0 ∷ [])))))
+related = letter 120 ++ (letter 121 ++ (letter 102 ++ (letter 112 ++ (class 41 no_parent ++ class 40 (parent 41)))))
 
 -- whether a type assigns to another one under that table
 abbrev Related : List ℕ → List ℕ → Bool → Type 0

@@ -10,12 +10,20 @@ use Rattle.typing.specs.Answer.{answer_bytes, answer_of, buffer_of}
 abbrev pub letter : ℕ → List ℕ
 letter c = 1 ∷ 1 ∷ c ∷ replicate 23 0
 
--- record kind 2: a class in `types`, without package; the superclass in two bytes
-abbrev pub class : ℕ → List ℕ → List ℕ
-class id super = 2 ∷ id ∷ 0 ∷ super ++ (255 ∷ 255 ∷ 1 ∷ [])
+-- an id in two bytes, as the superclass or an interface of a class, and 65,535 for none
+abbrev pub parent : ℕ → List ℕ
+parent id = id ∷ 0 ∷ []
 
-abbrev pub no_super : List ℕ
-no_super = 255 ∷ 255 ∷ []
+abbrev pub no_parent : List ℕ
+no_parent = 255 ∷ 255 ∷ []
+
+-- record kind 2: a class in `types`, without package; its superclass and its two interfaces
+abbrev pub class_with : ℕ → List ℕ → List ℕ → List ℕ → List ℕ
+class_with id super first second = 2 ∷ id ∷ 0 ∷ super ++ (first ++ (second ++ (255 ∷ 255 ∷ 1 ∷ [])))
+
+-- and one without interfaces
+abbrev pub class : ℕ → List ℕ → List ℕ
+class id super = class_with id super no_parent no_parent
 
 -- record kind 3: an operator set with a mask below 256
 abbrev pub operators : ℕ → ℕ → List ℕ

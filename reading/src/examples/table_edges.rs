@@ -128,10 +128,12 @@ fn falling_kinds(list: &mut List) {
 }
 
 /// Each id of each kind: what it is, where it stands, and whether it may be none.
-const IDS: [(u8, &str, usize, bool); 15] = [
+const IDS: [(u8, &str, usize, bool); 17] = [
     (2, "class", 1, false),
     (2, "superclass", 3, true),
-    (2, "package", 5, true),
+    (2, "first-interface", 5, true),
+    (2, "second-interface", 7, true),
+    (2, "package", 9, true),
     (3, "class", 1, false),
     (4, "owner", 1, true),
     (4, "name", 3, false),
@@ -223,7 +225,7 @@ fn parameters(list: &mut List) {
 
 fn superclasses(list: &mut List) {
     list.of("a_superclass_behind_its_class");
-    let (below, above) = (vec![2, 1, 0, 2, 0, 255, 255, 0], record(2, 2, 0));
+    let (below, above) = (class_record(1, [2, NONE, NONE], NONE, 0), record(2, 2, 0));
     let behind = |between: &[u8]| [&below[..], between, &above].concat();
     put(list, "a-superclass-behind-a-kind-that-falls", behind(&record(3, 1, 0)), 6);
     put(list, "a-superclass-behind-kind-9", behind(&[9]), 2);

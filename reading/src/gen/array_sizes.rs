@@ -108,7 +108,7 @@ fn classes(mut place: Place) -> Pair {
     let to = around(place.below(AROUND), &named(right));
     let (mut table, question) = asked(&from, &to, place.below(3));
     // The second class record: its superclass.
-    table[26 * 2 + 8 + 3..][..2].copy_from_slice(&PAGE.to_le_bytes());
+    table[NAME * 2 + CLASS + 3..][..2].copy_from_slice(&PAGE.to_le_bytes());
     (table, question)
 }
 

@@ -3,6 +3,7 @@
 //! has sizes below 2^32 alone, no superclass, and calls of one argument, so that the Rust is a yardstick.
 
 use super::damage::telling_byte;
+use super::interfaces::put_interfaces;
 use crate::bytes::*;
 use crate::name::{built_in, NONE};
 use crate::rng::Rng;
@@ -51,6 +52,9 @@ impl Page {
         let below = if !inside && rng.chance(25) { page } else { NONE };
         table.class(page, NONE, NONE, true);
         table.class(scan, below, NONE, rng.chance(70));
+        if !inside {
+            put_interfaces(&mut rng.aside(), &mut table.records[1], &[]);
+        }
         let mut sizes: Vec<Option<u64>> = (0..1 + rng.below(2)).map(|_| *rng.pick(&SMALL)).collect();
         if !inside {
             sizes.extend((0..1 + rng.below(2)).map(|_| *rng.pick(&LARGE)));

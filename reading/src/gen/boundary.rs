@@ -282,7 +282,7 @@ pub fn boundary(rng: &mut Rng, index: u64) -> Pair {
             }
             let edge = 40 + table.records[0].len() as u16;
             let id = *rng.pick(&[edge - 1, edge, edge + 1, NONE, NONE - 1]);
-            match rng.below(12) {
+            match rng.below(14) {
                 0 => table.class(id, NONE, NONE, false),
                 1 => table.class(0, id, NONE, false),
                 2 => table.class(0, NONE, id, false),
@@ -294,6 +294,8 @@ pub fn boundary(rng: &mut Rng, index: u64) -> Pair {
                 8 => table.field(id, 0, &[INT]),
                 9 => table.visibility(id, 0, 1),
                 10 => table.suspend(id, 0),
+                11 => table.class_below(0, [NONE, id, NONE], NONE, false),
+                12 => table.class_below(0, [NONE, NONE, id], NONE, false),
                 _ => table.variant(id, 0),
             }
             (table.bytes(), plain)
@@ -322,7 +324,7 @@ pub fn boundary(rng: &mut Rng, index: u64) -> Pair {
             let i = 1 + rng.below(4);
             let record = &mut records[i];
             let at = match i {
-                1 => 7,
+                1 => CLASS - 1,
                 2 => 4,
                 3 => *rng.pick(&[5, 6, 7, 11]),
                 _ => 5,
@@ -340,18 +342,19 @@ pub fn boundary(rng: &mut Rng, index: u64) -> Pair {
             bytes[4] = rng.below(3) as u8;
             (no_table, bytes)
         }
-        // Superclasses: none, earlier, itself, later, without a record; behind a broken record.
+        // Superclasses and interfaces: none, earlier, itself, later, without a record; behind a broken record.
         19 | 20 => {
             let mut table = Table::new();
             let names: Vec<u16> = (0..4).map(|i| table.name(&format!("C{}", i))).collect();
             let order: Vec<u16> = (0..4).map(|_| *rng.pick(&names)).collect();
+            let none = [20, rng.below(101), rng.below(101)];
             for class in order.iter().take(1 + rng.below(4)) {
-                let superclass = if rng.chance(20) { NONE } else { *rng.pick(&names) };
-                table.class(*class, superclass, NONE, true);
+                let parents = none.map(|none| if rng.chance(none) { NONE } else { *rng.pick(&names) });
+                table.class_below(*class, parents, NONE, true);
             }
             let mut bytes = table.bytes();
             if rng.chance(25) {
-                let at = bytes.len() - 1 - 8 * rng.below(2);
+                let at = bytes.len() - 1 - CLASS * rng.below(2);
                 bytes[at] = 2;
             }
             (bytes, plain)
@@ -461,9 +464,9 @@ pub fn boundary(rng: &mut Rng, index: u64) -> Pair {
             table.suspend(NONE, f);
             let mut bytes = table.bytes();
             let late: Bytes = match rng.below(5) {
-                0 => vec![2, 1, 0, 255, 255, 255, 255, 0],
-                1 => vec![2, 99, 0, 255, 255, 255, 255, 0],
-                2 => vec![2, 1, 0, 255, 255, 255, 255, 2],
+                0 => class_record(1, [NONE; 3], NONE, 0),
+                1 => class_record(99, [NONE; 3], NONE, 0),
+                2 => class_record(1, [NONE; 3], NONE, 2),
                 3 => vec![3, 0, 0, 0],
                 _ => vec![6, 0, 0, 0, 0, 0],
             };

@@ -1,6 +1,6 @@
-//! Classes along superclasses (document 02, order 2): chains, trees and unrelated ones, with questions whose answer
-//! depends on who stands above whom. Half of the tables have their superclasses taken out, so that the same shapes are
-//! asked where no class has one.
+//! Classes along superclasses (document 02, order 2) and interfaces (order 6): chains, trees, towers and unrelated ones, with
+//! questions whose answer depends on who stands above whom. Half of the tables have their superclasses and interfaces taken
+//! out, so that the same shapes are asked where no class has one.
 
 use crate::bytes::*;
 use crate::name::{BUILT_IN, NONE};
@@ -106,6 +106,8 @@ struct Family {
     /// The names that serve as classes, with a record or without one.
     classes: Vec<u16>,
     superclasses: HashMap<u16, u16>,
+    /// The superclass and the interfaces of a class, each once.
+    parents: HashMap<u16, Vec<u16>>,
     /// Expressions beside leaves that have a shape's type: a field, a call without arguments.
     sources: Vec<(Shape, Bytes)>,
     lists: Vec<List>,
@@ -118,6 +120,62 @@ struct Family {
 fn shuffle<T>(rng: &mut Rng, items: &mut [T]) {
     for i in (1..items.len()).rev() {
         items.swap(i, rng.below(i + 1));
+    }
+}
+
+/// The form of a family whose classes stand in levels of three, each with all three of the level above as its parents.
+const TOWER: usize = 4;
+
+/// Who may stand above whom: one chain, a tree, a wood, chains beside each other, or a tower. Some classes have no record.
+struct Plan {
+    bare: Vec<u16>,
+    recorded: Vec<u16>,
+    form: usize,
+    length: usize,
+    /// In how many of 100 classes each of the interfaces is there.
+    interfaces: usize,
+}
+
+impl Plan {
+    fn new(rng: &mut Rng, classes: &[u16]) -> Plan {
+        let without = *rng.pick(&[0, 0, 10, 25]);
+        let (bare, recorded) = classes.iter().partition(|_| rng.chance(without));
+        let (form, length) = (rng.below(5), 2 + rng.below(6));
+        let interfaces = if form == TOWER { 100 } else { *rng.pick(&[0, 0, 20, 60, 100]) };
+        Plan { bare, recorded, form, length, interfaces }
+    }
+
+    /// An earlier class as a parent of the class at a place among those with a record, or a class without one.
+    fn parent(&self, rng: &mut Rng, i: usize, place: usize) -> Option<u16> {
+        let earlier = match self.form {
+            0 if i > 0 => Some(self.recorded[i - 1]),
+            1 if i > 0 => Some(self.recorded[rng.below(i)]),
+            2 if i > 0 && rng.chance(65) => Some(self.recorded[rng.below(i)]),
+            3 if i % self.length > 0 => Some(self.recorded[i - 1]),
+            TOWER if i >= 3 => Some(self.recorded[i / 3 * 3 - 3 + place]),
+            _ => None,
+        };
+        let alone = earlier.is_none() && rng.chance(50);
+        if !self.bare.is_empty() && (alone || rng.chance(8)) {
+            return Some(*rng.pick(&self.bare));
+        }
+        earlier
+    }
+
+    /// The superclass and the two interfaces of a class: of these now and then one is the superclass or the other.
+    fn parents(&self, rng: &mut Rng, i: usize) -> [Option<u16>; 3] {
+        let mut parents = [self.parent(rng, i, 0), None, None];
+        for place in [1, 2] {
+            if rng.chance(self.interfaces) {
+                parents[place] = match rng.below(10) {
+                    0 => parents[0],
+                    1 => parents[1],
+                    2 if i > 0 => Some(self.recorded[rng.below(i)]),
+                    _ => self.parent(rng, i, place),
+                };
+            }
+        }
+        parents
     }
 }
 
@@ -140,6 +198,7 @@ impl Family {
             table,
             classes,
             superclasses: HashMap::new(),
+            parents: HashMap::new(),
             sources: Vec::new(),
             lists: Vec::new(),
             guarded: Vec::new(),
@@ -149,40 +208,57 @@ impl Family {
         family
     }
 
-    /// Class records: one chain, a tree, a wood, or chains beside each other. Some classes have none.
     fn records(&mut self, rng: &mut Rng) {
-        let without = *rng.pick(&[0, 0, 10, 25]);
-        let (bare, recorded): (Vec<u16>, Vec<u16>) = self.classes.iter().partition(|_| rng.chance(without));
-        let (form, length) = (rng.below(4), 2 + rng.below(6));
+        let plan = Plan::new(rng, &self.classes);
         let in_types = *rng.pick(&[0, 50, 50, 100, 100]);
-        for (i, class) in recorded.iter().enumerate() {
-            let earlier = match form {
-                0 if i > 0 => Some(recorded[i - 1]),
-                1 if i > 0 => Some(recorded[rng.below(i)]),
-                2 if i > 0 && rng.chance(65) => Some(recorded[rng.below(i)]),
-                3 if i % length > 0 => Some(recorded[i - 1]),
-                _ => None,
-            };
-            let alone = earlier.is_none() && rng.chance(50);
-            let superclass =
-                if !bare.is_empty() && (alone || rng.chance(8)) { Some(*rng.pick(&bare)) } else { earlier };
-            if let Some(above) = superclass {
-                self.superclasses.insert(*class, above);
-            }
+        for (i, class) in plan.recorded.iter().enumerate() {
+            let parents = plan.parents(rng, i);
             let package = if rng.chance(20) { *rng.pick(&PARAMS[..2]) } else { NONE };
-            self.table.class(*class, superclass.unwrap_or(NONE), package, rng.chance(in_types));
+            let ids = parents.map(|parent| parent.unwrap_or(NONE));
+            self.table.class_below(*class, ids, package, rng.chance(in_types));
+            self.put_parents(*class, parents);
+        }
+    }
+
+    fn put_parents(&mut self, class: u16, parents: [Option<u16>; 3]) {
+        if let Some(above) = parents[0] {
+            self.superclasses.insert(class, above);
+        }
+        let mut each: Vec<u16> = parents.into_iter().flatten().collect();
+        each.sort_unstable();
+        each.dedup();
+        if !each.is_empty() {
+            self.parents.insert(class, each);
         }
     }
 
     /// The classes above one, the nearest first.
     fn above(&self, class: u16) -> Vec<u16> {
-        std::iter::successors(self.superclasses.get(&class), |met| self.superclasses.get(*met)).copied().collect()
+        let mut above = vec![class];
+        let mut at = 0;
+        while let Some(from) = above.get(at) {
+            let parents = self.parents.get(from).into_iter().flatten();
+            let new: Vec<u16> = parents.copied().filter(|parent| !above.contains(parent)).collect();
+            above.extend(new);
+            at += 1;
+        }
+        above.split_off(1)
     }
 
-    /// A class, mostly one that has a superclass.
+    /// One way up from a class: along superclasses, or along any parents.
+    fn way(&self, rng: &mut Rng, lowest: u16) -> Vec<u16> {
+        let along_any = rng.chance(40);
+        let step = |class: &u16| match self.parents.get(class) {
+            Some(parents) if along_any => Some(*rng.pick(parents)),
+            _ => self.superclasses.get(class).copied(),
+        };
+        std::iter::successors(Some(lowest), step).collect()
+    }
+
+    /// A class, mostly one that has a superclass or an interface.
     fn lower(&self, rng: &mut Rng) -> u16 {
         let picked: Vec<u16> = (0..4).map(|_| *rng.pick(&self.classes)).collect();
-        *picked.iter().find(|class| self.superclasses.contains_key(class)).unwrap_or(&picked[0])
+        *picked.iter().find(|class| self.parents.contains_key(class)).unwrap_or(&picked[0])
     }
 
     /// A class where another is expected: above it, below it, itself, or any.
@@ -301,14 +377,14 @@ impl Family {
         self.lists.push(List { owner, name, params, args });
     }
 
-    /// Operator sets along the classes above some, with gaps, and methods for them.
+    /// Operator sets along a way up from some classes, with gaps, and methods for them.
     fn operator_sets(&mut self, rng: &mut Rng) {
         let mut seen = HashSet::new();
         for _ in 0..1 + rng.below(3) {
             let lowest = self.lower(rng);
             let op = rng.below(11);
             self.climbs.push((lowest, op as u8));
-            let way: Vec<u16> = [vec![lowest], self.above(lowest)].concat();
+            let way = self.way(rng, lowest);
             let last = rng.below(way.len().min(6));
             for (steps, class) in way.into_iter().enumerate().take(last + 1) {
                 if rng.chance(8) || !seen.insert(class) {
@@ -459,7 +535,17 @@ fn chain_order(rng: &mut Rng, ids: &[u16]) -> Vec<u16> {
     }
 }
 
-/// The classes of a table of one chain, the top first: its own names and the first built-in ones. In some there is a gap.
+/// One of some classes, mostly one of the last three; none of none.
+fn one_before(rng: &mut Rng, classes: &[u16]) -> u16 {
+    match classes.len() {
+        0 => NONE,
+        n if rng.chance(70) => classes[n - 1 - rng.below(n.min(3))],
+        n => classes[rng.below(n)],
+    }
+}
+
+/// The classes of a table of one chain, the top first: its own names and the first built-in ones. Each has the one before it
+/// as its superclass, as an interface, or now so, now so; some have other parents too. In some chains there is a gap.
 fn chain_records(rng: &mut Rng, table: &mut Table, own: usize, built_in: usize) -> Vec<u16> {
     let names: Vec<u16> = (0..own).map(|i| table.name(&format!("C{}", i))).collect();
     let mut chain = chain_order(rng, &names);
@@ -469,14 +555,16 @@ fn chain_records(rng: &mut Rng, table: &mut Table, own: usize, built_in: usize) 
     let gap = if rng.chance(25) { rng.below(chain.len()) } else { 0 };
     // A name without a record.
     let top = if built_in < BUILT_IN.len() && rng.chance(30) { BUILT_IN.len() as u16 - 1 } else { NONE };
-    let in_types = *rng.pick(&[0, 50, 100]);
+    let (in_types, others) = (*rng.pick(&[0, 50, 100]), *rng.pick(&[0, 0, 0, 40, 100]));
+    let places: &[usize] = rng.pick::<&[usize]>(&[&[0], &[0], &[1], &[2], &[0, 1, 2]]);
     for (i, class) in chain.iter().enumerate() {
-        let superclass = match i {
+        let mut parents = [0; 3].map(|_| if rng.chance(others) { one_before(rng, &chain[..i]) } else { NONE });
+        parents[*rng.pick(places)] = match i {
             0 => top,
             _ if i == gap => NONE,
             _ => chain[i - 1],
         };
-        table.class(*class, superclass, NONE, rng.chance(in_types));
+        table.class_below(*class, parents, NONE, rng.chance(in_types));
     }
     if top != NONE {
         chain.insert(0, top);
@@ -513,11 +601,11 @@ fn chain(rng: &mut Rng, own: usize, built_in: usize) -> (Table, Bytes) {
     (table, question_in(*rng.pick(&[lowest, class, NONE]), NONE, false, &tree))
 }
 
-/// The longest chain of a table of so many bytes: 26 of name and 8 of class for its own names, 8 for a built-in one, and
-/// room for the functions.
+/// The longest chain of a table of so many bytes: a name and a class for its own names, a class for a built-in one, and room
+/// for the functions.
 fn longest_chain(rng: &mut Rng, len: usize) -> Pair {
     let built_in = *rng.pick(&[0, 3, BUILT_IN.len()]);
-    let own = (len - 8 * built_in - 180) / 34;
+    let own = (len - CLASS * built_in - 180) / (NAME + CLASS);
     let (mut table, question) = chain(rng, own, built_in);
     let left = len - table.bytes().len();
     pad(&mut table, left);
@@ -549,7 +637,7 @@ pub fn classes(rng: &mut Rng, index: u64) -> Pair {
         _ => family(rng),
     };
     if rng.chance(50) {
-        return (without_superclasses(&table), question);
+        return (without_parents(&table), question);
     }
     (table, question)
 }

@@ -77,7 +77,7 @@ fn damage_records(rng: &mut Rng, table: &[u8]) -> Bytes {
             records.insert(j.min(records.len()), moved);
         }
         4 => {
-            // Neighbours of one kind change places: a superclass may come too late.
+            // Neighbours of one kind change places: a superclass or an interface may come too late.
             if i + 1 < records.len() {
                 records.swap(i, i + 1);
             }
@@ -86,7 +86,7 @@ fn damage_records(rng: &mut Rng, table: &[u8]) -> Bytes {
             // A field of one record as another of its kind has it.
             let same: Vec<usize> = (0..records.len()).filter(|k| records[*k][0] == records[i][0]).collect();
             let other = records[*rng.pick(&same)].clone();
-            let place = 1 + 2 * rng.below(3);
+            let place = 1 + 2 * rng.below(if records[i][0] == 2 { 5 } else { 3 });
             if place + 2 <= other.len() && place + 2 <= records[i].len() {
                 records[i][place..place + 2].copy_from_slice(&other[place..place + 2]);
             }

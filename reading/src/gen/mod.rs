@@ -6,6 +6,7 @@ pub mod arrays;
 pub mod boundary;
 pub mod classes;
 pub mod damage;
+pub mod interfaces;
 pub mod load;
 pub mod model;
 pub mod names;
@@ -14,7 +15,7 @@ mod place;
 pub mod sweep;
 pub mod typed;
 
-use crate::bytes::{without_superclasses, Bytes};
+use crate::bytes::{without_parents, Bytes};
 use crate::places::with_sizes;
 use crate::rng::Rng;
 
@@ -36,7 +37,7 @@ pub enum Profile {
     Wide,
     /// Members and method calls of every base.
     Members,
-    /// Operator sets along superclass chains.
+    /// Operator sets along superclasses.
     Operators,
     /// Bases whose `name()` spells an owner.
     Outside,
@@ -62,7 +63,7 @@ pub enum Profile {
     Typed,
     /// Questions of the test load, without a table and under generated ones.
     Load,
-    /// Chains and trees of classes, half of them without superclasses.
+    /// Chains, trees and towers of classes, half of them without superclasses and interfaces.
     Classes,
     /// Every wrapping of a class where every wrapping of another is expected.
     Below,
@@ -76,9 +77,11 @@ pub enum Profile {
     Arrays,
     /// Sizes at their limits where every other is expected; flags, cuts, and bodies around the 192nd byte.
     ArraySizes,
+    /// Hierarchies of a few classes and everything that is asked of them, towers, and every class record of a few values.
+    Interfaces,
 }
 
-pub const PROFILES: [(Profile, &str); 24] = [
+pub const PROFILES: [(Profile, &str); 25] = [
     (Profile::Rich, "rich"),
     (Profile::Calls, "calls"),
     (Profile::Wide, "wide"),
@@ -103,6 +106,7 @@ pub const PROFILES: [(Profile, &str); 24] = [
     (Profile::OwnParameters, "own-parameters"),
     (Profile::Arrays, "arrays"),
     (Profile::ArraySizes, "array-sizes"),
+    (Profile::Interfaces, "interfaces"),
 ];
 
 impl Profile {
@@ -127,6 +131,7 @@ impl Profile {
             Profile::Names => Some(names::names_count()),
             Profile::OwnParameters => Some(own_parameters::own_parameters_count()),
             Profile::ArraySizes => Some(array_sizes::array_sizes_count()),
+            Profile::Interfaces => Some(interfaces::interfaces_count()),
             _ => None,
         }
     }
@@ -177,6 +182,7 @@ pub fn case(profile: Profile, seed: u64, index: u64) -> Case {
         Profile::OwnParameters => own_parameters::own_parameters(at),
         Profile::Arrays => arrays::arrays(&mut rng, index),
         Profile::ArraySizes => array_sizes::array_sizes(at),
+        Profile::Interfaces => interfaces::interfaces(at),
     };
     Case { table, question, buffer: buffer_length(&mut rng) }
 }
@@ -186,8 +192,8 @@ fn raised(size: Option<u64>) -> Option<u64> {
     size.map(|size| arrays::LEAST | size)
 }
 
-/// The profiles without an end, mixed. In every other round those that have superclasses by the way have none, so that
-/// the Rust is a yardstick of the same shapes. In every other of the rounds with superclasses, where the Rust mostly is none,
+/// The profiles without an end, mixed. In every other round those that have superclasses and interfaces by the way have none,
+/// so that the Rust is a yardstick of the same shapes. In every other of the rounds with them, where the Rust mostly is none,
 /// their Arrays with a size are large.
 pub fn mixed(seed: u64, index: u64) -> Case {
     const TURN: [(Profile, bool); 15] = [
@@ -214,7 +220,7 @@ pub fn mixed(seed: u64, index: u64) -> Case {
         _ if !by_the_way => {}
         0 => (case.table, case.question) = with_sizes(&case.table, &case.question, &raised),
         2 => {}
-        _ => case.table = without_superclasses(&case.table),
+        _ => case.table = without_parents(&case.table),
     }
     case
 }

@@ -1,5 +1,6 @@
 //! Accepted tables with accepted questions, rich in what decides overloads.
 
+use super::interfaces::put_interfaces;
 use crate::bytes::*;
 use crate::name::{built_in, BUILT_IN, NONE};
 use crate::rng::Rng;
@@ -127,7 +128,7 @@ impl Model {
         model
     }
 
-    /// Class records, each with no superclass, an earlier one, or one without a record.
+    /// Class records, each with no superclass, an earlier one, or one without a record; some with interfaces.
     fn classes(&mut self, rng: &mut Rng, with_record: &[u16]) {
         let mut without: Vec<u16> = self.params.clone();
         without.truncate(2);
@@ -148,7 +149,8 @@ impl Model {
             let package = if rng.chance(75) { *rng.pick(&self.packages) } else { NONE };
             self.table.class(*class, superclass, package, rng.chance(60));
         }
-        // A class left out above may be a superclass: it has no record, so it may stand anywhere.
+        // A class left out above may be a superclass or an interface: it has no record, so it may stand anywhere.
+        put_interfaces(&mut rng.aside(), &mut self.table.records[1], &without);
     }
 
     fn operator_sets(&mut self, rng: &mut Rng, percent: usize) {

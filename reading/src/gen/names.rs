@@ -8,9 +8,6 @@ use std::sync::OnceLock;
 
 type Pair = (Bytes, Bytes);
 
-/// The bytes of a name.
-const NAME: usize = 26;
-
 /// The most names in 60,000 bytes; 18 bytes are left then.
 const MOST: usize = 2307;
 
@@ -74,12 +71,17 @@ fn bytes_of(put: impl Fn(&mut Table)) -> Bytes {
 type Site = fn(u16) -> Bytes;
 
 /// Every field of a record that is an id or has one in its type. The last three are types of 192 bytes and more.
-const SITES: [Site; 32] = [
+const SITES: [Site; 36] = [
     |id| bytes_of(|t| t.class(id, NONE, NONE, true)),
     |id| bytes_of(|t| t.class(8, id, NONE, true)),
     |id| bytes_of(|t| t.class(8, NONE, id, false)),
     // The superclass's own record stands behind: 4, else 6.
     |id| [bytes_of(|t| t.class(8, id, NONE, true)), bytes_of(|t| t.class(id, NONE, NONE, true))].concat(),
+    |id| bytes_of(|t| t.class_below(8, [NONE, id, NONE], NONE, true)),
+    |id| bytes_of(|t| t.class_below(8, [7, NONE, id], 7, true)),
+    // The same of an interface's own record.
+    |id| [bytes_of(|t| t.class_below(8, [7, id, 7], 7, true)), bytes_of(|t| t.class(id, NONE, NONE, true))].concat(),
+    |id| [bytes_of(|t| t.class_below(8, [NONE, 7, id], 7, true)), bytes_of(|t| t.class(id, NONE, NONE, true))].concat(),
     |id| bytes_of(|t| t.operators(id, 1)),
     |id| bytes_of(|t| t.function(id, 8, 0, false, &[INT], &[])),
     |id| bytes_of(|t| t.function(8, id, 3, true, &[INT], &[])),

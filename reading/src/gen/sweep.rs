@@ -96,7 +96,7 @@ fn in_two_rounds(at: usize, once: usize, case: fn(usize) -> Pair) -> Pair {
     if at < once {
         (table, question)
     } else {
-        (without_superclasses(&table), question)
+        (without_parents(&table), question)
     }
 }
 
@@ -225,7 +225,7 @@ fn flip_inputs() -> Vec<Pair> {
     let d = table.name("D");
     let f = table.name("f");
     table.class(c, NONE, NONE, true);
-    table.class(d, c, f, true);
+    table.class_below(d, [c, f, NONE], f, true);
     table.operators(d, 3);
     table.function(NONE, f, 0, false, &[INT], &[(c, 1, vec![INT]), (d, 2, list(&named(c)))]);
     table.function(d, f, 3, true, &[STRING], &[]);
@@ -242,7 +242,7 @@ fn flip_inputs() -> Vec<Pair> {
         ],
     );
     let (table, asked) = (table.bytes(), question_in(c, f, false, &tree));
-    let flat = without_superclasses(&table);
+    let flat = without_parents(&table);
     vec![
         (table, asked.clone()),
         (vec![], question(&binary(SUB, &leaf(&function(&[&[INT]], &type_var(3))), &leaf(&map(&[INT], &[ANY]))))),

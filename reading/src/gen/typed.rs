@@ -1,5 +1,6 @@
 //! Trees built for a wanted type, so that long ones pass or fail in one place.
 
+use super::interfaces::put_interfaces;
 use crate::bytes::*;
 use crate::name::{built_in, NONE};
 use crate::rng::Rng;
@@ -218,6 +219,7 @@ pub fn typed(rng: &mut Rng) -> (Bytes, Bytes) {
     typed.pool.extend(more.into_iter().filter(|_| rng.chance(40)));
     table.class(classes[0], NONE, NONE, rng.chance(70));
     table.class(classes[1], classes[0], NONE, rng.chance(70));
+    put_interfaces(&mut rng.aside(), &mut table.records[1], &[letter]);
     for name in 26..30 {
         typed.add_list(rng, &mut table, NONE, name);
     }

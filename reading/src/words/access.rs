@@ -22,14 +22,8 @@ pub fn is_allowed(symbols: &Symbols, question: &Question, visibility: u8, owner:
     }
 }
 
-/// Whether a class is met climbing from another along superclasses.
+/// Whether a class is met climbing from another along superclasses. Document 02, order 6: "protected access and operator
+/// methods climb superclasses only".
 pub fn is_subclass(symbols: &Symbols, class: u16, above: u16) -> bool {
-    let mut climb = symbols.superclass(class);
-    while let Some(met) = climb {
-        if met == above {
-            return true;
-        }
-        climb = symbols.superclass(met);
-    }
-    false
+    symbols.climb(class).any(|met| met == above)
 }

@@ -7,12 +7,13 @@ const LIST_NAME: u16 = 1;
 const ARRAY_LIST: u16 = 2;
 const MUTABLE_LIST: u16 = 3;
 
-/// Document 02, order 2: "Named A now assigns to Named B if B is met climbing from A".
+/// Document 02, order 2: "Named A now assigns to Named B if B is met climbing from A"; order 6: "Assignability reaches
+/// through superclass and interfaces alike".
 fn is_below(symbols: &Symbols, class: u16, above: u16) -> bool {
-    symbols.met_from(class).any(|met| met == above)
+    symbols.reached_from(class).contains(&above)
 }
 
-/// "List, ArrayList and MutableList, as names, assign among themselves". A class that is met on the climb is not asked
+/// "List, ArrayList and MutableList, as names, assign among themselves". A class that is reached is not asked
 /// for this again: a class below one of them is no list name.
 fn is_list_name(ty: &[u8]) -> bool {
     matches!(named_id(ty), Some(LIST_NAME | ARRAY_LIST | MUTABLE_LIST))

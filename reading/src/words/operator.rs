@@ -1,12 +1,13 @@
 //! `operator_overload_return`: "only a Named left type. The climb stops at a class without an operator set,
-//! even if its superclass has one. A method without a function gives Any."
+//! even if its superclass has one. A method without a function gives Any." Document 02, order 6: "protected access and
+//! operator methods climb superclasses only".
 
 use super::symbols::Symbols;
 use super::types::{named_id, ANY};
 
 /// The methods are "6 plus, minus, times, div, mod, eq, ne, lt, gt, le, 16 ge", as the operators 0 to 10 and
 /// the mask's bits are: "bit 0 plus to bit 10 ge".
-const METHODS: u8 = 11;
+pub const METHODS: u8 = 11;
 const PLUS: u16 = 6;
 
 /// The class whose operator set has the operator, climbing from the left type.
@@ -14,12 +15,11 @@ pub fn class_with_method(symbols: &Symbols, op: u8, left: &[u8]) -> Option<u16> 
     if op >= METHODS {
         return None;
     }
-    let mut climb = named_id(left);
-    while let Some(class) = climb {
+    let lowest = named_id(left)?;
+    for class in std::iter::once(lowest).chain(symbols.climb(lowest)) {
         if symbols.operators(class)? >> op & 1 == 1 {
             return Some(class);
         }
-        climb = symbols.superclass(class);
     }
     None
 }

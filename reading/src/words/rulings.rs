@@ -1,15 +1,15 @@
-//! What decided a call, and what took part in it; where a climb along superclasses decided. Counted by the coverage run,
-//! no part of any answer.
+//! What decided a call, and what took part in it; where a way along superclasses and interfaces decided. Counted by the
+//! coverage run, no part of any answer.
 
 use super::access::{is_subclass, PROTECTED};
 use super::assign::can_assign_to;
 use super::binary::check_binary;
 use super::calls::{own, Argument};
-use super::operator::class_with_method;
+use super::operator::{class_with_method, METHODS};
 use super::parameter::{is_type_variable, param_accepts};
 use super::question::Question;
 use super::symbols::{Function, Param, Symbols};
-use super::types::{is_array, named_id, LARGE_ARRAY, LIST};
+use super::types::{inner, is_array, named_id, LARGE_ARRAY, LIST, NULLABLE};
 
 pub type Rulings = Vec<&'static str>;
 
@@ -54,6 +54,8 @@ pub fn of_match(
         saw("an exact match", exact);
         saw("an accepted match", !exact);
         saw("a subclass accepted", takes_subclass(symbols, param, argument));
+        saw("a class accepted through an interface", takes_interface(symbols, param, argument));
+        saw("a class accepted along two ways", takes_along_two_ways(symbols, param, argument));
         let kinds = (argument.ty[0], param.ty[0]);
         saw("an Array of another width accepted", is_array(kinds.0) && is_array(kinds.1) && kinds.0 != kinds.1);
         saw("a List accepted by a large Array", kinds == (LIST, LARGE_ARRAY));
@@ -89,17 +91,44 @@ pub fn of_mismatches(
     saw("a mismatch beside a subclass accepted", own.iter().any(subclass));
 }
 
-/// Whether an argument goes to a parameter by a climb alone.
+/// Whether an argument goes to a parameter by a way up alone.
 pub fn takes_subclass(symbols: &Symbols, param: &Param, argument: &Argument) -> bool {
     let goes = |symbols: &Symbols| can_assign_to(symbols, argument.ty, param.ty);
     goes(symbols) && !goes(&Symbols::default())
 }
 
-/// What a climb decided of a binary operator.
+/// The class in a type, behind what assignability asks itself through.
+fn core(ty: &[u8]) -> Option<u16> {
+    match ty[0] {
+        kind if is_array(kind) || kind == LIST || kind == NULLABLE => core(inner(ty)),
+        _ => named_id(ty),
+    }
+}
+
+/// The classes of an argument and of a parameter that it goes to by a way up alone.
+fn way(symbols: &Symbols, param: &Param, argument: &Argument) -> Option<(u16, u16)> {
+    let (class, above) = core(argument.ty).zip(core(param.ty))?;
+    takes_subclass(symbols, param, argument).then_some((class, above))
+}
+
+fn takes_interface(symbols: &Symbols, param: &Param, argument: &Argument) -> bool {
+    way(symbols, param, argument).is_some_and(|(class, above)| !is_subclass(symbols, class, above))
+}
+
+/// Whether two of the classes on the way have the one that is reached as a parent.
+fn takes_along_two_ways(symbols: &Symbols, param: &Param, argument: &Argument) -> bool {
+    way(symbols, param, argument).is_some_and(|(class, above)| {
+        let from = symbols.reached_from(class).into_iter().chain([class]);
+        from.filter(|from| symbols.parents(*from).any(|parent| parent == above)).count() > 1
+    })
+}
+
+/// What a way up decided of a binary operator, or an operator method that is reached through an interface alone.
 pub fn of_binary(symbols: &Symbols, op: u8, left: &[u8], right: &[u8]) -> Option<&'static str> {
     match class_with_method(symbols, op, left) {
         Some(class) if named_id(left) != Some(class) => Some("an operator method of a superclass"),
         Some(_) => None,
+        None if method_of_an_interface(symbols, op, left) => Some("an operator method of an interface, not taken"),
         None => {
             let quiet = |symbols: &Symbols| check_binary(symbols, op, left, right).reports.is_empty();
             (quiet(symbols) && !quiet(&Symbols::default())).then_some("a comparison with a class above")
@@ -107,10 +136,19 @@ pub fn of_binary(symbols: &Symbols, op: u8, left: &[u8], right: &[u8]) -> Option
     }
 }
 
-/// What a climb decided of access to a member or function of this visibility.
+fn method_of_an_interface(symbols: &Symbols, op: u8, left: &[u8]) -> bool {
+    let Some(class) = named_id(left).filter(|_| op < METHODS) else { return false };
+    let has = |above: &u16| symbols.operators(*above).is_some_and(|mask| mask >> op & 1 == 1);
+    symbols.reached_from(class).iter().any(|above| has(above) && !is_subclass(symbols, class, *above))
+}
+
+/// What a climb decided of access to a member or function of this visibility, or that a way through an interface did not.
 pub fn of_access(symbols: &Symbols, question: &Question, visibility: u8, owner: u16) -> Option<&'static str> {
     let class = question.current.filter(|class| visibility == PROTECTED && *class != owner)?;
-    is_subclass(symbols, class, owner).then_some("protected access from a subclass")
+    if is_subclass(symbols, class, owner) {
+        return Some("protected access from a subclass");
+    }
+    symbols.reached_from(class).contains(&owner).then_some("protected access through an interface, not given")
 }
 
 /// The same of a member of an object.

@@ -1,9 +1,9 @@
 //! Lookups under an accepted table. "A list is the functions of one owner and name." "A function list keeps
 //! table order; its first entry serves access, suspend, operator and member lookups."
 
-use super::table::or_none;
+use super::table::{or_none, ClassForm};
 use super::types::{first, two_bytes};
-use crate::name::BUILT_IN;
+use crate::name::{BUILT_IN, NONE};
 use std::collections::{HashMap, HashSet};
 
 /// "per parameter name, flag (bit 0 default, bit 1 vararg), type".
@@ -27,6 +27,7 @@ pub struct Function<'a> {
 #[derive(Debug)]
 struct Class {
     superclass: Option<u16>,
+    interfaces: [Option<u16>; 2],
     package: Option<u16>,
     in_types: bool,
 }
@@ -49,16 +50,21 @@ pub struct Symbols<'a> {
 impl<'a> Symbols<'a> {
     /// Reads an accepted table, without any check.
     pub fn of(table: &'a [u8]) -> Symbols<'a> {
+        Symbols::of_form(table, ClassForm::Now)
+    }
+
+    /// The same of a table with class records of this form.
+    pub fn of_form(table: &'a [u8], form: ClassForm) -> Symbols<'a> {
         let mut symbols = Symbols::default();
         let mut rest = table;
         while !rest.is_empty() {
-            rest = &rest[symbols.take(rest)..];
+            rest = &rest[symbols.take(rest, form)..];
         }
         symbols
     }
 
     /// Takes one record; answers its length.
-    fn take(&mut self, r: &'a [u8]) -> usize {
+    fn take(&mut self, r: &'a [u8], form: ClassForm) -> usize {
         if r[0] == 1 {
             self.names.push(&r[2..2 + r[1] as usize]);
             return 26;
@@ -67,9 +73,9 @@ impl<'a> Symbols<'a> {
         let key = (or_none(id(1)), id(3));
         match r[0] {
             2 => {
-                let class = Class { superclass: or_none(id(3)), package: or_none(id(5)), in_types: r[7] == 1 };
+                let (class, len) = class(r, form);
                 self.classes.insert(id(1), class);
-                8
+                len
             }
             3 => {
                 self.operators.insert(id(1), id(3));
@@ -113,10 +119,27 @@ impl<'a> Symbols<'a> {
         self.classes.get(&class)?.superclass
     }
 
-    /// The classes that are met climbing from one along superclasses, the nearest first. Every class record climbs, in
-    /// `types` or not; a superclass without a record is met, and the climb ends there.
-    pub fn met_from(&self, class: u16) -> impl Iterator<Item = u16> + '_ {
-        std::iter::successors(self.superclass(class), |met| self.superclass(*met))
+    /// The classes above one along superclasses, the nearest first. No accepted table has a ring of them; a climb ends all the
+    /// same.
+    pub fn climb(&self, class: u16) -> impl Iterator<Item = u16> + '_ {
+        std::iter::successors(self.superclass(class), |met| self.superclass(*met)).take(NONE as usize)
+    }
+
+    /// The superclass and the interfaces of a class.
+    pub fn parents(&self, class: u16) -> impl Iterator<Item = u16> + '_ {
+        let class = self.classes.get(&class);
+        class.into_iter().flat_map(|class| [class.superclass, class.interfaces[0], class.interfaces[1]]).flatten()
+    }
+
+    /// The classes that are reached from one. Document 02, order 6: "Assignability reaches through superclass and interfaces
+    /// alike". Every class record leads on, in `types` or not; a class without a record is reached, and the way ends there.
+    pub fn reached_from(&self, class: u16) -> HashSet<u16> {
+        let mut reached = HashSet::new();
+        let mut open = vec![class];
+        while let Some(from) = open.pop() {
+            open.extend(self.parents(from).filter(|parent| reached.insert(*parent)));
+        }
+        reached
     }
 
     pub fn package(&self, class: u16) -> Option<u16> {
@@ -150,6 +173,16 @@ impl<'a> Symbols<'a> {
 
     pub fn is_variant(&self, owner: u16, name: u16) -> bool {
         self.variants.contains(&(Some(owner), name))
+    }
+}
+
+/// A class's record, and its length.
+fn class(r: &[u8], form: ClassForm) -> (Class, usize) {
+    let id = |at| or_none(two_bytes(r, at));
+    let superclass = id(3);
+    match form {
+        ClassForm::Older => (Class { superclass, interfaces: [None; 2], package: id(5), in_types: r[7] == 1 }, 8),
+        ClassForm::Now => (Class { superclass, interfaces: [id(5), id(7)], package: id(9), in_types: r[11] == 1 }, 12),
     }
 }
 

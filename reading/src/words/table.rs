@@ -7,6 +7,23 @@ use std::collections::{HashMap, HashSet};
 
 pub const LIMIT: usize = 60_000;
 
+/// Which fields a class record has.
+#[derive(Debug, Clone, Copy, PartialEq, Eq)]
+pub enum ClassForm {
+    /// Document 01: "2 class: name, superclass, package, flag (bit 0: in `types`)": 8 bytes.
+    Older,
+    /// Document 02, order 6: "The class record gains two interface ids behind its superclass, 65,535 for none": 12 bytes.
+    Now,
+}
+
+/// Why a table is refused.
+#[derive(Debug, Clone, Copy, PartialEq, Eq)]
+pub struct Fault {
+    pub number: u8,
+    /// How many records stand before the one that draws the number; none where the table is too long.
+    pub record: Option<usize>,
+}
+
 /// "In owner, superclass and package fields 65,535 means none."
 pub fn or_none(id: u16) -> Option<u16> {
     (id != NONE).then_some(id)
@@ -37,7 +54,8 @@ struct Record {
     key: Option<Key>,
     /// The parameters' names.
     parameters: Vec<u16>,
-    superclass: Option<u16>,
+    /// A class's superclass and its two interfaces.
+    parents: [Option<u16>; 3],
 }
 
 /// Reads the fields of a record one after another. "Ids have 2 bytes; flags, visibilities, counts and name
@@ -45,6 +63,7 @@ struct Record {
 struct Reader<'a> {
     bytes: &'a [u8],
     at: usize,
+    form: ClassForm,
     record: Record,
 }
 
@@ -135,6 +154,19 @@ impl Reader<'_> {
         }
     }
 
+    /// A class, with its interfaces where the form has them.
+    fn class(&mut self) {
+        let class = self.id();
+        self.record.parents[0] = self.id_or_none();
+        if self.form == ClassForm::Now {
+            self.record.parents[1] = self.id_or_none();
+            self.record.parents[2] = self.id_or_none();
+        }
+        self.id_or_none();
+        self.byte_to(1);
+        self.record.key = Some(Key::Class(2, class));
+    }
+
     /// The front of kinds 5 to 8: owner and name. "Only kinds 4 and 7 may have no owner; in kinds 5, 6 and 8 an
     /// owner of 65,535 is an undefined id."
     fn member(&mut self, kind: u8) {
@@ -146,14 +178,7 @@ impl Reader<'_> {
     fn fields(&mut self, kind: u8) {
         match kind {
             1 => self.name(),
-            // "2 class: name, superclass, package, flag (bit 0: in `types`)."
-            2 => {
-                let class = self.id();
-                self.record.superclass = self.id_or_none();
-                self.id_or_none();
-                self.byte_to(1);
-                self.record.key = Some(Key::Class(kind, class));
-            }
+            2 => self.class(),
             // "3 operator set: class, 2-byte mask, bit 0 plus to bit 10 ge."
             3 => {
                 let class = self.id();
@@ -178,19 +203,19 @@ impl Reader<'_> {
     }
 }
 
-fn read_record(bytes: &[u8]) -> Record {
+fn read_record(bytes: &[u8], form: ClassForm) -> Record {
     let kind = bytes[0];
-    let mut reader = Reader { bytes, at: 1, record: Record { kind, ..Record::default() } };
+    let mut reader = Reader { bytes, at: 1, form, record: Record { kind, ..Record::default() } };
     reader.fields(kind);
     Record { len: reader.at, ..reader.record }
 }
 
 /// The records up to the first that is malformed, cut or has a type without end.
-fn records(table: &[u8]) -> Vec<Record> {
+fn records(table: &[u8], form: ClassForm) -> Vec<Record> {
     let mut records = Vec::new();
     let mut at = 0;
     while at < table.len() {
-        let record = read_record(&table[at..]);
+        let record = read_record(&table[at..], form);
         let last = record.broken || record.endless;
         at += record.len;
         records.push(record);
@@ -203,12 +228,17 @@ fn records(table: &[u8]) -> Vec<Record> {
 
 /// The number of names that a table's ids may mean: the built-in ones and its own.
 pub fn name_count(table: &[u8]) -> usize {
-    BUILT_IN.len() + records(table).iter().filter(|r| r.kind == 1).count()
+    BUILT_IN.len() + records(table, ClassForm::Now).iter().filter(|r| r.kind == 1).count()
 }
 
 /// The lengths of the records, up to the first that is malformed, cut or has a type without end.
 pub fn record_lengths(table: &[u8]) -> Vec<usize> {
-    records(table).iter().filter(|r| !r.broken && !r.endless).map(|r| r.len).collect()
+    record_lengths_of(table, ClassForm::Now)
+}
+
+/// The same of a table with class records of this form.
+pub fn record_lengths_of(table: &[u8], form: ClassForm) -> Vec<usize> {
+    records(table, form).iter().filter(|r| !r.broken && !r.endless).map(|r| r.len).collect()
 }
 
 /// 0, or the number that refuses the table.
@@ -225,32 +255,45 @@ struct Before {
     keys: HashSet<Key>,
 }
 
-/// The number of names of an accepted table, or the number that refuses it: "lengths before contents; then the
-/// first faulty record .., lowest number within it".
+/// The number of names of an accepted table, or the number that refuses it.
 pub fn check(table: &[u8]) -> Result<usize, u8> {
+    check_of(table, ClassForm::Now).map_err(|fault| fault.number)
+}
+
+/// The number of names of an accepted table with class records of this form, or why it is refused: "lengths before
+/// contents; then the first faulty record .., lowest number within it".
+pub fn check_of(table: &[u8], form: ClassForm) -> Result<usize, Fault> {
     if table.len() > LIMIT {
-        return Err(1);
+        return Err(Fault { number: 1, record: None });
     }
-    let records = records(table);
-    let mut first_class: HashMap<u16, usize> = HashMap::new();
-    for (i, record) in records.iter().enumerate() {
-        if let (Some(Key::Class(2, class)), false) = (&record.key, record.broken) {
-            first_class.entry(*class).or_insert(i);
-        }
-    }
+    let records = records(table, form);
+    let first_class = first_classes(&records);
     let built_in = BUILT_IN.iter().map(|n| Key::Name(n.as_bytes().to_vec()));
     let mut before = Before { kind: 0, names: BUILT_IN.len(), keys: built_in.collect() };
     for (i, record) in records.iter().enumerate() {
-        let super_late = record.superclass.and_then(|s| first_class.get(&s)).is_some_and(|first| *first >= i);
-        record_number(record, &mut before, super_late)?;
+        let late = |parent: &u16| first_class.get(parent).is_some_and(|first| *first >= i);
+        let parent_late = record.parents.iter().flatten().any(late);
+        record_number(record, &mut before, parent_late).map_err(|number| Fault { number, record: Some(i) })?;
     }
     Ok(before.names)
 }
 
+/// The place of each class's first record.
+fn first_classes(records: &[Record]) -> HashMap<u16, usize> {
+    let mut first = HashMap::new();
+    for (i, record) in records.iter().enumerate() {
+        if let (Some(Key::Class(2, class)), false) = (&record.key, record.broken) {
+            first.entry(*class).or_insert(i);
+        }
+    }
+    first
+}
+
 /// "2 malformed or cut record; 3 kind falls; 4 undefined id; 5 key repeated (..; a parameter's name within one
 /// function; ..); 6 a superclass with a record, but not an earlier one; 7 Error in a type, or no end within 192
-/// bytes." Document 02, order 3: "An id that only a later name record would define is undefined".
-fn record_number(record: &Record, before: &mut Before, super_late: bool) -> Result<(), u8> {
+/// bytes." Document 02, order 3: "An id that only a later name record would define is undefined". Order 6: "an interface
+/// with a record needs it earlier, else number 6, and undefined ones get 4".
+fn record_number(record: &Record, before: &mut Before, parent_late: bool) -> Result<(), u8> {
     if record.broken {
         return Err(2);
     }
@@ -265,7 +308,7 @@ fn record_number(record: &Record, before: &mut Before, super_late: bool) -> Resu
     if repeated || record.key.clone().is_some_and(|key| !before.keys.insert(key)) {
         return Err(5);
     }
-    if super_late {
+    if parent_late {
         return Err(6);
     }
     if record.error || record.endless {

@@ -83,10 +83,11 @@ name_front = record { kind = 1; one = 0; two = 0; len = 26; top = 0; malformed =
 unfoldable pub name_head : List ℕ → Front
 name_head s = plain_head s 26 (ltb (get_or s 1 0) 1 || (ltb 24 (get_or s 1 0) || not (good_bytes 24 s (get_or s 1 0)))) 1 0 0 0
 
--- ---- kind 2, class: name, superclass, package, flag (bit 0: in `types`)
+-- ---- kind 2, class: name, superclass, two interfaces, package, flag (bit 0: in `types`)
 unfoldable pub class_head : List ℕ → Front
 class_head s =
-    plain_head s 8 (ltb 1 (get_or s 7 0)) 2 (id_at s 1) (id_at s 3) (max (id_at s 1) (max (or_none (id_at s 3)) (or_none (id_at s 5))))
+    plain_head s 12 (ltb 1 (get_or s 11 0)) 2 (id_at s 1) (id_at s 3)
+    (max (id_at s 1) (max (or_none (id_at s 3)) (max (max (or_none (id_at s 5)) (or_none (id_at s 7))) (or_none (id_at s 9)))))
 
 -- ---- kind 3, operator set: class, 2-byte mask, bit 0 plus to bit 10 ge
 unfoldable pub operators_head : List ℕ → Front

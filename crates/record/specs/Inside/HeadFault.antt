@@ -3,7 +3,7 @@
 use Rattle.std.specs.Prelude.{ℕ, Bool, false, not, ◌&&◌, ◌||◌, List, [], ◌∷◌, take, drop, ltb, eqb}
 use Rattle.ty.specs.Choose.{choose}
 use Rattle.ty.specs.Name.{no_id, id_defined}
-use Rattle.ty.specs.Bytes.{same_bytes}
+use Rattle.ty.specs.Bytes.{same_bytes, id_at}
 use Rattle.record.specs.Inside.Front.{Front}
 use Rattle.record.specs.Inside.Front.{front_of}
 use Rattle.record.specs.Inside.FrontRecord.{count_of}
@@ -39,11 +39,28 @@ unfoldable pub has_class : ℕ → List Record → Bool
 has_class id [] = false
 has_class id (r ∷ rs) = is_class id (front_of r) || has_class id rs
 
--- r is a class whose superclass has a record, but not an earlier one; `rest` is r and the records behind it
-unfoldable pub super_late : List Record → Record → List Record → Bool
-super_late earlier r rest =
-    eqb (front_of r).kind 2
-    && (not (eqb (front_of r).two no_id) && (not (has_class (front_of r).two earlier) && has_class (front_of r).two rest))
+-- an id is given, and no earlier record is its class
+abbrev pub id_missing : List Record → ℕ → Bool
+id_missing earlier id = not (eqb id no_id) && not (has_class id earlier)
+
+-- an id is given, no earlier record is its class, and one of `rest` is
+abbrev pub id_late : List Record → List Record → ℕ → Bool
+id_late earlier rest id = id_missing earlier id && has_class id rest
+
+-- the interfaces of a class record
+abbrev pub first_interface_at : Record → ℕ
+first_interface_at r = id_at r 5
+
+abbrev pub second_interface_at : Record → ℕ
+second_interface_at r = id_at r 7
+
+-- a test holds of a class record's superclass or of one of its interfaces
+abbrev pub some_parent : (ℕ → Bool) → Record → Bool
+some_parent test r = test (front_of r).two || (test (first_interface_at r) || test (second_interface_at r))
+
+-- r is a class of which a superclass or interface has a record, but not an earlier one; `rest` is r and the records behind it
+unfoldable pub parent_late : List Record → Record → List Record → Bool
+parent_late earlier r rest = eqb (front_of r).kind 2 && some_parent (id_late earlier rest) r
 
 -- the kind of the latest of the earlier records
 abbrev pub last_kind : List Record → ℕ
@@ -57,7 +74,7 @@ head_fault earlier r rest =
     (choose (ltb (front_of r).kind (last_kind earlier)) 3
     (choose (not (id_defined (front_of r).top (count_of 1 earlier))) 4
     (choose ((front_of r).repeated || (is_builtin_name r || has_key r earlier)) 5
-    (choose (super_late earlier r rest) 6 (choose (front_of r).error 7 0)))))
+    (choose (parent_late earlier r rest) 6 (choose (front_of r).error 7 0)))))
 
 -- the number of the first faulty record
 unfoldable pub found_from : List Record → List Record → ℕ
@@ -65,9 +82,9 @@ found_from earlier [] = 0
 found_from earlier (r ∷ rs) =
     choose (eqb (head_fault earlier r (r ∷ rs)) 0) (found_from (r ∷ earlier) rs) (head_fault earlier r (r ∷ rs))
 
--- r is a class whose superclass has no earlier record
-unfoldable pub super_missing : List Record → Record → Bool
-super_missing earlier r = eqb (front_of r).kind 2 && (not (eqb (front_of r).two no_id) && not (has_class (front_of r).two earlier))
+-- r is a class of which a superclass or interface has no earlier record
+unfoldable pub parent_missing : List Record → Record → Bool
+parent_missing earlier r = eqb (front_of r).kind 2 && some_parent (id_missing earlier) r
 
 -- the number of a record by itself: 2, 3, 4, and 5 for a parameter's name and a built-in spelling
 unfoldable pub own_fault : List Record → Record → ℕ
@@ -78,4 +95,4 @@ own_fault earlier r =
 
 -- the number of a record beside the others: 5, 6, and 7
 unfoldable pub key_fault : List Record → Record → List Record → ℕ
-key_fault earlier r rest = choose (has_key r earlier) 5 (choose (super_late earlier r rest) 6 (choose (front_of r).error 7 0))
+key_fault earlier r rest = choose (has_key r earlier) 5 (choose (parent_late earlier r rest) 6 (choose (front_of r).error 7 0))

@@ -1,12 +1,12 @@
 -- What the check of one record is told, and its number in two parts.
-use Rattle.std.specs.Prelude.{ℕ, ◌≤◌, ltb, Option, None, Some, false, List, ◌≡◌, length, get_or, drop}
+use Rattle.std.specs.Prelude.{ℕ, ◌≤◌, ltb, eqb, Bool, not, false, ◌&&◌, ◌||◌, List, ◌≡◌, length, get_or, drop}
 use Rattle.index.specs.Inside.Entered.{Entered}
 use Rattle.index.specs.Inside.SearchKey.{name_bytes_at}
 use Rattle.record.specs.Inside.Front.{front_of, name_front}
 use Rattle.record.specs.Inside.NameHash.{hash_of}
-use Rattle.record.specs.Inside.HeadFault.{last_kind, head_fault, super_missing, own_fault, key_fault}
+use Rattle.record.specs.Inside.HeadFault.{last_kind, head_fault, first_interface_at, second_interface_at, id_missing, own_fault, key_fault}
 use Rattle.record.specs.RecordKind.{record_kind_number}
-use Rattle.record.specs.Table.{records_of, before}
+use Rattle.record.specs.Table.{Record, records_of, before}
 use Rattle.index.specs.Inside.SearchTree.{Tree}
 use Rattle.record.specs.Inside.Walk.{CursorAt, Stands, record_at}
 use Rattle.record.specs.Inside.NamesBefore.{WalkAt}
@@ -14,7 +14,9 @@ use Rattle.record.specs.declared.front.Head.{Head}
 use Rattle.record.specs.declared.front.RecordKind.{RecordKind}
 use Rattle.record.specs.declared.walk.Cursor.{Cursor}
 use Rattle.record.specs.declared.walk.TableWalk.{TableWalk}
+use Rattle.symbol.specs.declared.checks.Missing.{Missing}
 use Rattle.ty.specs.Choose.{choose}
+use Rattle.ty.specs.Name.{no_id}
 
 -- The kind of the record at c falls below the kind before it exactly where it is less than k, and no name has a kind from k on.
 pub record KindLimit (t : List ℕ) (c : Cursor) (k : RecordKind) : Type 0 where
@@ -52,9 +54,39 @@ pub record NameEntryAsked (t x : List ℕ) (c : Cursor) (h : ℕ) : Type 0 where
   pub front : front_of (drop c.at t) ≡ name_front
   pub hash : h ≡ hash_of (name_bytes_at t c.at)
 
--- the superclass of the record at c where none of those before it has that
-abbrev pub super_missing_at : List ℕ → Cursor → Option ℕ
-super_missing_at t c = choose (super_missing (before c.index (records_of t)) (record_at t c)) (Some (front_of (record_at t c)).two) None
+-- an id where no earlier record is its class, and 65,535 otherwise
+abbrev pub missing_one : List Record → ℕ → ℕ
+missing_one earlier id = choose (id_missing earlier id) id no_id
+
+-- none is missing
+abbrev pub none_missing : Missing
+none_missing = record { superclass = no_id; first_interface = no_id; second_interface = no_id }
+
+-- the superclass and the interfaces of a record, each where no earlier record is its class; of other kinds none
+abbrev pub missing_of : List Record → Record → Missing
+missing_of earlier r =
+    choose (eqb (front_of r).kind 2)
+    (record {
+      superclass = missing_one earlier (front_of r).two;
+      first_interface = missing_one earlier (first_interface_at r);
+      second_interface = missing_one earlier (second_interface_at r);
+    })
+    none_missing
+
+-- those of the record at c
+abbrev pub missing_at : List ℕ → Cursor → Missing
+missing_at t c = missing_of (before c.index (records_of t)) (record_at t c)
+
+-- a class's superclass or one of its interfaces is missing
+abbrev pub any_missing : Missing → Bool
+any_missing m = not (eqb m.superclass no_id) || (not (eqb m.first_interface no_id) || not (eqb m.second_interface no_id))
+
+-- an id has a class record at byte p or behind it, by the classes ahead
+abbrev pub is_ahead : List ℕ → ℕ → ℕ → Bool
+is_ahead late p id = not (eqb id no_id) && ltb p (get_or late id 0)
+
+abbrev pub any_ahead : List ℕ → ℕ → Missing → Bool
+any_ahead late p m = is_ahead late p m.superclass || (is_ahead late p m.first_interface || is_ahead late p m.second_interface)
 
 -- the number of the record at c
 abbrev pub fault_at : List ℕ → Cursor → ℕ

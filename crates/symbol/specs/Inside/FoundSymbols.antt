@@ -6,21 +6,30 @@ use Rattle.ty.specs.Name.{no_id}
 use Rattle.ty.specs.Bytes.{Ty, id_at}
 use Rattle.symbol.specs.Symbols.{Param, Overload}
 use Rattle.record.specs.Inside.Front.{front_of}
+use Rattle.record.specs.Inside.HeadFault.{first_interface_at, second_interface_at}
 use Rattle.record.specs.Table.{Record}
 use Rattle.record.specs.Inside.Keyed.{type_length}
 
--- ---- of a class record: superclass, package, in `types`; none has neither
+-- ---- of a class record: superclass, interfaces, package, in `types`; none has none of them
 abbrev pub super_in : List Record → ℕ
 super_in [] = no_id
 super_in (r ∷ rs) = (front_of r).two
 
+abbrev pub first_interface_in : List Record → ℕ
+first_interface_in [] = no_id
+first_interface_in (r ∷ rs) = first_interface_at r
+
+abbrev pub second_interface_in : List Record → ℕ
+second_interface_in [] = no_id
+second_interface_in (r ∷ rs) = second_interface_at r
+
 abbrev pub package_in : List Record → ℕ
 package_in [] = no_id
-package_in (r ∷ rs) = id_at r 5
+package_in (r ∷ rs) = id_at r 9
 
 abbrev pub types_in : List Record → Bool
 types_in [] = false
-types_in (r ∷ rs) = eqb (get_or r 7 0) 1
+types_in (r ∷ rs) = eqb (get_or r 11 0) 1
 
 -- ---- the mask of an operator set, the type of a field, a member's visibility
 abbrev pub mask_in : List Record → Option ℕ

@@ -1,5 +1,6 @@
 -- What the check of a table does with a record in the index.
-use Rattle.std.specs.Prelude.{Option, Some, None, ℕ, suc, ◌<◌, Bool, true, false, ◌≡◌, List, length, set, drop}
+use Rattle.std.specs.Prelude.{Option, Some, None, ℕ, suc, ◌<◌, Bool, true, false, ◌≡◌, ◌≢◌, List, length, set, drop}
+use Rattle.ty.specs.Name.{no_id}
 use Rattle.index.specs.Inside.Entered.{EntryAsked, entered}
 use Rattle.record.specs.Inside.Front.{front_of}
 use Rattle.record.specs.Inside.HeadFault.{has_key}
@@ -10,9 +11,10 @@ use Rattle.index.specs.Inside.Spot.{FreeIs}
 use Rattle.record.specs.Inside.Walk.{Stands, record_at}
 use Rattle.index.specs.Inside.Ahead.{AheadOf}
 use Rattle.record.specs.declared.front.Head.{Head}
-use Rattle.symbol.specs.Inside.Asked.{super_missing_at}
+use Rattle.symbol.specs.Inside.Asked.{missing_at}
 use Rattle.symbol.specs.declared.checks.Entry.{Entry}
 use Rattle.symbol.specs.declared.checks.Entry.TheVariants as entry
+use Rattle.symbol.specs.declared.checks.Missing.{Missing}
 use Rattle.record.specs.declared.walk.Cursor.{Cursor}
 
 -- an earlier record has its key
@@ -48,13 +50,19 @@ tree_entry (Some a) = Some (entry.Tree a)
 abbrev pub NameEntryIs : List ℕ → List ℕ → Cursor → Option ℕ → Type 0
 NameEntryIs t x c e = EntryIs t x c (tree_entry e)
 
--- what its number beside the others asks: its superclass where that has no earlier record, and then the classes ahead
-pub record KeyAsked (t late : List ℕ) (c : Cursor) (h : Head) (e : Option Entry) (missing : Option ℕ) : Type 0 where
+-- what a missing class asks of the classes ahead
+pub record AheadAsked (t late : List ℕ) (c : Cursor) (missing : ℕ) : Type 0 where
+  pub ahead : missing ≢ no_id → AheadOf t late c.at
+  pub low : missing ≢ no_id → missing < length late
+
+-- what its number beside the others asks: which of its superclass and interfaces have no earlier record, and then the classes ahead
+pub record KeyAsked (t late : List ℕ) (c : Cursor) (h : Head) (e : Option Entry) (missing : Missing) : Type 0 where
   pub stands : Stands t c h
   pub key : taken_of e ≡ has_key (record_at t c) (before c.index (records_of t))
-  pub is : missing ≡ super_missing_at t c
-  pub ahead : (id : ℕ) → missing ≡ Some id → AheadOf t late c.at
-  pub low : (id : ℕ) → missing ≡ Some id → id < length late
+  pub is : missing ≡ missing_at t c
+  pub superclass : AheadAsked t late c missing.superclass
+  pub first_interface : AheadAsked t late c missing.first_interface
+  pub second_interface : AheadAsked t late c missing.second_interface
 
 -- what comes of the index: the record at byte p stands in the empty entry, or behind the last function of its bucket
 abbrev pub index_joined : ℕ → ℕ → Option Entry → List ℕ → List ℕ

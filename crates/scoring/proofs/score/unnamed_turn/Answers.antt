@@ -9,4 +9,4 @@ pub add-requires : goal.add-requires
 add-requires c = (c.requires, one_few_le _ _ _ _ c.compare-one.ensures)
 
 pub returns : goal.returns
-returns c = unnamed_added _ _ _ _ _ _ (search rules) _ (c.next_unmarked-own.ensures c.args.table.now) _ _ c.compare-one.ensures c.add.ensures
+returns c = unnamed_added _ _ _ _ _ _ (search rules) _ (c.next_unmarked-own.ensures c.args.above.now) _ _ c.compare-one.ensures c.add.ensures

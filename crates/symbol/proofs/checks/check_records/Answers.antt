@@ -6,7 +6,7 @@ use Rattle.symbol.proofs.LateMakes.{noting_own, noting_key, noting_next, noting_
 use Rattle.symbol.proofs.NamePasses.{noted}
 use Rattle.symbol.proofs.Passes.{passed_clean, passed_names, passed_accepted, passed_broken, own_is, own-refused, own-stopped, both, key_refused, key_stopped}
 use Rattle.symbol.proofs.Passes.{going_start, going_asked, going_prepared, going_other, going_key, going_placed, going_join, going_next}
-use Rattle.symbol.proofs.SuperLate.{missing_some}
+use Rattle.symbol.proofs.ParentLate.{missing_some}
 use Rattle.symbol.proofs.Verdicts.{fault_some, passed_on}
 use Rattle.symbol.specs.TableFault.{table_fault_number}
 use Rattle.symbol.proofs.checks.check_records.Goals as goal
@@ -89,8 +89,8 @@ entry_for-entry-requires c = (
       (record { head = c.step-s.result.head; next = c.step-s.result.next.here }) c.step-s.ensures.step c.loop-w-test.true c.in-Some.h c.in-Some.is))),
 )
 
-pub super_missing-missing-requires : goal.super_missing-missing-requires
-super_missing-missing-requires c = going_prepared c.args.t.now _ _ c.loop-w.w c.loop-w.kind c.loop-w.looked c.loop-w.invariant.0
+pub parents_missing-missing-requires : goal.parents_missing-missing-requires
+parents_missing-missing-requires c = going_prepared c.args.t.now _ _ c.loop-w.w c.loop-w.kind c.loop-w.looked c.loop-w.invariant.0
     (record { head = c.step-s.result.head; next = c.step-s.result.next.here }) c.step-s.ensures.step c.loop-w-test.true c.in-Some.h c.in-Some.is
     (sym (c.in_ok-check_own.ensures c.args.t.now
     (going_asked c.args.t.now _ _ c.loop-w.w c.loop-w.kind c.loop-w.looked c.loop-w.invariant.0
@@ -103,9 +103,9 @@ check_key-requires c = going_key c.args.t.now _ _ c.loop-w.w c.loop-w.kind c.loo
     (going_asked c.args.t.now _ _ c.loop-w.w c.loop-w.kind c.loop-w.looked c.loop-w.invariant.0
     (record { head = c.step-s.result.head; next = c.step-s.result.next.here }) c.step-s.ensures.step c.loop-w-test.true c.in-Some.h c.in-Some.is)))
     _ c.look-looked.auto.late c.look-looked.result _
-    c.look-looked.ensures.answer c.look-looked.ensures.late_after (c.is_some.ensures ∙ missing_some _ _ _ c.super_missing-missing.ensures) c.entry_for-entry.result
+    c.look-looked.ensures.answer c.look-looked.ensures.late_after (c.any_missing.ensures ∙ missing_some _ _ _ c.parents_missing-missing.ensures) c.entry_for-entry.result
     c.entry_for-entry.ensures
-    c.super_missing-missing.result c.super_missing-missing.ensures
+    c.parents_missing-missing.result c.parents_missing-missing.ensures
 
 pub returns-in_err-check_key-clause-number : goal.returns-in_err-check_key-clause-number
 returns-in_err-check_key-clause-number c = passed_on c.from_residual-in_err-check_key.result _ c.from_residual-in_err-check_key.ensures.0
@@ -137,7 +137,7 @@ returns-in_err-check_key-clause-late_after c = noting_key c.args.t.now _ _ c.loo
     (record { head = c.step-s.result.head; next = c.step-s.result.next.here }) c.step-s.ensures.step _
     refl (sym (c.in_ok-check_own.ensures c.args.t.now
     (going_asked c.args.t.now _ _ c.loop-w.w c.loop-w.kind c.loop-w.looked c.loop-w.invariant.0
-    (record { head = c.step-s.result.head; next = c.step-s.result.next.here }) c.step-s.ensures.step c.loop-w-test.true c.in-Some.h c.in-Some.is))) _ (c.is_some.ensures ∙ missing_some _ _ _ c.super_missing-missing.ensures) _ c.look-looked.ensures.late_after
+    (record { head = c.step-s.result.head; next = c.step-s.result.next.here }) c.step-s.ensures.step c.loop-w-test.true c.in-Some.h c.in-Some.is))) _ (c.any_missing.ensures ∙ missing_some _ _ _ c.parents_missing-missing.ensures) _ c.look-looked.ensures.late_after
     (table_fault_number c.in_err-check_key.field-0.0) c.in_err-check_key.ensures (fault_some c.in_err-check_key.field-0.0)
 
 pub join-requires : goal.join-requires
@@ -147,7 +147,7 @@ join-requires c = going_join c.args.t.now _ _ c.loop-w.w c.loop-w.kind c.loop-w.
     (going_asked c.args.t.now _ _ c.loop-w.w c.loop-w.kind c.loop-w.looked c.loop-w.invariant.0
     (record { head = c.step-s.result.head; next = c.step-s.result.next.here }) c.step-s.ensures.step c.loop-w-test.true c.in-Some.h c.in-Some.is)))
     _ c.look-looked.auto.late c.look-looked.result _
-    c.look-looked.ensures.answer c.look-looked.ensures.late_after (c.is_some.ensures ∙ missing_some _ _ _ c.super_missing-missing.ensures) c.entry_for-entry.result
+    c.look-looked.ensures.answer c.look-looked.ensures.late_after (c.any_missing.ensures ∙ missing_some _ _ _ c.parents_missing-missing.ensures) c.entry_for-entry.result
     c.entry_for-entry.ensures
     0 c.in_ok-check_key.ensures refl c.requires.0
 
@@ -159,7 +159,7 @@ loop-w-preserved c = (
       (going_asked c.args.t.now _ _ c.loop-w.w c.loop-w.kind c.loop-w.looked c.loop-w.invariant.0
       (record { head = c.step-s.result.head; next = c.step-s.result.next.here }) c.step-s.ensures.step c.loop-w-test.true c.in-Some.h c.in-Some.is)))
       _ c.look-looked.auto.late c.look-looked.result _
-      c.look-looked.ensures.answer c.look-looked.ensures.late_after (c.is_some.ensures ∙ missing_some _ _ _ c.super_missing-missing.ensures) c.entry_for-entry.result
+      c.look-looked.ensures.answer c.look-looked.ensures.late_after (c.any_missing.ensures ∙ missing_some _ _ _ c.parents_missing-missing.ensures) c.entry_for-entry.result
       c.entry_for-entry.ensures
       0 c.in_ok-check_key.ensures refl c.step-s.result.next refl c.step-s.ensures.next _ c.join.ensures,
   making_next c.args.t.now _ _ c.loop-w.w.here c.loop-w.invariant.1 c.loop-w.invariant.0.passed.walk.at
@@ -175,14 +175,14 @@ loop-w-preserved c = (
       (going_asked c.args.t.now _ _ c.loop-w.w c.loop-w.kind c.loop-w.looked c.loop-w.invariant.0
       (record { head = c.step-s.result.head; next = c.step-s.result.next.here }) c.step-s.ensures.step c.loop-w-test.true c.in-Some.h c.in-Some.is)))
       _ c.look-looked.auto.late c.look-looked.result _
-      c.look-looked.ensures.answer c.look-looked.ensures.late_after (c.is_some.ensures ∙ missing_some _ _ _ c.super_missing-missing.ensures) c.entry_for-entry.result
+      c.look-looked.ensures.answer c.look-looked.ensures.late_after (c.any_missing.ensures ∙ missing_some _ _ _ c.parents_missing-missing.ensures) c.entry_for-entry.result
       c.entry_for-entry.ensures
       0 c.in_ok-check_key.ensures refl),
   noting_next c.args.t.now _ _ c.loop-w.w.here c.loop-w.looked c.loop-w.invariant.2 c.loop-w.invariant.0.passed.walk.at
       (record { head = c.step-s.result.head; next = c.step-s.result.next.here }) c.step-s.ensures.step _
       refl (sym (c.in_ok-check_own.ensures c.args.t.now
       (going_asked c.args.t.now _ _ c.loop-w.w c.loop-w.kind c.loop-w.looked c.loop-w.invariant.0
-      (record { head = c.step-s.result.head; next = c.step-s.result.next.here }) c.step-s.ensures.step c.loop-w-test.true c.in-Some.h c.in-Some.is))) _ (c.is_some.ensures ∙ missing_some _ _ _ c.super_missing-missing.ensures) _ c.look-looked.ensures.late_after
+      (record { head = c.step-s.result.head; next = c.step-s.result.next.here }) c.step-s.ensures.step c.loop-w-test.true c.in-Some.h c.in-Some.is))) _ (c.any_missing.ensures ∙ missing_some _ _ _ c.parents_missing-missing.ensures) _ c.look-looked.ensures.late_after
       0 c.in_ok-check_key.ensures refl c.look-looked.result c.look-looked.ensures.answer,
 )
 

@@ -17,14 +17,14 @@ returns-then-id-lt-FIRST_OF_TABLE c = search chain depth 8
 pub returns-then-name_count-i : goal.returns-then-name_count-i
 unfolding symbols_in
 returns-then-name_count-i c = let ok = accepted_clean c.args.table.now c.bytes-t.ensures.clean in
-    let a = c.name_count.ensures ∙ names_counted [] (records_of c.args.table.now) ok in
+    let a = c.name_count.ensures.count ∙ names_counted [] (records_of c.args.table.now) ok in
     passed _ _ _ _ (le-ltb _ _ c.if-id-lt-FIRST_OF_TABLE.false)
     (rw (names_past (c.args.id - 40) [] (records_of c.args.table.now) ok (omega arith)))
 
 pub returns : goal.returns
 unfolding symbols_in
 returns c = let ok = accepted_clean c.args.table.now c.bytes-t.ensures.clean in
-    let a = c.name_count.ensures ∙ names_counted [] (records_of c.args.table.now) ok in
+    let a = c.name_count.ensures.count ∙ names_counted [] (records_of c.args.table.now) ok in
     let n : c.args.id - 40 < count_below 2 (records_of c.args.table.now) = omega arith in
     let x = name_at_lem (c.args.id - 40) c.args.table.now [] ok n 1 (omega arith) in
     let y = name_at_lem (c.args.id - 40) c.args.table.now [] ok n 2 (omega arith) in

@@ -1,0 +1,16 @@
+use native.Mathlib.Omega.{arith}
+use Rattle.overload.proofs.ClassesGathered.{gathered_none, gathered_more, gathered_all}
+use Rattle.overload.proofs.classes.classes_of.Goals as goal
+
+pub loop-a-init : goal.loop-a-init
+loop-a-init c = rw c.new-classes.ensures (gathered_none _ _)
+
+pub gather-requires : goal.gather-requires
+gather-requires c = omega (arith, c.loop-a.invariant.few, c.loop-a-test.true, c.deref-a-items.ensures.1)
+
+pub loop-a-preserved : goal.loop-a-preserved
+loop-a-preserved c = let e = c.deref-a-items.ensures.0 in
+    gathered_more _ _ _ _ c.loop-a.invariant _ (rw e at c.loop-a-test.true) _ (rw e at c.type_of.ensures) _ c.gather.ensures
+
+pub returns : goal.returns
+returns c = gathered_all _ _ _ _ c.loop-a.invariant (rw c.deref-a-items.ensures.0 at c.loop-a-test.false)
