@@ -25,7 +25,7 @@ import contracts  # noqa: E402
 
 ROOT = pathlib.Path(__file__).resolve().parent.parent
 DOCUMENTS = """README.md CHANGELOG.md docs/*.md docs/history/*.md docs/orders/*.md
-aura-judge/README.md oracle/README.md compare/README.md reading/README.md renew/README.md""".split()
+aura-judge/README.md oracle/README.md compare/README.md reading/README.md renew/README.md undisturbed/README.md""".split()
 WIDTH = 100
 ITEM = re.compile(r" *(?:[-*+]|\d+[.)]) +")
 SPAN = re.compile(r"`[^`]*`")
@@ -91,7 +91,7 @@ LONG = "word " * 19 + "words, "  # a line of it and one letter has 103 character
 CODE = f"\n    {LONG}x\n    {LONG}y\n\n    {LONG}z\n"
 SOUND = {
     **dict.fromkeys("""README.md CHANGELOG.md docs/A.md docs/history/B.md docs/orders/D.md
-                       oracle/README.md compare/README.md reading/README.md renew/README.md""".split(), ""),
+                       oracle/README.md compare/README.md reading/README.md renew/README.md undisturbed/README.md""".split(), ""),
     "aura-judge/README.md": "`src/lib.rs`, `aura-judge/src/lib.rs`, `../docs/A.md`\n",
     "aura-judge/src/lib.rs": "",
     "crates/ty/specs/Ty.antt": "",

@@ -182,8 +182,8 @@ pub fn turn(place: Place, width: Width) -> Vec<Input> {
 #[cfg(test)]
 mod tests {
     use super::*;
-    use crate::inputs::split;
     use reading::words;
+    use reading::words::table::split;
     use reading::Said;
 
     fn all() -> impl Iterator<Item = (Place, Width, Vec<Input>)> {

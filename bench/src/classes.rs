@@ -1,10 +1,11 @@
 //! Classes and what is asked of them (document 02, orders 2 and 6): tables whose classes have parents, and some whose classes
 //! have none. The Rust has no such rule.
 
-use crate::inputs::{reordered, shuffle, split, Filler, Input, Make, FIRST};
+use crate::inputs::{reordered, shuffle, Filler, Input, Make, FIRST};
 use reading::bytes::*;
 use reading::name::NONE;
 use reading::rng::Rng;
+use reading::words::table::split;
 use reading::words::types::two_bytes;
 
 /// The first of the classes; the last is `FIRST`.

@@ -9,7 +9,7 @@ use reading::bytes::*;
 use reading::name::{BUILT_IN, NONE};
 use reading::rng::Rng;
 use reading::words::load::load;
-use reading::words::table::record_lengths;
+use reading::words::table::split;
 
 /// What a table is made of.
 #[derive(Debug, Clone, Copy, PartialEq, Eq)]
@@ -291,13 +291,6 @@ fn bucket_functions(f: &mut Filler, size: usize) {
     }
     f.give(CALLED);
     f.put(called);
-}
-
-/// The records of a table, one by one.
-pub fn split(table: &[u8]) -> Vec<&[u8]> {
-    let mut rest = table;
-    let mut next = |len: usize| rest.split_off(..len).expect("a whole record");
-    record_lengths(table).into_iter().map(&mut next).collect()
 }
 
 /// How many classes and functions a table has.

@@ -16,6 +16,7 @@ pub(crate) const GUARD: usize = 64;
 const LONGEST: usize = 66_000;
 
 /// What a call of the proved judge left behind: the number that it answered, the answer slice, the lent buffer.
+#[derive(PartialEq, Eq)]
 pub struct Given<'a> {
     pub number: u8,
     pub answer: &'a [u8],
@@ -24,8 +25,13 @@ pub struct Given<'a> {
 
 /// The buffer lengths at which number 12 begins and ends, by the first yardstick that says something.
 pub fn limits(sayings: &Sayings) -> Vec<usize> {
-    match sayings.each().next() {
-        Some((_, Said::Judged { diagnostics, .. })) if !diagnostics.is_empty() => {
+    sayings.each().next().map_or(Vec::new(), |(_, said)| limits_of(said))
+}
+
+/// The buffer lengths at which number 12 begins and ends.
+pub fn limits_of(said: &Said) -> Vec<usize> {
+    match said {
+        Said::Judged { diagnostics, .. } if !diagnostics.is_empty() => {
             let need = 5 * diagnostics.len();
             [need - 1, need, need + 4].into_iter().filter(|n| *n <= LONGEST).collect()
         }
@@ -57,11 +63,40 @@ pub fn agrees(sayings: &Sayings, given: &Given, expected: &mut [u8]) -> Result<u
     Ok(*number)
 }
 
-/// Room for the slices of a call, kept from case to case.
-pub struct Space {
-    lent: Vec<u8>,
-    expected: Vec<u8>,
+/// Room for the slices that a call is lent, kept from call to call.
+pub struct Lent {
+    buffer: Vec<u8>,
     answer: Vec<u8>,
+}
+
+impl Default for Lent {
+    fn default() -> Lent {
+        Lent { buffer: vec![POISON; LONGEST + 2 * GUARD], answer: Vec::new() }
+    }
+}
+
+impl Lent {
+    /// Calls the proved judge on poisoned slices. The error says that bytes outside of them were written.
+    pub fn call(&mut self, table: &[u8], question: &[u8], length: usize) -> Result<Given<'_>, String> {
+        let buffer = &mut self.buffer[..length + 2 * GUARD];
+        buffer.fill(POISON);
+        self.answer.clear();
+        self.answer.resize(ANSWER_SIZE + 2 * GUARD + length % 3, POISON);
+        let end = self.answer.len() - GUARD;
+        let answer = &mut self.answer[GUARD..end];
+        let number = raw::judge(table, question, &mut buffer[GUARD..GUARD + length], answer);
+        let around = [&buffer[..GUARD], &buffer[GUARD + length..], &self.answer[..GUARD], &self.answer[end..]];
+        if !untouched(&around) {
+            return Err(String::from("bytes outside the lent slices were written"));
+        }
+        Ok(Given { number, answer: &self.answer[GUARD..end], buffer: &self.buffer[GUARD..GUARD + length] })
+    }
+}
+
+/// Room for a case, kept from case to case.
+pub struct Space {
+    lent: Lent,
+    expected: Vec<u8>,
 }
 
 /// How a case came out: every byte agrees.
@@ -77,7 +112,7 @@ pub struct Outcome {
 
 impl Default for Space {
     fn default() -> Space {
-        Space { lent: vec![POISON; LONGEST + 2 * GUARD], expected: vec![0; LONGEST], answer: Vec::new() }
+        Space { lent: Lent::default(), expected: vec![0; LONGEST] }
     }
 }
 
@@ -95,27 +130,10 @@ impl Space {
         Ok(Outcome { number, calls: 1 + lengths.len() as u64, speaks })
     }
 
-    /// Calls the proved judge on poisoned slices; answers the number. The answer and the buffer stay in the room.
-    fn call(&mut self, case: &Case, length: usize) -> Result<u8, String> {
-        let lent = &mut self.lent[..length + 2 * GUARD];
-        lent.fill(POISON);
-        self.answer.clear();
-        self.answer.resize(ANSWER_SIZE + 2 * GUARD + length % 3, POISON);
-        let end = self.answer.len() - GUARD;
-        let answer = &mut self.answer[GUARD..end];
-        let number = raw::judge(&case.table, &case.question, &mut lent[GUARD..GUARD + length], answer);
-        let around = [&lent[..GUARD], &lent[GUARD + length..], &self.answer[..GUARD], &self.answer[end..]];
-        if !untouched(&around) {
-            return Err(described(case, length, "bytes outside the lent slices were written"));
-        }
-        Ok(number)
-    }
-
     fn compare_at(&mut self, case: &Case, sayings: &Sayings, length: usize) -> Result<u8, String> {
-        let number = self.call(case, length)?;
-        let answer = &self.answer[GUARD..self.answer.len() - GUARD];
-        let given = Given { number, answer, buffer: &self.lent[GUARD..GUARD + length] };
-        agrees(sayings, &given, &mut self.expected[..length]).map_err(|what| described(case, length, &what))
+        let given = self.lent.call(&case.table, &case.question, length);
+        let agreed = given.and_then(|given| agrees(sayings, &given, &mut self.expected[..length]));
+        agreed.map_err(|what| described(case, length, &what))
     }
 }
 
@@ -137,7 +155,7 @@ pub fn read(bytes: &[u8]) -> (Answer, &[u8]) {
 }
 
 /// An answer as the program prints it, where its numbers allow that.
-fn shown(answer: &Answer, buffer: &[u8]) -> String {
+pub(crate) fn shown(answer: &Answer, buffer: &[u8]) -> String {
     if answer.len > answer.ty.len() || answer.count > buffer.len() / 5 {
         return format!("{:?}", answer);
     }

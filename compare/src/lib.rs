@@ -3,4 +3,6 @@
 pub mod case;
 pub mod load;
 pub mod run;
+pub mod threads;
+pub mod undisturbed;
 pub mod yardstick;

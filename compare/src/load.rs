@@ -1,5 +1,5 @@
-//! What the proved library writes as a test load, beside the yardsticks' loads: the number, the length and every byte of
-//! the lent buffer.
+//! What the proved library writes as a test load, beside the yardsticks' loads: the number, the length and every byte
+//! of the lent buffer.
 
 use crate::case::{untouched, GUARD, POISON};
 use aura_judge::raw;

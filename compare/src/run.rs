@@ -1,11 +1,10 @@
 //! Many cases on some threads, with progress.
 
 use crate::case::Space;
+use crate::threads;
 use reading::gen::{case, mixed, Case, Profile, PROFILES};
 use reading::Yardstick;
-use std::panic::{catch_unwind, AssertUnwindSafe};
-use std::sync::atomic::{AtomicBool, AtomicU64, Ordering::Relaxed};
-use std::sync::Mutex;
+use std::sync::atomic::{AtomicU64, Ordering::Relaxed};
 use std::time::{Duration, Instant};
 
 /// Cases of one kind, from an index on.
@@ -45,9 +44,6 @@ pub const CI_SEED: u64 = 1;
 /// Every fourth case is asked at the buffer lengths around number 12 too.
 const LIMITS_EVERY: u64 = 4;
 
-/// How many cases a thread takes at a time.
-const CHUNK: u64 = 64;
-
 #[derive(Debug, Default)]
 pub struct Counts {
     pub cases: AtomicU64,
@@ -63,88 +59,41 @@ pub struct Run<'y> {
     pub seed: u64,
     pub threads: usize,
     pub counts: Counts,
-    stop: AtomicBool,
-    difference: Mutex<Option<String>>,
     began: Instant,
 }
 
 impl Run<'_> {
     pub fn new(yardsticks: &[Yardstick], seed: u64, threads: usize) -> Run<'_> {
         let with = yardsticks.iter().map(|_| AtomicU64::new(0)).collect();
-        Run {
-            yardsticks,
-            seed,
-            threads,
-            counts: Counts { with, ..Counts::default() },
-            stop: AtomicBool::new(false),
-            difference: Mutex::new(None),
-            began: Instant::now(),
-        }
+        Run { yardsticks, seed, threads, counts: Counts { with, ..Counts::default() }, began: Instant::now() }
     }
 
     /// Compares the cases of some batches; the error is the first difference. `every` is how often progress is shown.
     pub fn compare(&self, batches: &[Batch], every: Option<Duration>) -> Result<(), String> {
         let total = batches.iter().map(|b| b.count).sum();
-        for batch in batches {
-            self.batch(batch, total, every);
-            if let Some(what) = self.difference.lock().expect("no thread panics with the lock").take() {
-                return Err(what);
-            }
-        }
-        Ok(())
+        batches.iter().try_for_each(|batch| self.batch(batch, total, every))
     }
 
-    fn batch(&self, batch: &Batch, total: u64, every: Option<Duration>) {
-        let next = AtomicU64::new(0);
-        let working = AtomicU64::new(self.threads as u64);
-        std::thread::scope(|scope| {
-            for _ in 0..self.threads {
-                scope.spawn(|| {
-                    self.work(batch, &next);
-                    working.fetch_sub(1, Relaxed);
-                });
-            }
-            let mut shown = Instant::now();
-            while working.load(Relaxed) > 0 {
-                std::thread::sleep(Duration::from_millis(20));
-                if every.is_some_and(|e| shown.elapsed() >= e) {
-                    shown = Instant::now();
-                    eprintln!("compare: {} ({} of {})", self.said(), batch.name(), total);
-                }
-            }
-        });
+    fn batch(&self, batch: &Batch, total: u64, every: Option<Duration>) -> Result<(), String> {
+        let one = |space: &mut Space, index| {
+            let head = || format!("{} seed {} index {}", batch.name(), self.seed, index);
+            self.one(batch, index, space).map_err(|what| format!("{}\n{}", head(), what))
+        };
+        let shown = || eprintln!("compare: {} ({} of {})", self.said(), batch.name(), total);
+        let indices = batch.first..batch.first + batch.count;
+        threads::each(self.threads, indices, Space::default, one, every, shown).map(drop)
     }
 
     /// How far the run is.
     pub fn said(&self) -> String {
-        let (cases, seconds) = (self.counts.cases.load(Relaxed), self.began.elapsed().as_secs_f64());
-        format!("{} cases, {:.0} a second, {:.0} s", cases, cases as f64 / seconds.max(0.001), seconds)
-    }
-
-    fn work(&self, batch: &Batch, next: &AtomicU64) {
-        let mut space = Space::default();
-        loop {
-            let from = next.fetch_add(CHUNK, Relaxed);
-            if from >= batch.count || self.stop.load(Relaxed) {
-                return;
-            }
-            for i in from..batch.count.min(from + CHUNK) {
-                if let Err(what) = self.one(batch, batch.first + i, &mut space) {
-                    self.stop.store(true, Relaxed);
-                    let head = format!("{} seed {} index {}", batch.name(), self.seed, batch.first + i);
-                    let mut first = self.difference.lock().expect("no thread panics with the lock");
-                    first.get_or_insert(format!("{}\n{}", head, what));
-                    return;
-                }
-            }
-        }
+        threads::said(self.counts.cases.load(Relaxed), "cases", self.began)
     }
 
     fn one(&self, batch: &Batch, index: u64, space: &mut Space) -> Result<(), String> {
-        let case = batch.case(self.seed, index);
+        let case = threads::caught("the generator", || Ok(batch.case(self.seed, index)))?;
         let around = index % LIMITS_EVERY == 0;
-        let compared = catch_unwind(AssertUnwindSafe(|| space.compare(self.yardsticks, &case, around)));
-        let outcome = compared.unwrap_or_else(|_| Err(format!("a yardstick stopped on {:?}", case)))?;
+        let outcome = threads::caught("a yardstick", || Ok(space.compare(self.yardsticks, &case, around)))
+            .map_err(|what| format!("{} on {:?}", what, case))??;
         self.counts.cases.fetch_add(1, Relaxed);
         self.counts.calls.fetch_add(outcome.calls, Relaxed);
         self.counts.numbers[outcome.number as usize].fetch_add(1, Relaxed);

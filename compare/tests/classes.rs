@@ -9,7 +9,8 @@ use wrong_words::WRONG;
 /// How many cases the counts are of.
 const CASES: u64 = 20_000;
 
-/// In at least a tenth of the cases with a superclass or an interface the answer is another where order 2's rule is left out.
+/// In at least a tenth of the cases with a superclass or an interface the answer is another where order 2's rule is
+/// left out.
 #[test]
 fn the_rule_decides_in_a_tenth_of_the_cases_with_parents() {
     let left_out =

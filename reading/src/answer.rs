@@ -67,17 +67,16 @@ pub struct Yardstick {
     pub load: fn(u32, usize, &mut [u8]) -> Option<Written>,
 }
 
-/// The table and the question of the program's input.
+/// The table and the question of the program's input; none where it ends before its table does.
+pub fn whole_input(input: &[u8]) -> Option<(&[u8], &[u8])> {
+    let (length, rest) = input.split_first_chunk()?;
+    rest.split_at_checked(u16::from_le_bytes(*length) as usize)
+}
+
+/// The table and the question that the program judges: "with fewer than 2 bytes, or fewer table bytes than the length
+/// says, it judges both as empty".
 pub fn split_input(input: &[u8]) -> (&[u8], &[u8]) {
-    if input.len() < 2 {
-        return (&[], &[]);
-    }
-    let len = u16::from_le_bytes([input[0], input[1]]) as usize;
-    let rest = &input[2..];
-    if rest.len() < len {
-        return (&[], &[]);
-    }
-    rest.split_at(len)
+    whole_input(input).unwrap_or((&[], &[]))
 }
 
 /// The program's input; none where the table's length does not fit in 2 bytes.

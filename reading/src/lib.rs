@@ -12,4 +12,5 @@ pub mod places;
 pub mod rng;
 pub mod words;
 
-pub use answer::{join_input, print_answer, split_input, Answer, Diagnostic, Said, Written, Yardstick, BUFFER};
+pub use answer::{join_input, print_answer, split_input, whole_input};
+pub use answer::{Answer, Diagnostic, Said, Written, Yardstick, BUFFER};

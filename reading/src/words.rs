@@ -22,6 +22,7 @@ pub mod symbols;
 pub mod table;
 pub mod types;
 pub mod unary;
+pub mod undisturbed;
 pub mod written;
 
 use crate::answer::{print_answer, Answer, Said, BUFFER};
@@ -50,11 +51,15 @@ pub fn judge(table: &[u8], question: &[u8]) -> Result<(Judged, Option<Typing>), 
 
 fn judge_of(table: &[u8], question: &[u8], form: ClassForm) -> Result<(Judged, Option<Typing>), u8> {
     match refusal_of(table, question, form) {
-        0 => {}
-        number => return Err(number),
+        0 => Ok(judge_under(&Symbols::of_form(table, form), question)),
+        number => Err(number),
     }
-    let (symbols, question) = (Symbols::of_form(table, form), question::read(question));
-    Ok((judgement::of(&symbols, &question), clean::typing(&symbols, &question)))
+}
+
+/// The same of an accepted question, with the lookups of an accepted table.
+fn judge_under(symbols: &Symbols, question: &[u8]) -> (Judged, Option<Typing>) {
+    let question = question::read(question);
+    (judgement::of(symbols, &question), clean::typing(symbols, &question))
 }
 
 /// What the words say; the pass mark is "1 exactly when a typing exists".
@@ -64,10 +69,16 @@ pub fn said(table: &[u8], question: &[u8]) -> Said {
 
 /// What they say of a table with class records of this form.
 pub fn said_of(table: &[u8], question: &[u8], form: ClassForm) -> Said {
-    match judge_of(table, question, form) {
-        Err(number) => Said::Refused(number),
-        Ok((judged, typing)) => Said::Judged { ty: judged.ty, passed: typing.is_some(), diagnostics: judged.reports },
-    }
+    judge_of(table, question, form).map_or_else(Said::Refused, said_when_judged)
+}
+
+/// What they say of an accepted question, with the lookups of an accepted table.
+pub fn said_under(symbols: &Symbols, question: &[u8]) -> Said {
+    said_when_judged(judge_under(symbols, question))
+}
+
+fn said_when_judged((judged, typing): (Judged, Option<Typing>)) -> Said {
+    Said::Judged { ty: judged.ty, passed: typing.is_some(), diagnostics: judged.reports }
 }
 
 /// The answer; the whole buffer is written.

@@ -1,7 +1,7 @@
 //! A program's input with its table written anew.
 
 use crate::{renew, renew_older, NotRenewed, Renewed};
-use reading::join_input;
+use reading::{join_input, whole_input};
 
 /// An input (the table's length in 2 bytes, the table, the question) with the table anew.
 #[derive(Debug, Clone, PartialEq, Eq)]
@@ -22,8 +22,7 @@ pub fn renew_older_input(input: &[u8]) -> Result<RenewedInput, NotRenewed> {
 }
 
 fn with_table(input: &[u8], anew: impl Fn(&[u8]) -> Result<Renewed, NotRenewed>) -> Result<RenewedInput, NotRenewed> {
-    let (length, rest) = input.split_first_chunk().ok_or(NotRenewed::Cut)?;
-    let (table, question) = rest.split_at_checked(u16::from_le_bytes(*length) as usize).ok_or(NotRenewed::Cut)?;
+    let (table, question) = whole_input(input).ok_or(NotRenewed::Cut)?;
     let table = anew(table)?;
     let input = join_input(&table.table, question).ok_or(NotRenewed::Length(table.table.len()))?;
     Ok(RenewedInput { input, table })

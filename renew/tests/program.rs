@@ -2,29 +2,17 @@
 
 mod common;
 
+use common::process::*;
 use common::*;
 use std::ffi::OsStr;
 use std::fs::{File, Permissions};
-use std::io::Write;
 use std::os::unix::ffi::OsStrExt;
 use std::os::unix::fs::{symlink, PermissionsExt};
 use std::path::{Path, PathBuf};
-use std::process::{Command, Stdio};
+use std::process::Command;
 
 const USAGE: &str = "usage: renew [--content table|input] [--older] [--from FILE] [--to FILE]\n";
 const PROGRAM: &str = env!("CARGO_BIN_EXE_renew");
-
-type Ended = (Option<i32>, Vec<u8>, String);
-
-/// Exit status, standard output, and standard error of a command with this on its standard input.
-fn ended(command: &mut Command, input: &[u8]) -> Ended {
-    command.stdin(Stdio::piped()).stdout(Stdio::piped()).stderr(Stdio::piped());
-    let mut child = command.spawn().expect("the program starts");
-    // A program that ends before it has read all closes the pipe.
-    let _ = child.stdin.take().expect("a pipe").write_all(input);
-    let done = child.wait_with_output().expect("the program ends");
-    (done.status.code(), done.stdout, String::from_utf8(done.stderr).expect("text"))
-}
 
 fn run<S: AsRef<OsStr>>(args: &[S], input: &[u8]) -> Ended {
     ended(Command::new(PROGRAM).args(args), input)
@@ -42,34 +30,6 @@ fn run_files(from: &Path, to: &Path) -> Ended {
 /// A shell's line, in which `$0` is the program and `$1` a file.
 fn shell(line: &str, file: &Path) -> Ended {
     ended(Command::new("sh").args(["-c", line, PROGRAM]).arg(file), &[])
-}
-
-/// A folder of a test's own.
-struct Folder(PathBuf);
-
-impl Folder {
-    fn new(name: &str) -> Folder {
-        let path = std::env::temp_dir().join(format!("renew-{}-{name}", std::process::id()));
-        std::fs::create_dir(&path).expect("the folder is made");
-        Folder(path)
-    }
-
-    fn file(&self, name: impl AsRef<OsStr>, bytes: &[u8]) -> PathBuf {
-        let path = self.0.join(name.as_ref());
-        std::fs::write(&path, bytes).expect("the file is written");
-        path
-    }
-
-    /// How many files are in it.
-    fn count(&self) -> usize {
-        std::fs::read_dir(&self.0).expect("a folder").count()
-    }
-}
-
-impl Drop for Folder {
-    fn drop(&mut self) {
-        let _ = std::fs::remove_dir_all(&self.0);
-    }
 }
 
 fn bytes(path: &Path) -> Vec<u8> {

@@ -1,3 +1,4 @@
 pub mod RefusalNumber
 pub mod Inside
 pub mod Answered
+pub mod Order7Judge

@@ -51,7 +51,8 @@ module _ (S : Symbols) (xs : List Arg) where
       let n : t ≢ s = omega arith in
       rw (le-ltb t s (omega arith), ne_eqb t s n)
 
-  chosen_keep : (vs : List Overload) (t : ℕ) (w : Overload) (c : ℕ) → Lower S vs xs t → chosen S (best t w c) vs xs ≡ best t w c
+  -- lower scores change nothing
+  pub chosen_keep : (vs : List Overload) (t : ℕ) (w : Overload) (c : ℕ) → Lower S vs xs t → chosen S (best t w c) vs xs ≡ best t w c
   unfolding chosen
   chosen_keep [] t w c l = refl
   chosen_keep (v ∷ vs) t w c l =

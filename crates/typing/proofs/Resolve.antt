@@ -84,7 +84,8 @@ silent_known ps i (a ∷ xs) e b m = go (Memᴰ.cases_cons m) (silent_known ps (
     go (inl p) f id q = silent-one a.name ps i a.node (append_nil_left _ _ e) id (ap (λ (z : Arg). z.name) (sym p) ∙ q)
     go (inr n) f id q = f n id q
 
-all_silent : (vs : List Overload) (xs : List Arg) → AllKnown vs xs → all_unknown vs xs ≡ []
+-- no known name is reported
+pub all_silent : (vs : List Overload) (xs : List Arg) → AllKnown vs xs → all_unknown vs xs ≡ []
 unfolding all_unknown
 all_silent [] xs h = refl
 all_silent (v ∷ vs) xs h = append_nils (known_silent v.params 1 xs (h v (Memᴰ.head refl))) (all_silent vs xs (λ u m. h u (Memᴰ.tail m)))

@@ -28,7 +28,7 @@ pub fn telling_byte(rng: &mut Rng) -> u8 {
     }
 }
 
-fn damage_bytes(rng: &mut Rng, bytes: &mut Bytes) {
+pub fn damage_bytes(rng: &mut Rng, bytes: &mut Bytes) {
     if bytes.is_empty() {
         bytes.push(telling_byte(rng));
         return;
@@ -51,7 +51,7 @@ fn damage_bytes(rng: &mut Rng, bytes: &mut Bytes) {
 }
 
 /// Records moved, repeated or dropped whole, so that the rest stays well formed.
-fn damage_records(rng: &mut Rng, table: &[u8]) -> Bytes {
+pub fn damage_records(rng: &mut Rng, table: &[u8]) -> Bytes {
     let mut records: Vec<Bytes> = Vec::new();
     let mut at = 0;
     for len in record_lengths(table) {

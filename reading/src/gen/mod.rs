@@ -14,6 +14,7 @@ pub mod own_parameters;
 mod place;
 pub mod sweep;
 pub mod typed;
+pub mod undisturbed;
 
 use crate::bytes::{without_parents, Bytes};
 use crate::places::with_sizes;

@@ -241,6 +241,13 @@ pub fn record_lengths_of(table: &[u8], form: ClassForm) -> Vec<usize> {
     records(table, form).iter().filter(|r| !r.broken && !r.endless).map(|r| r.len).collect()
 }
 
+/// The bytes of each of these records.
+pub fn split(table: &[u8]) -> Vec<&[u8]> {
+    let mut rest = table;
+    let mut next = |length| rest.split_off(..length).expect("a record");
+    record_lengths(table).into_iter().map(&mut next).collect()
+}
+
 /// 0, or the number that refuses the table.
 pub fn table_number(table: &[u8]) -> u8 {
     check(table).err().unwrap_or(0)

@@ -11,4 +11,12 @@ pub struct Wrong {
     pub yardstick: answer::Yardstick,
 }
 
+/// A wrong version of the condition of document 02's order 7.
+pub struct WrongCondition {
+    pub name: &'static str,
+    pub what: &'static str,
+    /// Whether it holds of two tables and a question.
+    pub holds: fn(&[u8], &[u8], &[u8]) -> bool,
+}
+
 include!(concat!(env!("OUT_DIR"), "/wrong.rs"));

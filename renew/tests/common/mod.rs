@@ -2,6 +2,8 @@
 
 #![allow(dead_code)]
 
+pub mod process;
+
 pub const NONE: u16 = 65_535;
 
 pub fn name(text: &str) -> Vec<u8> {

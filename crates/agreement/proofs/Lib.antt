@@ -1,0 +1,17 @@
+pub mod SameResolved
+pub mod SameRules
+pub mod AlikeWalk
+pub mod JudgedAlike
+pub mod FunctionAdded
+pub mod EqualAnswers
+pub mod OneBehind
+pub mod AtEachCall
+pub mod AddedBehind
+pub mod Order7
+pub mod OneCall
+pub mod NeededTables
+pub mod NeededCalls
+pub mod NeededScores
+pub mod ReadCalls
+pub mod UnreadCalls
+pub mod AgreeingTables

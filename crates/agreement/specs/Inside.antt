@@ -1,0 +1,3 @@
+-- What the proofs hand each other.
+pub mod AlikeLookups
+pub mod EachCall
