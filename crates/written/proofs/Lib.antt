@@ -1,2 +1,3 @@
+pub mod CopyLoops
 pub mod ListFacts
 pub mod Outputs

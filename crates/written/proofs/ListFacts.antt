@@ -1,7 +1,7 @@
 -- Laws on lists of bytes: parts, stores of several bytes, zeros.
 use Prim.Native.Nat.{ℕ, zero, suc, ◌+◌, ◌-◌, ◌≤◌, ◌<◌}
 use lib.ListN.{length, get_or, take, drop, set, replicate, length-append, length-drop, length-take, length-replicate}
-use lib.Seq.{sets, sets-eq, length-take-le, take_all, take-nil, get_or-set_other, drop-set-add, take-set-le, take-append_seam, drop-append-add, length-sets}
+use lib.Seq.{sets, sets-eq, length-take-le, take-suc, take_all, take-nil, get_or-drop, get_or-set_other, drop-set-add, take-set-le, take-append_seam, drop-append-add, length-sets}
 use borrow.Rule.Slice.PartMut.{put_mid}
 use Rattle.std.proofs.lemmas.Slice.{put_mid-paste}
 use mathlib.Core.List.{List, [], ◌∷◌, ◌++◌}
@@ -19,6 +19,11 @@ part_length s at i h = length-take-le i (drop at s) (omega (arith, length-drop a
 pub part_short : (s : List ℕ) (at i : ℕ) → length (take i (drop at s)) ≤ i
 part_short s at i = omega (arith, length-take i (drop at s))
 
+pub part_next : (s : List ℕ) (at i : ℕ) → at + i < length s → take (i + 1) (drop at s) ≡ take i (drop at s) ++ (get_or s (at + i) 0 ∷ [])
+part_next s at i h =
+    let room : i < length (drop at s) = omega (arith, length-drop at s) in
+    ap (λ (k : ℕ). take k (drop at s)) (add-one i) ∙ take-suc (drop at s) i 0 room ∙ ap (λ (v : ℕ). take i (drop at s) ++ (v ∷ [])) (get_or-drop at s i 0)
+
 -- where fewer are there, a part is all that is left
 pub part-rest : (r d : List ℕ) (n : ℕ) → r ≡ d → length r < n → r ≡ take n d
 part-rest r d n e h = let f : length r ≡ length d = ap (λ (l : List ℕ). length l) e in e ∙ sym (take_all n d (omega arith))
@@ -31,6 +36,12 @@ drop-take (suc j) (suc n) [] = sym (take-nil (suc n - suc j))
 drop-take (suc j) (suc n) (x ∷ s) = drop-take j n s ∙ ap (λ (k : ℕ). take k (drop j s)) (sym (suc-sub-suc n j))
 
 -- ---- stores of several bytes
+pub sets_snoc : (vs a : List ℕ) (p x : ℕ) → set (sets a p vs) (p + length vs) x ≡ sets a p (vs ++ (x ∷ []))
+sets_snoc [] a p x = ap (λ (k : ℕ). set a k x) (add-zero p)
+sets_snoc (v ∷ vs) a p x =
+    let e : p + suc (length vs) ≡ suc p + length vs = omega arith in
+    ap (λ (k : ℕ). set (sets (set a p v) (suc p) vs) k x) e ∙ sets_snoc vs (set a p v) (suc p) x
+
 pub sets-append : (vs ws a : List ℕ) (p : ℕ) → sets (sets a p vs) (p + length vs) ws ≡ sets a p (vs ++ ws)
 sets-append [] ws a p = ap (λ (k : ℕ). sets a k ws) (add-zero p)
 sets-append (v ∷ vs) ws a p =

@@ -24,13 +24,14 @@ impl WriteFault {
     }
 }
 
-// The bytes of s go to a place of some bytes.
-#[tactic(auto, using(crate::proofs::ListFacts::part_stored))]
+// The bytes of s go to a place of some bytes. By a loop: copy_from_slice would call memmove, a name that the archive for C then needs from outside.
 pub fn copy_in(out: &mut [u8], to: usize, s: &[u8])
     requires { to + length s.now ≤ length out.old }
     ensures { out.new ≡ sets out.old to s.now }
 {
-    out[to..to + s.len()].copy_from_slice(s);
+    for i in 0..s.len() {
+        out[to + i] = s[i];
+    }
 }
 
 // The low two bytes of n go to `at` and behind it, low byte first.
