@@ -30,7 +30,7 @@ WORD = re.compile(rf"(?:{NAME}|\.)+")
 FUNCTION = re.compile(r'^([ \t]*)pub (?:\w+ |"C" )*fn (\w+)', re.M)
 IMPL = re.compile(r"^impl\b[^{]*?(\w+)(?:<[^{]*>)?\s*\{", re.M)
 # The toolchain's own libraries; a crate here has none of these names.
-LIBRARY = re.compile(r"arrayvec|core|io|libc|os|std(?:_\w+)?")
+LIBRARY = re.compile(r"core|io|libc|os|std(?:_\w+)?")
 
 
 def blanked(pattern, text):

@@ -134,26 +134,26 @@ module _ {t : List ℕ} (ok : CleanTable t) (H : Header) {q : List ℕ} {s : Sta
     unfolding row_asked asked_row
     row_is = is row_asked
 
-    args_is : args_in ts₁ row.args.items ≡ (judges (symbols_of t) H rs n).args
+    args_is : args_in ts₁ row.args ≡ (judges (symbols_of t) H rs n).args
     unfolding row_asked asked_row
     args_is = row_args ok row_asked lent (is row_asked) ∙ ap (λ (k : ℕ). (judges (symbols_of t) H rs k).args) (ap (λ (z : State). z.node) before.result)
 
-    args_few : length (args_in ts₁ row.args.items) ≤ 16
+    args_few : length (args_in ts₁ row.args) ≤ 16
     args_few = omega (arith, ap (λ (xs : List Arg). length xs) args_is ∙ row_count (symbols_of t) H rs n)
 
-    verdict_is : resolve (symbols_of t) ((symbols_of t).functions_of of id) s.node (args_in ts₁ row.args.items)
+    verdict_is : resolve (symbols_of t) ((symbols_of t).functions_of of id) s.node (args_in ts₁ row.args)
         ≡ resolve (symbols_of t) c.overloads s.node (judges (symbols_of t) H rs n).args
     verdict_is = rw (list.owned, list.list, args_is)
 
     row_later : LaterRow t H s p n g (d ++ at_node s.node c.before) ts ts₁ b b₃ row.state rs
     row_later = later_row before row_is
 
-    pub call_ready : CallAsked ts₁ s.node b₃ (resolve (symbols_of t) ((symbols_of t).functions_of of id) s.node (args_in ts₁ row.args.items))
+    pub call_ready : CallAsked ts₁ s.node b₃ (resolve (symbols_of t) ((symbols_of t).functions_of of id) s.node (args_in ts₁ row.args))
     call_ready =
         let J : Judgements = judges (symbols_of t) H rs n in
         let D : List Diag = d ++ at_node s.node c.before in
         let cnt : b₃.count ≡ b.count + length (D ++ J.diags) = reached_count row_later.reached in
-        let v = args_in ts₁ row.args.items in
+        let v = args_in ts₁ row.args in
         record {
           room = slot_room x lent;
           few = omega (arith, length-append D J.diags, before_few, row_later.few, slots_few (length q));
@@ -165,8 +165,8 @@ module _ {t : List ℕ} (ok : CleanTable t) (H : Header) {q : List ℕ} {s : Sta
         → judge (symbols_of t) H x.tree s.node
         ≡ called s.node c.before (resolve (symbols_of t) c.overloads s.node (judges (symbols_of t) H rs n).args) (g ++ (judges (symbols_of t) H rs n).typed) d (judges (symbols_of t) H rs n).diags
         → p + bytess rs ≡ s.at + bytes x.tree → number_after_row rs n ≡ number_after x.tree s.node → length d + most_at_node * suc (sizes rs) ≤ most_at_node * size x.tree
-        → Finished row.state s.node (resolve (symbols_of t) ((symbols_of t).functions_of of id) s.node (args_in ts₁ row.args.items)).ty
-        (resolve (symbols_of t) ((symbols_of t).functions_of of id) s.node (args_in ts₁ row.args.items)).diags ts₁ ts' b₃ b' r
+        → Finished row.state s.node (resolve (symbols_of t) ((symbols_of t).functions_of of id) s.node (args_in ts₁ row.args)).ty
+        (resolve (symbols_of t) ((symbols_of t).functions_of of id) s.node (args_in ts₁ row.args)).diags ts₁ ts' b₃ b' r
         → NodeIs t H s ts₀ ts' b b' r x.tree
     call_close fill eq ep en size f =
         let J : Judgements = judges (symbols_of t) H rs n in
@@ -240,7 +240,7 @@ module _ {t : List ℕ} (ok : CleanTable t) (fit : CallsFit (symbols_of t)) (H :
 
     module _ {ts ts₁ : List Ty} {b₂ : Reports} {row : RowJudged} (lent : Space q ts₁)
         (js : (y : RowAsked q s₁ b₁ 0 many) → RowIs t H s₁ [] ts ts₁ b₁ b₂ row y.trees) where
-      pub args_ready : CallAsked ts₁ s.node b₂ (resolve (symbols_of t) ((symbols_of t).functions_of no_id id) s.node (args_in ts₁ row.args.items))
+      pub args_ready : CallAsked ts₁ s.node b₂ (resolve (symbols_of t) ((symbols_of t).functions_of no_id id) s.node (args_in ts₁ row.args))
       unfolding size Legal
       args_ready =
           let (rs, e, counted, st) = is_call q s.at x.tree id many x.stands h in
@@ -251,8 +251,8 @@ module _ {t : List ℕ} (ok : CleanTable t) (fit : CallsFit (symbols_of t)) (H :
           (λ xs. call_short (symbols_of t) (symbols_fit t ok.clean) H id c s.node xs found) (λ xs k. rw (list.owned, list.list) at (fit.most no_id id s.node xs k))
 
       pub ret_call : {ts' : List Ty} {b' : Reports} {r : State}
-          → Finished row.state s.node (resolve (symbols_of t) ((symbols_of t).functions_of no_id id) s.node (args_in ts₁ row.args.items)).ty
-          (resolve (symbols_of t) ((symbols_of t).functions_of no_id id) s.node (args_in ts₁ row.args.items)).diags ts₁ ts' b₂ b' r
+          → Finished row.state s.node (resolve (symbols_of t) ((symbols_of t).functions_of no_id id) s.node (args_in ts₁ row.args)).ty
+          (resolve (symbols_of t) ((symbols_of t).functions_of no_id id) s.node (args_in ts₁ row.args)).diags ts₁ ts' b₂ b' r
           → NodeIs t H s ts ts' b b' r x.tree
       unfolding judge size Legal bytes number_after call_step
       ret_call f =
@@ -357,7 +357,7 @@ module _ {t : List ℕ} (ok : CleanTable t) (fit : CallsFit (symbols_of t)) (H :
 
         module _ {ts₁ : List Ty} {b₂ : Reports} {row : RowJudged} (lent : Space q ts₁)
             (js : (y : RowAsked q r₁ b₁ 0 many) → RowIs t H r₁ [] ts ts₁ b₁ b₂ row y.trees) where
-          pub method_ready : CallAsked ts₁ s.node b₂ (resolve (symbols_of t) ((symbols_of t).functions_of of id) s.node (args_in ts₁ row.args.items))
+          pub method_ready : CallAsked ts₁ s.node b₂ (resolve (symbols_of t) ((symbols_of t).functions_of of id) s.node (args_in ts₁ row.args))
           unfolding size Legal
           method_ready =
               let (c, rs, e, counted, sc, st) = is_method q s.at x.tree id many x.stands h in
@@ -369,8 +369,8 @@ module _ {t : List ℕ} (ok : CleanTable t) (fit : CallsFit (symbols_of t)) (H :
               (λ xs. method_short (symbols_of t) (symbols_fit t ok.clean) H id (judge (symbols_of t) H c (suc s.node)).ty f s.node xs found) (λ xs k. rw (list.owned, list.list) at (fit.most of id s.node xs k))
 
           pub ret_method : {ts' : List Ty} {b' : Reports} {r : State}
-              → Finished row.state s.node (resolve (symbols_of t) ((symbols_of t).functions_of of id) s.node (args_in ts₁ row.args.items)).ty
-              (resolve (symbols_of t) ((symbols_of t).functions_of of id) s.node (args_in ts₁ row.args.items)).diags ts₁ ts' b₂ b' r
+              → Finished row.state s.node (resolve (symbols_of t) ((symbols_of t).functions_of of id) s.node (args_in ts₁ row.args)).ty
+              (resolve (symbols_of t) ((symbols_of t).functions_of of id) s.node (args_in ts₁ row.args)).diags ts₁ ts' b₂ b' r
               → NodeIs t H s ts₀ ts' b₀ b' r x.tree
           unfolding judge size Legal bytes number_after method_step
           ret_method w =

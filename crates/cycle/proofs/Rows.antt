@@ -68,7 +68,7 @@ handed_count (x ∷ xs) = ap suc (handed_count xs)
 
 module _ {t : List ℕ} (ok : CleanTable t) {H : Header} {q : List ℕ} {s : State} {b : Reports} {n : ℕ} (x : RowAsked q s b 0 n) {ts ts' : List Ty} {b' : Reports} {r : RowJudged}
     (lent : Space q ts') (is : RowIs t H s [] ts ts' b b' r x.trees) where
-  pub row_args : args_in ts' r.args.items ≡ (judges (symbols_of t) H x.trees s.node).args
+  pub row_args : args_in ts' r.args ≡ (judges (symbols_of t) H x.trees s.node).args
   row_args =
       ap (λ (ys : List Handed). args_in ts' ys) is.args
       ∙ args_are ts' s.node (judges (symbols_of t) H x.trees s.node).args (row_held ok H q x.trees s.node s.at x.stands x.room is.filled (space_before is.filled lent))
@@ -107,7 +107,7 @@ module _ {q : List ℕ} {s : State} {b : Reports} {k left : ℕ} (x : RowAsked q
 
 -- ---- what is left of a row
 module _ {t : List ℕ} {H : Header} {q : List ℕ} {s : State} {b : Reports} {k left : ℕ} (x : RowAsked q s b k left) (xs : List Handed) (ts : List Ty) where
-  pub ret_done : left ≡ 0 → RowIs t H s xs ts ts b b (record { args = record { items = xs }; state = s }) x.trees
+  pub ret_done : left ≡ 0 → RowIs t H s xs ts ts b b (record { args = xs; state = s }) x.trees
   unfolding judges bytess number_after_row sizes handed_on
   ret_done z =
       rw (is_nil x.trees (x.counted ∙ z))
@@ -173,7 +173,7 @@ module _ {t : List ℕ} {H : Header} {q : List ℕ} {s : State} {n : ℕ} {xs₀
         then = λ r ts' b' z. w.then r ts' b' (ret_also w.rest xs ts ne y i z);
       }
 
-  pub turn_last : n ≤ k → RowIs t H s xs₀ ts₀ ts b₀ b (record { args = record { items = xs }; state = e }) whole
+  pub turn_last : n ≤ k → RowIs t H s xs₀ ts₀ ts b₀ b (record { args = xs; state = e }) whole
   turn_last h = w.then _ _ _ (ret_done w.rest xs ts (omega (arith, w.some)))
 
 pub row_fits : {q : List ℕ} {s : State} {b : Reports} {n : ℕ} → RowAsked q s b 0 n → n ≤ 16

@@ -26,7 +26,7 @@ use symbol::lookups::first_function;
 use ty::Kind;
 
 // A judged argument row: its arguments, and how far the judgement is behind it.
-#[derive(Drop)]
+#[derive(Clone, Copy)]
 pub struct RowJudged {
     pub args: Args,
     pub state: State,

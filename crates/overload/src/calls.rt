@@ -1,6 +1,5 @@
 // A call of a list of functions.
 ghost use Rattle.std.specs.Prelude.{◌+◌, ◌≤◌, ◌<◌, ◌≡◌, length};
-ghost use Rattle.arrayvec.specs.ArrayVec.{array_vec_len};
 ghost use Rattle.area.specs.Diagnostic.{count_limit};
 ghost use Rattle.area.specs.Reported.{reported};
 ghost use Rattle.index.specs.Inside.Found.{FunctionAt};
@@ -109,8 +108,8 @@ fn take_one(
     reports: &mut Reports<'_>,
 ) -> Tally
     requires { FunctionAt above.now p × (f.now ≡ function_at above.now p) × Room w reports.old }
-    ensures tally { result ≡ tally_with above.now (args_in slots.now args.now.items) w p }
-    ensures reports { reports.new ≡ reported reports.old (unknowns_at above.now p (args_in slots.now args.now.items)) }
+    ensures tally { result ≡ tally_with above.now (args_in slots.now args.now) w p }
+    ensures reports { reports.new ≡ reported reports.old (unknowns_at above.now p (args_in slots.now args.now)) }
 {
     unknown_names(&f.params, args, reports);
     let score = score_function(above, f, slots, args);
@@ -134,9 +133,9 @@ fn turn(
     reports: &mut Reports<'_>,
 ) -> Tally
     requires { FunctionAt above.now p × (f.now ≡ function_at above.now p) × Room w reports.old }
-    ensures tally { result ≡ tally_more above.now (args_in slots.now args.now.items) w (taken above.now own (array_vec_len args.now) p) }
+    ensures tally { result ≡ tally_more above.now (args_in slots.now args.now) w (taken above.now own (length args.now) p) }
     ensures reports { reports.new ≡ reported reports.old
-        (all_unknown_at above.now (taken above.now own (array_vec_len args.now) p) (args_in slots.now args.now.items)) }
+        (all_unknown_at above.now (taken above.now own (length args.now) p) (args_in slots.now args.now)) }
 {
     if (own & f.builtin) || !viable(f, args.len()) {
         return w;
@@ -156,10 +155,10 @@ fn walk(
     args: &Args,
     reports: &mut Reports<'_>,
 ) -> Tally
-    requires { (array_vec_len args.now ≤ 16) × (reports.old.count + most_diagnostics ≤ count_limit) }
-    ensures tally { result ≡ tally_of above.now (args_in slots.now args.now.items) (picked_in above.now own (array_vec_len args.now) (id_number owner) id) }
+    requires { (length args.now ≤ 16) × (reports.old.count + most_diagnostics ≤ count_limit) }
+    ensures tally { result ≡ tally_of above.now (args_in slots.now args.now) (picked_in above.now own (length args.now) (id_number owner) id) }
     ensures reports { reports.new ≡ reported reports.old
-        (all_unknown_at above.now (picked_in above.now own (array_vec_len args.now) (id_number owner) id) (args_in slots.now args.now.items)) }
+        (all_unknown_at above.now (picked_in above.now own (length args.now) (id_number owner) id) (args_in slots.now args.now)) }
     ensures room { Room result reports.new }
     ensures clean { table_fault above.now ≡ 0 }
 {
@@ -203,7 +202,7 @@ fn settle(
 ) -> Source
     requires { FunctionAt above.now p × Room w reports.old }
     ensures source { result ≡ settled_source above.now p w }
-    ensures reports { reports.new ≡ reported reports.old (settled_diags above.now p node (args_in slots.now args.now.items) w) }
+    ensures reports { reports.new ≡ reported reports.old (settled_diags above.now p node (args_in slots.now args.now) w) }
 {
     if let Some(best) = w.highest {
         report_if(1 < best.many, DiagnosticKind::Tie, node, best.many, reports);
@@ -230,8 +229,8 @@ fn resolve(
     reports: &mut Reports<'_>,
 ) -> Source
     requires { reports.old.count + most_diagnostics ≤ count_limit }
-    ensures source { result ≡ call_source above.now (id_number owner) id (args_in slots.now args.now.items) }
-    ensures reports { reports.new ≡ reported reports.old (call_at above.now (id_number owner) id node slots.now args.now.items).diags }
+    ensures source { result ≡ call_source above.now (id_number owner) id (args_in slots.now args.now) }
+    ensures reports { reports.new ≡ reported reports.old (call_at above.now (id_number owner) id node slots.now args.now).diags }
 {
     let own = any_own(above.table(), owner, id);
     let n = args.len();
@@ -255,8 +254,8 @@ fn resolve_marked(
     reports: &mut Reports<'_>,
 ) -> Source
     requires { (length classes.now ≤ 16) × (reports.old.count + most_diagnostics ≤ count_limit) }
-    ensures source { result ≡ call_source table.now (id_number owner) id (args_in slots.now args.now.items) }
-    ensures reports { reports.new ≡ reported reports.old (call_at table.now (id_number owner) id node slots.now args.now.items).diags }
+    ensures source { result ≡ call_source table.now (id_number owner) id (args_in slots.now args.now) }
+    ensures reports { reports.new ≡ reported reports.old (call_at table.now (id_number owner) id node slots.now args.now).diags }
 {
     let mut marks = [0u16; IDS];
     mark_above(table, classes, &mut marks);
@@ -276,8 +275,8 @@ pub fn check_call_args(
     reports: &mut Reports<'_>,
 ) -> Source
     requires { reports.old.count + most_diagnostics ≤ count_limit }
-    ensures source { result ≡ call_source table.now (id_number owner) id (args_in slots.now args.now.items) }
-    ensures reports { reports.new ≡ reported reports.old (call_at table.now (id_number owner) id node slots.now args.now.items).diags }
+    ensures source { result ≡ call_source table.now (id_number owner) id (args_in slots.now args.now) }
+    ensures reports { reports.new ≡ reported reports.old (call_at table.now (id_number owner) id node slots.now args.now).diags }
 {
     let classes = classes_of(slots, args);
     let classes = classes.as_slice();

@@ -43,7 +43,7 @@ pub fn report_if(
 
 // Whether an argument has a name that no parameter has.
 fn unknown(params: &Params, name: Option<u16>) -> bool
-    ensures { (t : List ℕ) → result ≡ unknown (optional name) (params_in t params.now.items) }
+    ensures { (t : List ℕ) → result ≡ unknown (optional name) (params_in t params.now) }
 {
     name.is_some_and(|id| named_place(params.as_slice(), id).is_none())
 }
@@ -51,7 +51,7 @@ fn unknown(params: &Params, name: Option<u16>) -> bool
 // The unknown names among a call's arguments.
 pub fn unknown_names(params: &Params, args: &Args, reports: &mut Reports<'_>)
     requires { reports.old.count + 16 ≤ count_limit }
-    ensures { (t : List ℕ) (ts : List Ty) → reports.new ≡ reported reports.old (unknowns (params_in t params.now.items) 1 (args_in ts args.now.items)) }
+    ensures { (t : List ℕ) (ts : List Ty) → reports.new ≡ reported reports.old (unknowns (params_in t params.now) 1 (args_in ts args.now)) }
 {
     for (i, x) in args.as_slice().iter().enumerate() {
         let test = unknown(params, x.name);
@@ -92,7 +92,7 @@ pub fn mismatches(
 )
     requires { reports.old.count + 16 ≤ count_limit }
     ensures { reports.new ≡ reported reports.old
-        (mismatches (symbols_of above.now) 1 (with_params (params_in above.now params.now.items) (args_in slots.now args.now.items))) }
+        (mismatches (symbols_of above.now) 1 (with_params (params_in above.now params.now) (args_in slots.now args.now))) }
 {
     let params = params.as_slice();
     let marks = named_pass(above, params, slots, args).marks;

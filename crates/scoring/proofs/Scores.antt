@@ -282,13 +282,13 @@ module _ (t : List ℕ) (p : List Read) (marks : List Bool) (ts : List Ty) (xs :
 
 -- ---- both
 -- the passes n and s
-module _ (t : List ℕ) (f : Function) (xs : List Seen) (n : NamedPass) (s : Maybe Score) (e : n ≡ named_in t f.params.items xs)
-    (g : s ≡ as_score (positional_in t f.params.items n.marks xs)) (few : length f.params.items ≤ 16) where
+module _ (t : List ℕ) (f : Function) (xs : List Seen) (n : NamedPass) (s : Maybe Score) (e : n ≡ named_in t f.params xs)
+    (g : s ≡ as_score (positional_in t f.params n.marks xs)) (few : length f.params ≤ 16) where
   pub score_is : (r : Maybe Score) → r ≡ as_score (plus (score_of n.score) (score_of s)) → r ≡ as_score (score_in t f xs)
   unfolding score
   score_is r h =
-      let ps = params_in t f.params.items in
-      let wide : length ps ≤ 16 = omega (arith, params_length t f.params.items) in
+      let ps = params_in t f.params in
+      let wide : length ps ≤ 16 = omega (arith, params_length t f.params) in
       let free : unmarked ps n.marks ≡ free_params ps xs = ap (λ (z : NamedPass). unmarked ps z.marks) e ∙ unmarked_free ps xs wide in
       h ∙ ap (λ (z : Option ℕ). as_score (plus z (score_of s))) (score_of_lem n.score _ (ap (λ (z : NamedPass). z.score) e))
       ∙ ap (λ (z : Option ℕ). as_score (plus (named_score (symbols_of t) ps xs) z))

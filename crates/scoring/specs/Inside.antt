@@ -1,5 +1,6 @@
 -- What code and proofs of the scores hand each other.
 pub mod Args
+pub mod NoArg
 pub mod Params
 pub mod Passes
 pub mod Received

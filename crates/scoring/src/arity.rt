@@ -8,17 +8,21 @@ use symbol::functions::{Function, Params};
 // How many parameters have no default and are not vararg.
 #[tactic(auto, using(crate::proofs::Arities::required_counted))]
 fn required(params: &Params) -> usize
-    ensures { (t : List ℕ) → result ≡ required_of (params_in t params.now.items) }
+    ensures { (t : List ℕ) → result ≡ required_of (params_in t params.now) }
 {
-    params.iter().filter(|p| !(p.default || p.vararg)).count()
+    params
+        .as_slice()
+        .iter()
+        .filter(|p| !(p.default || p.vararg))
+        .count()
 }
 
 // Whether the last parameter is vararg.
 #[tactic(auto, using(crate::proofs::Arities::last_some, crate::proofs::Arities::last_none))]
 fn last_vararg(params: &Params) -> bool
-    ensures { (t : List ℕ) → result ≡ last_vararg (params_in t params.now.items) }
+    ensures { (t : List ℕ) → result ≡ last_vararg (params_in t params.now) }
 {
-    params.last().is_some_and(|p| p.vararg)
+    params.as_slice().last().is_some_and(|p| p.vararg)
 }
 
 // Whether n arguments are enough and not too many.

@@ -94,14 +94,14 @@ fn named_turn(
 // The named pass. What is above, slots and arguments apart, here and below: a struct of the three would be taken apart in each function that it comes to.
 #[tactic(auto, using(crate::proofs::Scores::named_whole))]
 pub fn named_pass(above: &Above<'_>, params: &[Param], slots: &[Slot], args: &Args) -> NamedPass
-    ensures is { result ≡ named_in above.now params.now (args_in slots.now args.now.items) }
+    ensures is { result ≡ named_in above.now params.now (args_in slots.now args.now) }
     ensures few { points_of result.score ≤ 64 }
 {
     let mut m = NamedPass {
         score: Some(Score { points: 0 }),
         marks: [false; 16],
     };
-    for a in args.iter() {
+    for a in args.as_slice() {
         m = named_turn(above, params, a.name, type_of(slots, a.node), m);
     }
     m
@@ -139,14 +139,14 @@ fn positional_pass(
     slots: &[Slot],
     args: &Args,
 ) -> Option<Score>
-    ensures is { result ≡ as_score (positional_in above.now params.now marks (args_in slots.now args.now.items)) }
+    ensures is { result ≡ as_score (positional_in above.now params.now marks (args_in slots.now args.now)) }
     ensures few { points_of result ≤ 64 }
 {
     let mut w = PositionalPass {
         score: Some(Score { points: 0 }),
         next: 0,
     };
-    for a in args.iter() {
+    for a in args.as_slice() {
         w = unnamed_turn(above, params, marks, a.name, type_of(slots, a.node), w);
     }
     w.score
@@ -154,7 +154,7 @@ fn positional_pass(
 
 // The score of an overload, and none where an argument does not match.
 pub fn score_function(above: &Above<'_>, f: &Function, slots: &[Slot], args: &Args) -> Option<Score>
-    ensures { result ≡ as_score (score_in above.now f.now (args_in slots.now args.now.items)) }
+    ensures { result ≡ as_score (score_in above.now f.now (args_in slots.now args.now)) }
 {
     let params = f.params.as_slice();
     let named = named_pass(above, params, slots, args);

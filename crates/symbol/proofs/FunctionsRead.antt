@@ -93,7 +93,7 @@ module _ (t : List ℕ) (p : Place) (f : FunctionAt t p) (end : ℕ) (is-end : e
       function_read_lem : (v b : ℕ) → v ≡ get_or t (p.at + 5) 0 → b ≡ get_or t (p.at + 6) 0 → (ps : List Param)
           → ParamsAre t (params_from n (part t (p.at + 8 + len) end)) n ps
           → FunctionRead t (overload_at t p)
-          (record { builtin = eqb b 1; visibility = visibility_from v; result = record { start = p.at + 8; len = len }; params = record { items = ps } })
+          (record { builtin = eqb b 1; visibility = visibility_from v; result = record { start = p.at + 8; len = len }; params = ps })
       unfolding overload_found
       function_read_lem v b ev eb ps h =
           let five : v ≡ get_or r 5 0 = ev ∙ sym (byte 5 (omega arith)) in
@@ -111,12 +111,12 @@ module _ (t : List ℕ) (p : Place) (f : FunctionAt t p) (end : ℕ) (is-end : e
 
       pub function-fields : (v : Visibility) (b : ℕ) → v ≡ visibility_from (get_or t (p.at + 5) 0) → b ≡ get_or t (p.at + 6) 0 → (ps : List Param)
           → ps ≡ params_laid t end n (p.at + 8 + len)
-          → record { builtin = eqb b 1; visibility = v; result = record { start = p.at + 8; len = len }; params = record { items = ps } } ≡ function_at t p
+          → record { builtin = eqb b 1; visibility = v; result = record { start = p.at + 8; len = len }; params = ps } ≡ function_at t p
       unfolding function_at
       function-fields v b ev eb ps h =
           let q = h ∙ (λ i. params_laid t end (count i) (p.at + 8 + is i)) in
           let e = is-end ∙ ap (λ (k : ℕ). p.at + k) (same_size (drop p.at t)) in
-          (λ i. record { builtin = eqb (eb i) 1; visibility = ev i; result = record { start = p.at + 8; len = is i }; params = record { items = q i } })
+          (λ i. record { builtin = eqb (eb i) 1; visibility = ev i; result = record { start = p.at + 8; len = is i }; params = q i })
           ∙ ap (function_until t p.at) e
 
 -- A FUNCTION AS IT IS READ is the overload of its record

@@ -4,6 +4,7 @@ pub mod LaidLookups
 pub mod PlacesFound
 pub mod ParentLate
 pub mod Wholes
+pub mod PlacesOccupied
 pub mod ParamsLaid
 pub mod ParamNames
 pub mod NamesFirst

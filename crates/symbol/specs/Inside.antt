@@ -2,6 +2,8 @@ pub mod Asked
 pub mod Join
 pub mod IndexMade
 pub mod LookupAnswer
+pub mod NoParam
+pub mod Occupied
 pub mod ParamsRow
 pub mod Checked
 pub mod FoundSymbols

@@ -1,5 +1,5 @@
 // Reading one function of an accepted table.
-ghost use Rattle.std.specs.Prelude.{◌≡◌, ◌≤◌, ◌<◌, length};
+ghost use Rattle.std.specs.Prelude.{◌≡◌, ◌++◌, ◌∷◌, [], ◌≤◌, ◌<◌, length};
 ghost use Rattle.symbol.specs.Inside.LookupAnswer.{overload_at};
 ghost use Rattle.symbol.specs.Inside.FunctionFields.{params_laid, function_at};
 ghost use Rattle.index.specs.Inside.Found.{FunctionAt};
@@ -8,9 +8,9 @@ ghost use Rattle.symbol.specs.Inside.ParamsRow.{part, ParamsAt};
 ghost use Rattle.record.specs.Inside.Walk.{behind};
 
 use crate::visibility::Visibility;
-use arrayvec::ArrayVec;
 use index::index::Place;
 use record::front::{LONGEST, read_record, record_len};
+use std::marker::Model;
 use ty::read::{TypeFault, read_type};
 use ty::{Part, TypeRead, byte_at, id_at};
 
@@ -23,11 +23,70 @@ pub struct Param {
     pub part: Part,
 }
 
-// At most 16 of them, without a heap.
-pub type Params = ArrayVec<Param, 16>;
+// At most 16 of them, in an array of a fixed length since the judge has no heap. Each place behind them is blank, so that the list gives the fields back, which
+// Copy needs. scoring's Args and overload's Classes are twins: no generic struct holds an array of its parameter.
+#[derive(Clone, Copy)]
+pub struct Params {
+    items: [Param; 16],
+    count: usize,
+}
+
+impl Model for Params {
+    ghost use Rattle.std.specs.Prelude.{List, length, take};
+    ghost use Rattle.symbol.specs.declared.functions.Param.{Param};
+    ghost use Rattle.symbol.specs.Inside.NoParam.{no_param};
+    ghost use Rattle.symbol.specs.Inside.Occupied.{Occupied, with_blanks, occupied_all, occupied_length};
+
+    ghost Value = { List Param };
+
+    ghost view = { λ s. take s.count s.items };
+
+    ghost invariant = { λ s. Occupied no_param s.count s.items };
+
+    ghost inverse = { λ xs. record { items = with_blanks no_param xs; count = length xs } };
+
+    ghost inverse_ok = { λ s h i. record { items = occupied_all h i; count = occupied_length h i } };
+}
+
+impl Params {
+    // No parameters.
+    pub fn new() -> Params
+        ensures { result ≡ [] }
+    {
+        Params {
+            items: [Param::default(); 16],
+            count: 0,
+        }
+    }
+
+    // How many there are.
+    pub fn len(&self) -> usize
+        ensures value { result ≡ length self.now }
+        ensures fits { result ≤ 16 }
+    {
+        self.count
+    }
+
+    // The parameters, one behind another.
+    pub fn as_slice(&self) -> &[Param]
+        ensures value { result.now ≡ self.now }
+        ensures fits { length result.now ≤ 16 }
+    {
+        &self.items[..self.count]
+    }
+
+    // One parameter more.
+    pub fn push(&mut self, p: Param)
+        requires { length self.old < 16 }
+        ensures { self.new ≡ self.old ++ p ∷ [] }
+    {
+        self.items[self.count] = p;
+        self.count += 1;
+    }
+}
 
 // A function; its result type lies in the table.
-#[derive(Drop)]
+#[derive(Clone, Copy)]
 pub struct Function {
     pub builtin: bool,
     pub visibility: Visibility,
@@ -54,7 +113,7 @@ fn type_length(t: &[u8], from: usize, end: usize) -> usize
 // The parameters that begin at from, in the bytes before end.
 fn read_params(t: &[u8], from: usize, end: usize, count: usize) -> Params
     requires { (from ≤ end) × (end ≤ length t.now) × (count ≤ 16) × ParamsAt count (part t.now from end) }
-    ensures { result.items ≡ params_laid t.now end count from }
+    ensures { result ≡ params_laid t.now end count from }
 {
     // at goes on by hand: where the next one begins is known once this one is read.
     let mut at = from;

@@ -93,7 +93,7 @@ pub record RowIs (t : List ℕ) (H : Header) (s : State) (xs : List Handed) (ts 
     : Type 0 where
   pub reached : Reached s (s.at + bytess trees) (number_after_row trees s.node) (judges_at t H s trees).typed (judges_at t H s trees).diags b b' r.state
   pub filled : SlotsFilled ts ts' (judges_at t H s trees).typed
-  pub args : r.args.items ≡ xs ++ handed_on (judges_at t H s trees).args
+  pub args : r.args ≡ xs ++ handed_on (judges_at t H s trees).args
   pub few : length (judges_at t H s trees).diags ≤ most_at_node * sizes trees
 
 -- What the node judge leaves, whatever tree stands at s.

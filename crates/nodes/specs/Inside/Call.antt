@@ -76,7 +76,7 @@ method_at table H id t = method_of (symbols_of table) H id t
 -- what a call of an owner's list gives for the arguments of a row
 abbrev pub verdict_at : Slice → List Ty → ℕ → ℕ → ℕ → RowJudged → Verdict
 verdict_at table ts owner id node row =
-    resolve (symbols_of table) ((symbols_of table).functions_of owner id) node (args_in ts row.args.items)
+    resolve (symbols_of table) ((symbols_of table).functions_of owner id) node (args_in ts row.args)
 
 -- node n is finished with the type and the diagnostics of v
 abbrev pub FinishedCall : State → ℕ → Verdict → List Ty → List Ty → Reports → Reports → State → Type 0

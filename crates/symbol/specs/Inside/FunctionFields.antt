@@ -31,7 +31,7 @@ function_sized t a e n =
       builtin = eqb (get_or t (a + 6) 0) 1;
       visibility = visibility_from (get_or t (a + 5) 0);
       result = record { start = a + 8; len = n };
-      params = record { items = params_laid t e (get_or t (a + 7) 0) (a + 8 + n) };
+      params = params_laid t e (get_or t (a + 7) 0) (a + 8 + n);
     }
 
 abbrev pub function_until : List ℕ → ℕ → ℕ → Function

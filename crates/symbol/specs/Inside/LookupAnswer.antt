@@ -69,7 +69,7 @@ overload_in t f =
     record {
       builtin = f.builtin;
       visibility = visibility_number f.visibility;
-      params = params_in t f.params.items;
+      params = params_in t f.params;
       result = take f.result.len (drop f.result.start t);
     }
 
@@ -81,5 +81,5 @@ InTable t p = p.part.start + p.part.len ≤ length t
 pub record FunctionRead (t : List ℕ) (o : Overload) (f : Function) : Type 0 where
   pub same : overload_in t f ≡ o
   pub result : f.result.start + f.result.len ≤ length t
-  pub count : length f.params.items ≤ 16
-  pub types : All (InTable t) f.params.items
+  pub count : length f.params ≤ 16
+  pub types : All (InTable t) f.params

@@ -203,8 +203,8 @@ judge_row-judge_node-e-requires t c =
 pub judge_row-loop-k-preserved : goal.judge_row-loop-k-preserved
 judge_row-loop-k-preserved t c = (
   c.loop-k.invariant.0,
-  rw c.push.ensures.items (simp length-append (omega (arith, c.loop-k.invariant.1))),
-  λ x. rw c.push.ensures.items (turn_next (c.loop-k.invariant.2 x) c.loop-k-test.true c.argument_name.ensures c.judge_node-e.ensures),
+  rw c.push.ensures (simp length-append (omega (arith, c.loop-k.invariant.1))),
+  λ x. rw c.push.ensures (turn_next (c.loop-k.invariant.2 x) c.loop-k-test.true c.argument_name.ensures c.judge_node-e.ensures),
 )
 
 pub judge_row-returns : goal.judge_row-returns

@@ -15,6 +15,6 @@ decreases-judge_row l = 18 * (length l.q.now - l.s.at) + l.n + 1
 
 abbrev pub invariant-judge_row-loop-k : goal.invariant-judge_row-loop-k
 invariant-judge_row-loop-k l =
-    (l.n ≤ 16) × (length l.args.items ≡ l._k)
-    × ((x : RowAsked l.q l.initial.e l.initial.reports 0 l.n) → Turn l.table l.header l.q l.initial.e l.n l.initial.args.items l.initial.slots l.initial.reports l.args.items l.slots
+    (l.n ≤ 16) × (length l.args ≡ l._k)
+    × ((x : RowAsked l.q l.initial.e l.initial.reports 0 l.n) → Turn l.table l.header l.q l.initial.e l.n l.initial.args l.initial.slots l.initial.reports l.args l.slots
     l.reports l._k l.e x.trees)

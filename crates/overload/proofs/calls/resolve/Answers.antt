@@ -13,19 +13,19 @@ settle-requires c = (
 pub returns-in-None-clause-source : goal.returns-in-None-clause-source
 returns-in-None-clause-source c =
     c.none_fits.ensures.source
-    ∙ source_of_none _ c.walk-w.ensures.clean _ _ c.args.node _ _ _ (rw c.table.ensures at c.any_own-own.ensures) (sym (args_length c.args.slots.now c.args.args.now.items)) _ c.walk-w.ensures.tally c.in-None.is
+    ∙ source_of_none _ c.walk-w.ensures.clean _ _ c.args.node _ _ _ (rw c.table.ensures at c.any_own-own.ensures) (sym (args_length c.args.slots.now c.args.args.now)) _ c.walk-w.ensures.tally c.in-None.is
 
 pub returns-in-None-clause-reports : goal.returns-in-None-clause-reports
 returns-in-None-clause-reports c =
-    told_of_none _ c.walk-w.ensures.clean _ _ _ _ _ _ (rw c.table.ensures at c.any_own-own.ensures) (sym (args_length c.args.slots.now c.args.args.now.items)) _ c.walk-w.ensures.tally c.in-None.is _
+    told_of_none _ c.walk-w.ensures.clean _ _ _ _ _ _ (rw c.table.ensures at c.any_own-own.ensures) (sym (args_length c.args.slots.now c.args.args.now)) _ c.walk-w.ensures.tally c.in-None.is _
     c.walk-w.ensures.reports (rw c.len-n.ensures.value at c.none_fits.ensures.reports)
 
 pub returns-in-Some-clause-source : goal.returns-in-Some-clause-source
 returns-in-Some-clause-source c =
     c.settle.ensures.source
-    ∙ source_of_some _ c.walk-w.ensures.clean _ _ c.args.node _ _ _ (rw c.table.ensures at c.any_own-own.ensures) (sym (args_length c.args.slots.now c.args.args.now.items)) _ c.walk-w.ensures.tally _ c.in-Some.is
+    ∙ source_of_some _ c.walk-w.ensures.clean _ _ c.args.node _ _ _ (rw c.table.ensures at c.any_own-own.ensures) (sym (args_length c.args.slots.now c.args.args.now)) _ c.walk-w.ensures.tally _ c.in-Some.is
 
 pub returns-in-Some-clause-reports : goal.returns-in-Some-clause-reports
 returns-in-Some-clause-reports c =
-    told_of_some _ c.walk-w.ensures.clean _ _ _ _ _ _ (rw c.table.ensures at c.any_own-own.ensures) (sym (args_length c.args.slots.now c.args.args.now.items)) _ c.walk-w.ensures.tally _ c.in-Some.is _
+    told_of_some _ c.walk-w.ensures.clean _ _ _ _ _ _ (rw c.table.ensures at c.any_own-own.ensures) (sym (args_length c.args.slots.now c.args.args.now)) _ c.walk-w.ensures.tally _ c.in-Some.is _
     c.walk-w.ensures.reports c.settle.ensures.reports

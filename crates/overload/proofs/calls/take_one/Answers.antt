@@ -14,5 +14,5 @@ returns-clause-tally c = let read = read_is _ _ c.requires.0 _ c.requires.1 in
 
 pub returns-clause-reports : goal.returns-clause-reports
 returns-clause-reports c = let read = read_is _ _ c.requires.0 _ c.requires.1 in
-    reported_as _ (ap (λ (o : Overload). unknowns o.params 1 (args_in c.args.slots.now c.args.args.now.items)) read.same)
+    reported_as _ (ap (λ (o : Overload). unknowns o.params 1 (args_in c.args.slots.now c.args.args.now)) read.same)
     (c.unknown_names.ensures c.args.above.now c.args.slots.now)

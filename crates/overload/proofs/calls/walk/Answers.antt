@@ -8,7 +8,7 @@ turn-w-requires c = (
   walk_place _ (rw c.table-table.ensures at c.bytes-bytes.ensures.clean) _ _ _ _ _ _ _ _ _ c.loop-p.invariant _ c.found.ensures _ c.in-Some.is,
   rw (c.bytes-bytes.ensures.bytes, c.table-table.ensures) at c.read_function-f.ensures,
   walk_room _ (rw c.table-table.ensures at c.bytes-bytes.ensures.clean) _ _ _ _ _ _ _ _ _ c.loop-p.invariant
-      (omega (arith, args_length c.args.slots.now c.args.args.now.items, c.requires.0)) c.requires.1,
+      (omega (arith, args_length c.args.slots.now c.args.args.now, c.requires.0)) c.requires.1,
 )
 
 pub next-c-requires : goal.next-c-requires
@@ -22,4 +22,4 @@ loop-p-smaller c =
 
 pub returns-clause-room : goal.returns-clause-room
 returns-clause-room c = walk_room _ (rw c.table-table.ensures at c.bytes-bytes.ensures.clean) _ _ _ _ _ _ _ _ _ c.loop-p.invariant
-    (omega (arith, args_length c.args.slots.now c.args.args.now.items, c.requires.0)) c.requires.1
+    (omega (arith, args_length c.args.slots.now c.args.args.now, c.requires.0)) c.requires.1

@@ -6,11 +6,11 @@ pub loop-a-init : goal.loop-a-init
 loop-a-init c = rw c.new-classes.ensures (gathered_none _ _)
 
 pub gather-requires : goal.gather-requires
-gather-requires c = omega (arith, c.loop-a.invariant.few, c.loop-a-test.true, c.deref-a-items.ensures.1)
+gather-requires c = omega (arith, c.loop-a.invariant.few, c.loop-a-test.true, c.as_slice-a-items.ensures.fits)
 
 pub loop-a-preserved : goal.loop-a-preserved
-loop-a-preserved c = let e = c.deref-a-items.ensures.0 in
+loop-a-preserved c = let e = c.as_slice-a-items.ensures.value in
     gathered_more _ _ _ _ c.loop-a.invariant _ (rw e at c.loop-a-test.true) _ (rw e at c.type_of.ensures) _ c.gather.ensures
 
 pub returns : goal.returns
-returns c = gathered_all _ _ _ _ c.loop-a.invariant (rw c.deref-a-items.ensures.0 at c.loop-a-test.false)
+returns c = gathered_all _ _ _ _ c.loop-a.invariant (rw c.as_slice-a-items.ensures.value at c.loop-a-test.false)

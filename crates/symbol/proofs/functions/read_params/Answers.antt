@@ -18,7 +18,7 @@ overflow_add-at-in-loop-n c = omega (
 
 pub loop-n-preserved : goal.loop-n-preserved
 loop-n-preserved c = reading_next _ _ _ _ c.requires.1 _ _ _ c.loop-n.invariant c.loop-n-test.true _ c.type_length-len.ensures _ _ c.id_at.ensures
-    c.byte_at-flag.ensures _ c.push.ensures.items
+    c.byte_at-flag.ensures _ c.push.ensures
 
 pub returns : goal.returns
 returns c = reading_done _ _ _ _ c.requires.1 _ _ _ c.loop-n.invariant c.loop-n-test.false

@@ -32,4 +32,4 @@ read_params-params-requires c = (
 pub returns : goal.returns
 returns c = function-fields c.args.t.now c.args.p c.requires.0 c.args.end c.requires.1 c.type_length-len.result c.type_length-len.ensures
     c.byte_at.result c.byte_at.ensures c.of_byte.result c.byte_at-2.result (c.of_byte.ensures ∙ ap visibility_from c.byte_at-3.ensures) c.byte_at-2.ensures
-    c.read_params-params.result.items c.read_params-params.ensures
+    c.read_params-params.result c.read_params-params.ensures
