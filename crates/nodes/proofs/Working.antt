@@ -146,6 +146,9 @@ pub finished_as_lem : {s r : State} {n : ℕ} {o p : Out} {ts ts' : List Ty} {b 
     → Finished s n p.ty (at_node n p.reports) ts ts' b b' r
 finished_as_lem e x = rw (← e) x
 
+-- what a node takes whose rule has answered
+pub ruleset ruled_as = (asked_as, finished_as_lem)
+
 -- ---- calls
 module _ (table : List ℕ) (source : Source) {ts : List Ty} {node : ℕ} {v : Verdict} {b : Reports} (x : CallAsked ts node b v) (ty : (x y : Ty) → type_from table x y source ≡ v.ty) where
   pub call-store : ((l : List Ty) (n first second : ℕ) → ReadsChildren l n first second source) → CanStore table ts node node node source

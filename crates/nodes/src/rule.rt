@@ -82,7 +82,7 @@ fn finish_rule(
 }
 
 // A binary operator; the right operand's number is `second`.
-#[tactic(auto, using(crate::proofs::Working::asked_as, crate::proofs::Working::finished_as_lem, operators::proofs::Ruling::binary_is))]
+#[tactic(auto, using(crate::proofs::Working::ruled_as, operators::proofs::Ruling::binary_is))]
 pub fn finish_binary(
     table: &Table<'_>,
     op: BinOp,
@@ -97,12 +97,12 @@ pub fn finish_binary(
 {
     let left = type_of(slots, node + 1);
     let right = type_of(slots, second);
-    let ruled = check_binary(table, op, left, right);
+    let ruled = check_binary(table, op.number(), left, right);
     finish_rule(table.bytes(), ruled, node, second, s, slots, reports)
 }
 
 // A unary operator.
-#[tactic(auto, using(crate::proofs::Working::asked_as, crate::proofs::Working::finished_as_lem, operators::proofs::Ruling::unary_is))]
+#[tactic(auto, using(crate::proofs::Working::ruled_as, operators::proofs::Ruling::unary_is), unfolding(question::specs::OperatorNumber::unary_number))]
 pub fn finish_unary(
     table: &[u8],
     op: UnOp,
@@ -115,12 +115,12 @@ pub fn finish_unary(
     ensures { FinishedAs s node (unary_at slots.old (unary_number op) (node + 1)) slots.old slots.new reports.old reports.new result }
 {
     let first = node + 1;
-    let ruled = check_unary(op, type_of(slots, first));
+    let ruled = check_unary(op as u8, type_of(slots, first));
     finish_rule(table, ruled, node, first, s, slots, reports)
 }
 
 // A member of an object.
-#[tactic(auto, using(crate::proofs::Working::asked_as, crate::proofs::Working::finished_as_lem, rules::proofs::MemberRuling::member_is))]
+#[tactic(auto, using(crate::proofs::Working::ruled_as, rules::proofs::MemberRuling::member_is))]
 pub fn finish_member(
     table: &Table<'_>,
     header: Header,

@@ -11,3 +11,4 @@ pub mod Cores
 pub mod Each
 pub mod MethodLookups
 pub mod Ruling
+pub mod PastLast

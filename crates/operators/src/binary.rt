@@ -7,7 +7,7 @@ ghost use Rattle.operators.specs.Inside.BinaryRule.{operator_ruled, builtin_rule
 ghost use Rattle.question.specs.OperatorNumber.{binary_number};
 
 use crate::assign::can_assign_to;
-use crate::method::operator_overload_return;
+use crate::method::method_return;
 use crate::operand::{char_string, either, is_logical, numbers};
 use crate::ruled::{OneReport, Ruled, checked, clean, fails, plain, unless};
 use area::{DiagnosticKind, Source};
@@ -148,18 +148,25 @@ fn builtin_binary(table: &Table<'_>, op: BinOp, lt: &[u8], rt: &[u8]) -> Ruled
     operator(table, op, lt, rt)
 }
 
-// The type of an operator on operands of the types lt and rt, and what is reported: Error first and silently, then an operator method, then the built-in
-// operators.
+// Error first and silently, then an operator method, then the built-in operators.
 #[tactic(auto, using(ty::proofs::Choice::chain), unfolding(crate::specs::Inside::BinaryRule::binary_ruled, crate::specs::Inside::BinaryRule::method_ruled))]
-pub fn check_binary(table: &Table<'_>, op: BinOp, lt: &[u8], rt: &[u8]) -> Ruled
+fn binary(table: &Table<'_>, op: BinOp, lt: &[u8], rt: &[u8]) -> Ruled
     ensures { result ≡ binary_ruled table.now (binary_number op) lt.now rt.now }
 {
     if either(Kind::Error, lt, rt) {
         return plain(Kind::Error).into();
     }
-    let method = operator_overload_return(table, op, lt);
+    let method = method_return(table, op, lt);
     match method {
         None => builtin_binary(table, op, lt, rt),
         Some(source) => clean(source).into(),
     }
+}
+
+// The type of an operator on operands of the types lt and rt, and what is reported. A number of no operator, which no accepted question has, is ruled as As.
+#[tactic(auto, using(crate::proofs::PastLast::binary_read))]
+pub fn check_binary(table: &Table<'_>, op: u8, lt: &[u8], rt: &[u8]) -> Ruled
+    ensures { result ≡ binary_ruled table.now op lt.now rt.now }
+{
+    binary(table, BinOp::try_from(op).unwrap_or(BinOp::As), lt, rt)
 }

@@ -47,9 +47,9 @@ fn climb(table: &Table<'_>, op: BinOp, class: u16) -> Option<Source>
     None
 }
 
-// Where the type lies that an operator method gives, if there is one.
+// What operator_overload_return says of an operator.
 #[tactic(auto, using(ty::proofs::Choice::chain), unfolding(crate::specs::Inside::MethodPlace::operator_place, question::specs::OperatorNumber::binary_number))]
-pub fn operator_overload_return(table: &Table<'_>, op: BinOp, lt: &[u8]) -> Option<Source>
+pub(crate) fn method_return(table: &Table<'_>, op: BinOp, lt: &[u8]) -> Option<Source>
     ensures { result ≡ operator_place table.now (binary_number op) lt.now }
 {
     // An `if`, no `then` or `and_then`: with the climb in a closure it is no plainer.
@@ -57,4 +57,13 @@ pub fn operator_overload_return(table: &Table<'_>, op: BinOp, lt: &[u8]) -> Opti
         return climb(table, op, ty::name_of(lt));
     }
     None
+}
+
+// Where the type lies that an operator method gives, if there is one. A number of no operator has none.
+#[tactic(auto, using(crate::proofs::PastLast::method_read, crate::proofs::PastLast::no_method))]
+pub fn operator_overload_return(table: &Table<'_>, op: u8, lt: &[u8]) -> Option<Source>
+    ensures { result ≡ operator_place table.now op lt.now }
+{
+    let op = BinOp::try_from(op).ok()?;
+    method_return(table, op, lt)
 }

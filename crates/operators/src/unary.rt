@@ -37,9 +37,10 @@ fn unary(op: UnOp, t: &[u8]) -> OneReport
     }
 }
 
-// The type of an operator on an operand of the type t, and what is reported.
-pub fn check_unary(op: UnOp, t: &[u8]) -> Ruled
-    ensures { result ≡ unary_ruled (unary_number op) t.now }
+// The type of an operator on an operand of the type t, and what is reported. A number of no operator, which no accepted question has, is ruled as NotNull.
+#[tactic(auto, using(crate::proofs::PastLast::unary_read))]
+pub fn check_unary(op: u8, t: &[u8]) -> Ruled
+    ensures { result ≡ unary_ruled op t.now }
 {
-    unary(op, t).into()
+    unary(UnOp::try_from(op).unwrap_or(UnOp::NotNull), t).into()
 }

@@ -72,8 +72,8 @@ pub fn before_method(
     requires { reports.old.count + 2 ≤ count_limit }
     ensures { reports.new ≡ reported reports.old (at_node node (method_reports (symbols_of table.now) header (visibility_number vis) owner id)) }
 {
+    let vis = vis.number();
     let blocked = check_access(table, header, vis, owner);
-    let number = vis.number() as usize;
-    report_if(blocked, DiagnosticKind::Access, node, number, reports);
+    report_if(blocked, DiagnosticKind::Access, node, vis as usize, reports);
     report_suspend(table, header, Some(owner), id, node, reports);
 }

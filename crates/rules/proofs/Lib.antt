@@ -5,3 +5,4 @@ pub mod Order5Member
 pub mod Order6Access
 pub mod Packages
 pub mod Owners
+pub mod PastPrivate

@@ -26,11 +26,9 @@ fn other_package(a: Option<u16>, b: Option<u16>) -> bool
     }
 }
 
-// Whether a member of an owner, of a visibility, is blocked where the script stands. An owner that is none, NameId::NONE, blocks nothing: it is a number, no
-// Option, as the callers read it off a Named type, and the definition `blocked` asks of each number whether it is none.
-// Header, visibility and owner apart, here and below: they are the Rust's parameters.
+// What check_access says of a visibility.
 #[tactic(auto, using(crate::proofs::Owners::owners), unfolding(crate::specs::Access::blocked))]
-pub fn check_access(table: &Table<'_>, header: Header, vis: Visibility, owner: u16) -> bool
+fn is_blocked(table: &Table<'_>, header: Header, vis: Visibility, owner: u16) -> bool
     ensures { result ≡ blocked (symbols_of table.now) header (visibility_number vis) owner }
 {
     let Some(owner) = known_id(owner) else {
@@ -45,18 +43,24 @@ pub fn check_access(table: &Table<'_>, header: Header, vis: Visibility, owner: u
     }
 }
 
-// What is reported of such a member.
+// Whether a member of an owner, of a visibility, is blocked where the script stands. A visibility past Private, which no accepted table has, is ruled as
+// Internal. An owner that is none, NameId::NONE, blocks nothing: it is a number, no Option, as the callers read it off a Named type, and the definition
+// `blocked` asks of each number whether it is none. Header, visibility and owner apart, here and below: they are the Rust's parameters.
+#[tactic(auto, using(crate::proofs::PastPrivate::access_read))]
+pub fn check_access(table: &Table<'_>, header: Header, vis: u8, owner: u16) -> bool
+    ensures { result ≡ blocked (symbols_of table.now) header vis owner }
+{
+    let vis = Visibility::try_from(vis).unwrap_or(Visibility::Internal);
+    is_blocked(table, header, vis, owner)
+}
+
+// What is reported of such a member: the visibility as it was given.
 #[tactic(auto, unfolding(crate::specs::Inside::AccessRule::access_ruled, ty::specs::Choose::choose))]
-pub fn access_report(
-    table: &Table<'_>,
-    header: Header,
-    vis: Visibility,
-    owner: u16,
-) -> Option<Diagnostic>
-    ensures { result ≡ access_ruled (symbols_of table.now) header (visibility_number vis) owner }
+pub fn access_report(table: &Table<'_>, header: Header, vis: u8, owner: u16) -> Option<Diagnostic>
+    ensures { result ≡ access_ruled (symbols_of table.now) header vis owner }
 {
     check_access(table, header, vis, owner).then_some(Diagnostic {
         kind: DiagnosticKind::Access,
-        number: vis.number(),
+        number: vis,
     })
 }

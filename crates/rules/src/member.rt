@@ -184,7 +184,7 @@ fn visibility_report(table: &Table<'_>, header: Header, owner: u16, id: u16) -> 
     ensures { result ≡ owner_ruled (symbols_of table.now) header owner id }
 {
     let vis = visibility_of(table, owner, id)?;
-    access_report(table, header, vis, owner)
+    access_report(table, header, vis.number(), owner)
 }
 
 // The access check of a base's member: only a Named base has an owner.
