@@ -1,10 +1,8 @@
 // The diagnostics that were reported, in a lent buffer.
 ghost use Rattle.std.specs.Prelude.{◌≡◌, ◌<◌, [], ◌∷◌};
-ghost use Rattle.area.specs.DiagnosticKind.{diagnostic_number};
 ghost use Rattle.area.specs.Diagnostic.{count_limit};
 ghost use Rattle.area.specs.Reported.{reported};
 
-use crate::DiagnosticKind;
 use written::put_two;
 
 // A lent buffer, and how many diagnostics were reported: those that fit wholly stand in it, one behind another.
@@ -18,18 +16,19 @@ pub struct Reports<'a> {
 }
 
 impl<'a> Reports<'a> {
-    // Reports one more diagnostic. The number 0 stands for none, as in the record (docs/FORMAT.md).
+    // Reports one more diagnostic, of the kind that a byte stands for: each byte, as before there was a DiagnosticKind. The number 0 stands for none, as in the
+    // record (docs/FORMAT.md).
     #[tactic(auto, using(crate::proofs::Reporting::reported_one), unfolding(ty::specs::Choose::choose))]
-    pub fn report(&mut self, kind: DiagnosticKind, node: usize, number: usize)
+    pub fn report(&mut self, kind: u8, node: usize, number: usize)
         requires { self.old.count < count_limit }
-        ensures { self.new ≡ reported self.old (record { kind = diagnostic_number kind; node = node; number = number } ∷ []) }
+        ensures { self.new ≡ reported self.old (record { kind = kind; node = node; number = number } ∷ []) }
     {
         let p = 5 * self.count;
         self.count += 1;
         if self.buf.len() < p + 5 {
             return;
         }
-        self.buf[p] = kind.number();
+        self.buf[p] = kind;
         put_two(node, self.buf, p + 1);
         put_two(number, self.buf, p + 3);
     }

@@ -58,7 +58,7 @@ fn report_one(reports: &mut Reports<'_>, node: usize, d: Option<Diagnostic>)
     ensures { reports.new ≡ reported reports.old (at_node node (reports_of d)) }
 {
     if let Some(d) = d {
-        reports.report(d.kind, node, d.number as usize);
+        reports.report(d.kind.number(), node, d.number as usize);
     }
 }
 

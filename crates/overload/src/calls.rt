@@ -214,7 +214,7 @@ fn settle(
         return Source::Part(f.result);
     }
     // Every diagnostic of an answer has a number: 0 where its kind has nothing to count.
-    reports.report(DiagnosticKind::NoMatch, node, 0);
+    reports.report(DiagnosticKind::NoMatch.number(), node, 0);
     Source::Kind(Kind::Error)
 }
 

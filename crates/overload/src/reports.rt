@@ -37,7 +37,7 @@ pub fn report_if(
     ensures { reports.new ≡ reported reports.old (diag_if test (diagnostic_number kind) node number) }
 {
     if test {
-        reports.report(kind, node, number);
+        reports.report(kind.number(), node, number);
     }
 }
 
