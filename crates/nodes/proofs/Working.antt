@@ -68,10 +68,10 @@ pub reported_none : (b : Reports) (node : ℕ) (o : Option Diagnostic) → o ≡
 unfolding at_node reports_of
 reported_none b node o e = rw e (sym (none_reported b))
 
-pub reported_one : (b b' : Reports) (node : ℕ) (o : Option Diagnostic) (d : Diagnostic) → o ≡ Some d
-    → b' ≡ reported b (record { kind = diagnostic_number d.kind; node = node; number = d.number } ∷ []) → b' ≡ reported b (at_node node (reports_of o))
+pub reported_one : (b b' : Reports) (node k : ℕ) (o : Option Diagnostic) (d : Diagnostic) → o ≡ Some d → k ≡ diagnostic_number d.kind
+    → b' ≡ reported b (record { kind = k; node = node; number = d.number } ∷ []) → b' ≡ reported b (at_node node (reports_of o))
 unfolding at_node reports_of
-reported_one b b' node o d z f = rw z f
+reported_one b b' node k o d z e f = rw (z, sym e) f
 
 -- ---- a node is finished
 module _ {ts ts' : List Ty} {b b' : Reports} {n : ℕ} {t : Ty} {ds : List Diag} {s r : State} where
