@@ -6,7 +6,7 @@ use Rattle.area.specs.Diagnostic.{Diag, record_of, records, put_one, put_all}
 use Rattle.area.specs.Source.{type_from}
 use Rattle.area.specs.declared.Source.TheVariants.{ListOf, Name, Inner, Pointer, Part, Function}
 use Rattle.ty.specs.Bytes.{inner_of}
-use Rattle.ty.specs.declared.Kind.TheVariants.{Any}
+use Rattle.ty.specs.Kind.{any_kind}
 use Rattle.ty.specs.Choose.{choose}
 use Rattle.written.specs.Padding.{padded_to}
 
@@ -21,7 +21,7 @@ unfolding record_of records put_one put_all padded_to choose
 buffers = (refl, refl, refl, refl)
 
 -- a Pair, a Map's keys, what a Pointer to an Int holds, a Pointer to a Boolean, a part of a table, a Function that gives it
-pub sources : (type_from [] [] [] (Name 0) ≡ 17 ∷ 0 ∷ 0 ∷ []) × (type_from [] [] [] (ListOf Any) ≡ 15 ∷ 9 ∷ []) × (type_from [] (13 ∷ 0 ∷ []) [] Inner ≡ 0 ∷ [])
+pub sources : (type_from [] [] [] (Name 0) ≡ 17 ∷ 0 ∷ 0 ∷ []) × (type_from [] [] [] (ListOf any_kind) ≡ 15 ∷ 9 ∷ []) × (type_from [] (13 ∷ 0 ∷ []) [] Inner ≡ 0 ∷ [])
     × (type_from [] (6 ∷ []) [] Pointer ≡ 13 ∷ 6 ∷ []) × (type_from (5 ∷ 12 ∷ 8 ∷ 5 ∷ []) [] [] (Part (record { start = 1; len = 2 })) ≡ 12 ∷ 8 ∷ [])
     × (type_from (5 ∷ 12 ∷ 8 ∷ 5 ∷ []) [] [] (Function (record { start = 1; len = 2 })) ≡ 18 ∷ 0 ∷ 12 ∷ 8 ∷ [])
 unfolding type_from inner_of choose

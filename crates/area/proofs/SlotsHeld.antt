@@ -10,7 +10,6 @@ use Rattle.area.specs.Inside.Slot.{Child, Holds, AllHold}
 use Rattle.area.specs.Inside.Storable.{ReadsChildren}
 use Rattle.area.specs.declared.Source.TheVariants.{Kind, ListOf, Name, First, Second, Inner, Pointer, Part, Function}
 use Rattle.area.specs.declared.Source.{Source}
-use Rattle.ty.specs.declared.Kind.{Kind as TypeKind}
 use Rattle.ty.specs.declared.Part.{Part as TypePart}
 use Rattle.ty.specs.Bytes.{Ty}
 use Rattle.written.proofs.ListFacts.{sets-append, sets_front}
@@ -65,7 +64,7 @@ reads_both_children slots node first second x y Pointer = x
 reads_both_children slots node first second x y (Part p) = tt
 reads_both_children slots node first second x y (Function p) = tt
 
-pub reads_no_child : (slots : List Ty) (node first second : ℕ) (k : TypeKind) → ReadsChildren slots node first second (Kind k)
+pub reads_no_child : (slots : List Ty) (node first second : ℕ) (k : ℕ) → ReadsChildren slots node first second (Kind k)
 unfolding ReadsChildren
 reads_no_child slots node first second k = tt
 

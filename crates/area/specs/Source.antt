@@ -2,7 +2,6 @@
 -- part of a byte slice. It is put together where it is kept, in the node's slot.
 use Rattle.std.specs.Prelude.{ℕ, List, ◌∷◌, take, drop}
 use Rattle.ty.specs.Kind.{pointer_kind, list_kind, named_kind, function_kind}
-use Rattle.ty.specs.KindNumber.{kind_number}
 use Rattle.ty.specs.Bytes.{Ty, plain_ty, inner_of, two_bytes}
 use Rattle.area.specs.declared.Source.{Source}
 use Rattle.area.specs.declared.Source.TheVariants.{Kind, ListOf, Name, First, Second, Inner, Pointer, Part, Function}
@@ -16,8 +15,8 @@ bytes_from s start len = take len (drop start s)
 -- answers with a part of the operand"); a Pointer to it (address-of); a type of the table (a result, a field); "a name found only as a function gives a
 -- Function type with no parameters".
 unfoldable pub type_from : List ℕ → Ty → Ty → Source → Ty
-type_from table x y (Kind k) = plain_ty (kind_number k)
-type_from table x y (ListOf k) = list_kind ∷ plain_ty (kind_number k)
+type_from table x y (Kind k) = plain_ty k
+type_from table x y (ListOf k) = list_kind ∷ plain_ty k
 type_from table x y (Name id) = named_kind ∷ two_bytes id
 type_from table x y First = x
 type_from table x y Second = y

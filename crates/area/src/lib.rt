@@ -1,4 +1,4 @@
-// Where types and diagnostics are kept while a question is judged: a slot of 256 bytes for each node, and a lent buffer.
+// Where types and diagnostics are kept while a question is judged: a slot for each node, and a lent buffer.
 #![tactic(auto)]
 
 ghost use Rattle.std.specs.Prelude.{◌≡◌};
@@ -53,8 +53,8 @@ impl DiagnosticKind {
 // part of the table, or a Function without parameters whose result is such a part. Nine ways, which no Option holds.
 #[derive(Clone, Copy)]
 pub enum Source {
-    Kind(Kind),
-    ListOf(Kind),
+    Kind(u8),
+    ListOf(u8),
     Name(u16),
     First,
     Second,

@@ -29,7 +29,7 @@ use Rattle.nodes.specs.Inside.Progress.{inside_of, passed_over, Reached, Finishe
 use Rattle.scoring.specs.declared.args.Arg.{Arg as Handed}
 use Rattle.nodes.specs.declared.calls.RowJudged.{RowJudged}
 use Rattle.nodes.specs.declared.progress.State.{State}
-use Rattle.area.specs.Inside.Slot.{Holds, type_at}
+use Rattle.area.specs.Inside.Slot.{Holds, slot_size, type_at}
 use Rattle.scoring.specs.Arg.{Arg}
 use Rattle.scoring.specs.Inside.Args.{args_in}
 use Rattle.overload.specs.Resolve.{resolve}
@@ -148,7 +148,7 @@ module _ {t : List ℕ} (ok : CleanTable t) (H : Header) {q : List ℕ} {s : Sta
     row_later : LaterRow t H s p n g (d ++ at_node s.node c.before) ts ts₁ b b₃ row.state rs
     row_later = later_row before row_is
 
-    pub call_ready : CallAsked ts₁ s.node b₃ (resolve (symbols_of t) ((symbols_of t).functions_of of id) s.node (args_in ts₁ row.args))
+    pub call_ready : CallAsked slot_size ts₁ s.node b₃ (resolve (symbols_of t) ((symbols_of t).functions_of of id) s.node (args_in ts₁ row.args))
     call_ready =
         let J : Judgements = judges (symbols_of t) H rs n in
         let D : List Diag = d ++ at_node s.node c.before in
@@ -240,7 +240,7 @@ module _ {t : List ℕ} (ok : CleanTable t) (fit : CallsFit (symbols_of t)) (H :
 
     module _ {ts ts₁ : List Ty} {b₂ : Reports} {row : RowJudged} (lent : Space q ts₁)
         (js : (y : RowAsked q s₁ b₁ 0 many) → RowIs t H s₁ [] ts ts₁ b₁ b₂ row y.trees) where
-      pub args_ready : CallAsked ts₁ s.node b₂ (resolve (symbols_of t) ((symbols_of t).functions_of no_id id) s.node (args_in ts₁ row.args))
+      pub args_ready : CallAsked slot_size ts₁ s.node b₂ (resolve (symbols_of t) ((symbols_of t).functions_of no_id id) s.node (args_in ts₁ row.args))
       unfolding size Legal
       args_ready =
           let (rs, e, counted, st) = is_call q s.at x.tree id many x.stands h in
@@ -357,7 +357,7 @@ module _ {t : List ℕ} (ok : CleanTable t) (fit : CallsFit (symbols_of t)) (H :
 
         module _ {ts₁ : List Ty} {b₂ : Reports} {row : RowJudged} (lent : Space q ts₁)
             (js : (y : RowAsked q r₁ b₁ 0 many) → RowIs t H r₁ [] ts ts₁ b₁ b₂ row y.trees) where
-          pub method_ready : CallAsked ts₁ s.node b₂ (resolve (symbols_of t) ((symbols_of t).functions_of of id) s.node (args_in ts₁ row.args))
+          pub method_ready : CallAsked slot_size ts₁ s.node b₂ (resolve (symbols_of t) ((symbols_of t).functions_of of id) s.node (args_in ts₁ row.args))
           unfolding size Legal
           method_ready =
               let (c, rs, e, counted, sc, st) = is_method q s.at x.tree id many x.stands h in

@@ -7,7 +7,7 @@ use native.Mathlib.Numerals.{add-one}
 use native.Mathlib.Omega.{arith}
 use Rattle.area.proofs.SlotsHeld.{child_of}
 use Rattle.area.specs.Diagnostic.{Diag, count_limit}
-use Rattle.area.specs.Inside.Slot.{Child, Holds, type_at}
+use Rattle.area.specs.Inside.Slot.{Child, Holds, slot_size, type_at}
 use Rattle.nodes.proofs.Filling.{filled_none, filled-one, filled_join, filled_as}
 use Rattle.cycle.proofs.Holding.{CleanTable, space_before, node_under, tree-fits, tree_held}
 use Rattle.nodes.proofs.Reaching.{reached_here, reached_join, reached_count, reached_inside, reached_as}
@@ -63,10 +63,10 @@ module _ {q : List ℕ} {s : State} {b : Reports} (x : NodeAsked q s b) where
       let at : s₁.at ≡ s.at + own = ap (λ (z : State). z.at) e in
       omega arith
 
-  pub leaf_asked : {ts : List Ty} → Space q ts → (len top : ℕ) → node_at q s.at ≡ Leaf len top → LeafAsked q ts len s
+  pub leaf_asked : {ts : List Ty} → Space q ts → (len top : ℕ) → node_at q s.at ≡ Leaf len top → LeafAsked slot_size q ts len s
   leaf_asked lent len top h =
       let w = room_of q s.at _ h in
-      record { room = slot_room lent; number = node_room; short = w.2; there = omega (arith, w.0); long = x.within.long }
+      record { room = slot_room lent; number = node_room; short = omega (arith, w.2); there = omega (arith, w.0); long = x.within.long }
 
   pub few_reported : b.count < count_limit
   few_reported = omega (arith, x.within.few, node_room)
@@ -203,7 +203,7 @@ module _ {t : List ℕ} (ok : CleanTable t) (H : Header) {q : List ℕ} {s : Sta
         omega (arith, only_child.few, x.within.few, x.room, slots_few (length q))
 
     pub only_rule : (o : Ty → Out) → ((judge (symbols_of t) H x.tree s.node).ty ≡ (o (judge (symbols_of t) H c (suc s.node)).ty).ty)
-        → RuleAsked ts₁ s.node (s.node + 1) b₁ (o (type_at ts₁ (s.node + 1)))
+        → RuleAsked slot_size ts₁ s.node (s.node + 1) b₁ (o (type_at ts₁ (s.node + 1)))
     only_rule o e =
         let short : length (o (judge (symbols_of t) H c (suc s.node)).ty).ty ≤ 256 = rw e at type_fits in
         record { left = only_slot; right = only_slot; short = rw only_top.is short; few = only_few }
@@ -234,7 +234,7 @@ module _ {t : List ℕ} (ok : CleanTable t) (H : Header) {q : List ℕ} {s : Sta
         asked_inside x 2 i c st lg.0 (omega arith)
 
     module _ {ts ts₁ : List Ty} {b₁ : Reports} {r₁ : State} (lent : Space q ts₁) (is : (y : NodeAsked q s₁ b) → NodeIs t H s₁ ts ts₁ b b₁ r₁ y.tree) where
-      pub unary_ready : RuleAsked ts₁ s.node (s.node + 1) b₁ (unary_out op (type_at ts₁ (s.node + 1)))
+      pub unary_ready : RuleAsked slot_size ts₁ s.node (s.node + 1) b₁ (unary_out op (type_at ts₁ (s.node + 1)))
       unfolding judge size Legal
       unary_ready =
           let (c, e, st) = is_unary q s.at x.tree op x.stands h in
@@ -285,7 +285,7 @@ module _ {t : List ℕ} (ok : CleanTable t) (H : Header) {q : List ℕ} {s : Sta
         asked_inside x 3 i c st lg.1 (omega arith)
 
     module _ {ts ts₁ : List Ty} {b₁ : Reports} {r₁ : State} (lent : Space q ts₁) (is : (y : NodeAsked q s₁ b) → NodeIs t H s₁ ts ts₁ b b₁ r₁ y.tree) where
-      pub member_ready : RuleAsked ts₁ s.node (s.node + 1) b₁ (member_out (symbols_of t) H id (type_at ts₁ (s.node + 1)))
+      pub member_ready : RuleAsked slot_size ts₁ s.node (s.node + 1) b₁ (member_out (symbols_of t) H id (type_at ts₁ (s.node + 1)))
       unfolding judge size Legal
       member_ready =
           let (c, e, st) = is_member q s.at x.tree id x.stands h in
@@ -354,7 +354,7 @@ module _ {t : List ℕ} (ok : CleanTable t) (H : Header) {q : List ℕ} {s : Sta
             rw (ap (λ (z : State). z.node) left_child.reached.result)
             (tree_held ok H q o (number_after c (suc s.node)) (s.at + 2 + bytes c) su (omega (arith, x.room)) right_child.filled lent)
 
-        pub binary_ready : RuleAsked ts₂ s.node r₁.node b₂ (binary_out (symbols_of t) op (type_at ts₂ (s.node + 1)) (type_at ts₂ r₁.node))
+        pub binary_ready : RuleAsked slot_size ts₂ s.node r₁.node b₂ (binary_out (symbols_of t) op (type_at ts₂ (s.node + 1)) (type_at ts₂ r₁.node))
         unfolding judge size
         binary_ready =
             let (c, o, e, st, su) = is_binary q s.at x.tree op x.stands h in

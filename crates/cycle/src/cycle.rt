@@ -23,7 +23,7 @@ pub fn judge_node(
     q: &[u8],
     header: Header,
     s: State,
-    slots: &mut [Slot],
+    slots: &mut [Slot<256>],
     reports: &mut Reports<'_>,
 ) -> State
     requires { Space q.now slots.old × NodeAsked q.now s reports.old }
@@ -56,7 +56,7 @@ pub fn judge_node(
         Node::Call { id, count } => {
             let s = inside(s, 4);
             if !begin_call(table, header, id, node, reports) {
-                return unlisted(bytes, q, Kind::Error, count, node, s, slots);
+                return unlisted(bytes, q, Kind::Error as u8, count, node, s, slots);
             }
             judge_call(table, q, header, None, id, node, s, count, slots, reports)
         }
@@ -64,7 +64,7 @@ pub fn judge_node(
         Node::Method { id, count } => {
             let x = judge_node(table, q, header, inside(s, 4), slots, reports);
             match begin_method(table, header, id, node, slots, reports) {
-                None => unlisted(bytes, q, Kind::Any, count, node, x, slots),
+                None => unlisted(bytes, q, Kind::Any as u8, count, node, x, slots),
                 Some(owner) => {
                     let owner = Some(owner);
                     judge_call(table, q, header, owner, id, node, x, count, slots, reports)
@@ -86,7 +86,7 @@ fn judge_call(
     node: usize,
     s: State,
     n: u8,
-    slots: &mut [Slot],
+    slots: &mut [Slot<256>],
     reports: &mut Reports<'_>,
 ) -> State
     requires { Space q.now slots.old × RowAsked q.now s reports.old 0 n × CallFits table.now q.now header (id_number owner) id node s n slots.old reports.old }
@@ -104,7 +104,7 @@ fn judge_row(
     header: Header,
     s: State,
     n: u8,
-    slots: &mut [Slot],
+    slots: &mut [Slot<256>],
     reports: &mut Reports<'_>,
 ) -> RowJudged
     requires { Space q.now slots.old × RowAsked q.now s reports.old 0 n }

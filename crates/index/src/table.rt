@@ -4,13 +4,11 @@ ghost use Rattle.index.specs.Inside.Found.{first_with, found_at, FoundIs};
 ghost use Rattle.index.specs.Inside.IndexedTable.{IndexedTable};
 ghost use Rattle.index.specs.Inside.SearchKey.{Single};
 ghost use Rattle.record.specs.Inside.Keyed.{records_with};
-ghost use Rattle.record.specs.RecordKind.{record_kind_number};
 ghost use Rattle.record.specs.Table.{records_of, name_count};
 ghost use Rattle.record.specs.TableRefused.{table_fault};
 
 use crate::index::{Place, entry_at};
 use crate::tree::{Key, search, tree_of};
-use record::front::RecordKind;
 use std::marker::Model;
 
 // An accepted table, and its index.
@@ -59,19 +57,15 @@ impl<'a> Table<'a> {
         entry_at(self.index, 0)
     }
 
-    // The only record of a kind, from 2 on and not 4, with a key.
+    // The only record of a kind, from 2 on and not 4, with a key. The kind is a byte, as in a Key; of a byte past the last kind there is none.
     #[tactic(auto, using(crate::proofs::Firsts::found_first, crate::proofs::Single::accepted_open, crate::proofs::Single::single_ok))]
-    pub fn seek(&self, kind: RecordKind, one: u16, two: u16) -> Option<Place>
-        requires { Single (record_kind_number kind) }
-        ensures first { result ≡ found_at (first_with self.now (record_kind_number kind) one two) }
-        ensures records { FoundIs self.now (records_with (record_kind_number kind) one two (records_of self.now)) (record_kind_number kind) one two result }
+    pub fn seek(&self, kind: u8, one: u16, two: u16) -> Option<Place>
+        requires { Single kind }
+        ensures first { result ≡ found_at (first_with self.now kind one two) }
+        ensures records { FoundIs self.now (records_with kind one two (records_of self.now)) kind one two result }
     {
         let t = self.bytes;
-        let key = Key::Ids {
-            kind: kind.number(),
-            one,
-            two,
-        };
+        let key = Key::Ids { kind, one, two };
         search(t, self.index, key, tree_of(t, key)).ok()
     }
 }

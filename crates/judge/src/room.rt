@@ -133,7 +133,7 @@ fn judge_in_slots<const SLOTS: usize>(
     requires enough { slots_for (length question.now) ≤ SLOTS }
     ensures { AnsweredInto table.now question.now diagnostics ty result }
 {
-    let mut slots: [Slot; SLOTS] = array::from_fn(|_| Slot::new());
+    let mut slots: [Slot<256>; SLOTS] = array::from_fn(|_| Slot::new());
     judge_in(table, question, &mut slots, diagnostics, ty)
 }
 
@@ -141,7 +141,7 @@ fn judge_in_slots<const SLOTS: usize>(
 fn judge_in(
     table: &Table<'_>,
     question: &[u8],
-    slots: &mut [Slot],
+    slots: &mut [Slot<256>],
     diagnostics: &mut [u8],
     ty: &mut [u8],
 ) -> Result<Judged, Refusal>

@@ -27,7 +27,7 @@ few n = go (eqb n 0) refl
 
 module _ (start nodes : ℕ) (before after : List ℕ) (r : Result ℕ WriteFault) where
   -- by what the output is
-  given : (o : Output) → load_of start nodes (length before) ≡ o → Writes o r before after
+  given : (o : Output WriteFault) → load_of start nodes (length before) ≡ o → Writes o r before after
       → Writes (load_of start nodes (length before)) r before after × (1 ≤ nodes → nodes ≤ 64 → LoadFine start nodes)
   given o e w = (rw e w, load_fine start nodes)
 

@@ -7,6 +7,7 @@ use Rattle.question.specs.Write.{write_tree}
 use Rattle.ty.specs.Choose.{choose}
 use Rattle.written.specs.Output.{Output, wrote, refused}
 use Rattle.written.specs.declared.WriteFault.TheVariants.{BadCount, TooShort}
+use Rattle.written.specs.declared.WriteFault.{WriteFault}
 
 -- "header FF FF FF FF 00 (hex)"
 abbrev pub load_header : List ℕ
@@ -21,7 +22,7 @@ abbrev pub load_bytes : ℕ → ℕ
 load_bytes nodes = 5 + 2 * nodes
 
 -- what the part does, with so many bytes lent
-unfoldable pub load_of : ℕ → ℕ → ℕ → Output
+unfoldable pub load_of : ℕ → ℕ → ℕ → Output WriteFault
 load_of start nodes lent =
     choose (nodes == 0 || nat_lt most_nodes nodes) (refused BadCount)
     (choose (nat_lt lent (load_bytes nodes)) (refused TooShort)

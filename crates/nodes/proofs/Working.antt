@@ -1,5 +1,5 @@
 -- Laws of the work at one node, on plain values.
-use Prim.Native.Nat.{ℕ, suc, ◌+◌, ◌≤◌, ◌<◌}
+use Prim.Native.Nat.{ℕ, zero, suc, ◌+◌, ◌≤◌, ◌<◌}
 use lib.ListN.{length, take, drop, set, length-append, length-take}
 use lib.Seq.{get_or-set_same}
 use mathlib.Core.Bool.{Bool, true, not, ◌&&◌}
@@ -9,7 +9,6 @@ use native.Mathlib.Omega.{arith}
 use Rattle.area.proofs.SlotsHeld.{reads_both_children}
 use Rattle.area.proofs.Reporting.{reported_none as none_reported, reported_both, reported_more}
 use Rattle.area.specs.Diagnostic.{Diag}
-use Rattle.area.specs.DiagnosticKind.{diagnostic_number}
 use Rattle.area.specs.Reported.{reported}
 use Rattle.area.specs.declared.reports.Reports.{Reports}
 use Rattle.area.specs.Inside.Slot.{Child, type_at}
@@ -28,7 +27,7 @@ use Rattle.question.specs.Inside.Skip.{skip_at}
 use Rattle.question.specs.declared.node.Skipped.{Skipped}
 use Rattle.operators.specs.Diag.{diag, reported_at as at_node}
 use Rattle.operators.specs.Out.{Report, Out, error_ty}
-use Rattle.operators.specs.Inside.Ruled.{reports_of, out_of}
+use Rattle.operators.specs.Inside.Ruled.{reports_by, reports_of, out_of}
 use Rattle.operators.specs.declared.ruled.Diagnostic.{Diagnostic}
 use Rattle.std.proofs.Common.{Option, None, Some}
 use Rattle.operators.specs.declared.ruled.Ruled.{Ruled}
@@ -37,8 +36,6 @@ use Rattle.symbol.specs.Symbols.{Overload}
 use Rattle.index.specs.Inside.Found.{Found}
 use Rattle.index.specs.declared.index.Place.{Place}
 use Rattle.ty.specs.Bytes.{Ty, plain_ty, same_bytes}
-use Rattle.ty.specs.KindNumber.{kind_number}
-use Rattle.ty.specs.declared.Kind.{Kind as TyKind}
 use Rattle.typing.specs.Mark.{no_error}
 
 -- ---- what is reported at a node
@@ -52,10 +49,15 @@ unfolding at_node
 at_append n [] ss = refl
 at_append n (r ∷ rs) ss = ap (λ (ds : List Diag). diag r.kind n r.number ∷ ds) (at_append n rs ss)
 
+few_by : (kind number : ℕ) → length (reports_by kind number) ≤ 1
+unfolding reports_by
+few_by zero number = omega arith
+few_by (suc k) number = omega arith
+
 report_few : (o : Option Diagnostic) → length (reports_of o) ≤ 1
 unfolding reports_of
 report_few None = omega arith
-report_few (Some d) = omega arith
+report_few (Some d) = few_by d.kind d.number
 
 -- a rule reports at most two
 pub rule_few : (table : List ℕ) (x y : Ty) (r : Ruled) → length (out_of table x y r).reports ≤ 2
@@ -68,10 +70,19 @@ pub reported_none : (b : Reports) (node : ℕ) (o : Option Diagnostic) → o ≡
 unfolding at_node reports_of
 reported_none b node o e = rw e (sym (none_reported b))
 
-pub reported_one : (b b' : Reports) (node k : ℕ) (o : Option Diagnostic) (d : Diagnostic) → o ≡ Some d → k ≡ diagnostic_number d.kind
-    → b' ≡ reported b (record { kind = k; node = node; number = d.number } ∷ []) → b' ≡ reported b (at_node node (reports_of o))
-unfolding at_node reports_of
-reported_one b b' node k o d z e f = rw (z, sym e) f
+-- a kind of 0 is no report, and every other one is
+pub kind_none : (b : Reports) (node : ℕ) (o : Option Diagnostic) (d : Diagnostic) → o ≡ Some d → d.kind ≡ 0 → b ≡ reported b (at_node node (reports_of o))
+unfolding at_node reports_of reports_by
+kind_none b node o d z e = rw (z, e) (sym (none_reported b))
+
+one_by : (node kind number : ℕ) → (kind ≡ 0 → ⊥) → at_node node (reports_by kind number) ≡ diag kind node number ∷ []
+unfolding at_node reports_by
+one_by node zero number n = absurd (n refl)
+one_by node (suc k) number n = refl
+
+pub kind_one : (node : ℕ) (d : Diagnostic) → (d.kind ≡ 0 → ⊥) → at_node node (reports_of (Some d)) ≡ diag d.kind node d.number ∷ []
+unfolding reports_of
+kind_one node d n = one_by node d.kind d.number n
 
 -- ---- a node is finished
 module _ {ts ts' : List Ty} {b b' : Reports} {n : ℕ} {t : Ty} {ds : List Diag} {s r : State} where
@@ -84,16 +95,16 @@ module _ {ts ts' : List Ty} {b b' : Reports} {n : ℕ} {t : Ty} {ds : List Diag}
       record { reached = record { result = e ∙ state_path _ _ refl refl fine; reports = rep }; stored = st; few = few }
 
 -- ---- leaves, named arguments, unvisited arguments
-pub leaf_short : (q : List ℕ) (len p : ℕ) → len ≤ 192 → length (take len (drop p q)) ≤ 256
-leaf_short q len p h = simp length-take (omega arith)
+pub leaf_short : (q : List ℕ) (len p n : ℕ) → len ≤ n → length (take len (drop p q)) ≤ n
+leaf_short q len p n h = simp length-take (omega arith)
 
-module _ {q : List ℕ} {ts ts' : List Ty} {len : ℕ} {s e r : State} where
-  pub finish_leaf : LeafAsked q ts len s → e ≡ inside_of s (len + 1) → ts' ≡ set ts s.node (take len (drop (s.at + 1) q)) → r ≡ finished_as e (type_at ts' s.node)
+module _ {n : ℕ} {q : List ℕ} {ts ts' : List Ty} {len : ℕ} {s e r : State} where
+  pub finish_leaf : LeafAsked n q ts len s → e ≡ inside_of s (len + 1) → ts' ≡ set ts s.node (take len (drop (s.at + 1) q)) → r ≡ finished_as e (type_at ts' s.node)
       → (b : Reports) → Finished (inside_of s (len + 1)) s.node (take len (drop (s.at + 1) q)) [] ts ts' b b r
   finish_leaf x i st f b = finish x.room (omega arith) st (sym (none_reported b)) (rw i at f)
 
 module _ (table : List ℕ) {ts : List Ty} (node : ℕ) where
-  pub named-store : Child ts node (node + 1) → length (type_at ts (node + 1)) ≤ 256 → CanStore table ts node (node + 1) (node + 1) First
+  pub named-store : {n : ℕ} → Child ts node (node + 1) → length (type_at ts (node + 1)) ≤ n → CanStore n table ts node (node + 1) (node + 1) First
   unfolding ReadsChildren type_from
   named-store h short = record { room = omega (arith, h.past, h.inside); reads = h; short = short }
 
@@ -102,14 +113,14 @@ module _ (table : List ℕ) {ts : List Ty} (node : ℕ) where
   unfolding type_from
   finish_named h st f b = finish (omega (arith, h.past, h.inside)) (omega arith) st (sym (none_reported b)) f
 
-pub kind_store : (table : List ℕ) (ts : List Ty) (node : ℕ) (kind : TyKind) → node < length ts → CanStore table ts node node node (Kind kind)
+pub kind_store : {n : ℕ} (table : List ℕ) (ts : List Ty) (node kind : ℕ) → node < length ts → 0 < n → CanStore n table ts node node node (Kind kind)
 unfolding ReadsChildren type_from
-kind_store table ts node kind h = record { room = h; reads = tt; short = omega arith }
+kind_store table ts node kind h k = record { room = h; reads = tt; short = omega arith }
 
-module _ (q table : List ℕ) {ts ts' : List Ty} (n node : ℕ) (kind : TyKind) (s : State) {r : State} {p : Skipped} where
+module _ (q table : List ℕ) {ts ts' : List Ty} (n node kind : ℕ) (s : State) {r : State} {p : Skipped} where
   pub finish_unlisted : node < length ts → p ≡ skip_at q s.at n → ts' ≡ set ts node (type_from table (type_at ts node) (type_at ts node) (Kind kind))
       → r ≡ finished_as (record { at = p.at; node = s.node + p.nodes; fine = s.fine }) (type_at ts' node)
-      → (b : Reports) → Finished (passed_over q s n) node (plain_ty (kind_number kind)) [] ts ts' b b r
+      → (b : Reports) → Finished (passed_over q s n) node (plain_ty kind) [] ts ts' b b r
   unfolding type_from
   finish_unlisted h e st f b = finish h (omega arith) st (sym (none_reported b)) (rw e at f)
 
@@ -121,7 +132,7 @@ module _ (table : List ℕ) (ts : List Ty) (node second : ℕ) (b : Reports) (ru
   abbrev out : Out
   out = out_of table (type_at ts (node + 1)) (type_at ts second) ruled
 
-  pub rule_store : RuleAsked ts node second b out → CanStore table ts node (node + 1) second ruled.source
+  pub rule_store : {n : ℕ} → RuleAsked n ts node second b out → CanStore n table ts node (node + 1) second ruled.source
   unfolding out_of
   rule_store x = record {
     room = omega (arith, x.left.past, x.left.inside);
@@ -129,7 +140,7 @@ module _ (table : List ℕ) (ts : List Ty) (node second : ℕ) (b : Reports) (ru
     short = x.short;
   }
 
-  pub finish_ruled : {ts' : List Ty} {b₁ b' : Reports} {s r : State} → RuleAsked ts node second b out → b₁ ≡ reported b (at_node node (reports_of ruled.first))
+  pub finish_ruled : {n : ℕ} {ts' : List Ty} {b₁ b' : Reports} {s r : State} → RuleAsked n ts node second b out → b₁ ≡ reported b (at_node node (reports_of ruled.first))
       → b' ≡ reported b₁ (at_node node (reports_of ruled.second))
       → ts' ≡ set ts node (type_from table (type_at ts (node + 1)) (type_at ts second) ruled.source) → r ≡ finished_as s (type_at ts' node)
       → Finished s node out.ty (at_node node out.reports) ts ts' b b' r
@@ -139,7 +150,7 @@ module _ (table : List ℕ) (ts : List Ty) (node second : ℕ) (b : Reports) (ru
       finish (omega (arith, x.left.past, x.left.inside)) few st
       (rw (at_append node (reports_of ruled.first) (reports_of ruled.second)) (reported_both b (at_node node (reports_of ruled.first)) (at_node node (reports_of ruled.second)) u v)) f
 
-pub asked_as : {ts : List Ty} {node second : ℕ} {b : Reports} {o p : Out} → p ≡ o → RuleAsked ts node second b o → RuleAsked ts node second b p
+pub asked_as : {n : ℕ} {ts : List Ty} {node second : ℕ} {b : Reports} {o p : Out} → p ≡ o → RuleAsked n ts node second b o → RuleAsked n ts node second b p
 asked_as e x = rw e x
 
 pub finished_as_lem : {s r : State} {n : ℕ} {o p : Out} {ts ts' : List Ty} {b b' : Reports} → o ≡ p → Finished s n o.ty (at_node n o.reports) ts ts' b b' r
@@ -150,8 +161,8 @@ finished_as_lem e x = rw (← e) x
 pub ruleset ruled_as = (asked_as, finished_as_lem)
 
 -- ---- calls
-module _ (table : List ℕ) (source : Source) {ts : List Ty} {node : ℕ} {v : Verdict} {b : Reports} (x : CallAsked ts node b v) (ty : (x y : Ty) → type_from table x y source ≡ v.ty) where
-  pub call-store : ((l : List Ty) (n first second : ℕ) → ReadsChildren l n first second source) → CanStore table ts node node node source
+module _ {n : ℕ} (table : List ℕ) (source : Source) {ts : List Ty} {node : ℕ} {v : Verdict} {b : Reports} (x : CallAsked n ts node b v) (ty : (x y : Ty) → type_from table x y source ≡ v.ty) where
+  pub call-store : ((l : List Ty) (m first second : ℕ) → ReadsChildren l m first second source) → CanStore n table ts node node node source
   call-store reads = record { room = x.room; reads = reads ts node node node; short = rw (ty (type_at ts node) (type_at ts node)) x.short }
 
   pub finish_called : {ts' : List Ty} {b' : Reports} {s r : State} → b' ≡ reported b v.diags → ts' ≡ set ts node (type_from table (type_at ts node) (type_at ts node) source)

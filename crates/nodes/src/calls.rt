@@ -1,12 +1,12 @@
 // Calls and method calls, before and behind their arguments.
 //
 // Table, header, id, node, slots and reports are parameters apart: each function that is called takes other ones of them, and slots and reports are lent
-// to the arguments in between. count_limit, slot_count, `node < length slots` and CallAsked are asked: a type of all of these would borrow slots and reports.
+// to the arguments in between. count_limit, slot_count, `node < length slots`, `0 < N` and CallAsked are asked: a type of all of these would borrow slots and
+// reports.
 ghost use Rattle.std.specs.Prelude.{◌+◌, ◌≤◌, ◌<◌, ◌≡◌, length};
 ghost use Rattle.area.specs.Diagnostic.{count_limit};
 ghost use Rattle.area.specs.Inside.Slot.{slot_count, type_at};
 ghost use Rattle.ty.specs.Bytes.{plain_ty};
-ghost use Rattle.ty.specs.KindNumber.{kind_number};
 ghost use Rattle.ty.specs.Name.{id_number};
 ghost use Rattle.nodes.specs.Inside.Call.{owner_of, callee_at, owned_at, method_at, method_owner, CallBegun, Begun, verdict_at, CallAsked, FinishedCall};
 ghost use Rattle.nodes.specs.Inside.Progress.{FinishedSilently, passed_over};
@@ -56,7 +56,7 @@ pub fn begin_call(
 
 // The owner of a method of the object in a slot, whose base is Named, or none.
 #[tactic(auto, unfolding(ty::specs::Choose::choose))]
-fn owner_of(slots: &[Slot], m: usize) -> Option<u16>
+fn owner_of<const N: usize>(slots: &[Slot<N>], m: usize) -> Option<u16>
     ensures { result ≡ owner_of (type_at slots.now m) }
 {
     let base = ty::non_null(type_of(slots, m));
@@ -87,12 +87,12 @@ fn begin_owned(
 }
 
 // A method call: whose list there is, if there is one. Its object's type lies in the slot behind the call's.
-pub fn begin_method(
+pub fn begin_method<const N: usize>(
     table: &Table<'_>,
     header: Header,
     id: u16,
     node: usize,
-    slots: &[Slot],
+    slots: &[Slot<N>],
     reports: &mut Reports<'_>,
 ) -> Option<u16>
     requires { (node < slot_count) × (reports.old.count + 2 ≤ count_limit) }
@@ -103,18 +103,19 @@ pub fn begin_method(
     begin_owned(table, header, owner, id, node, reports).then_some(owner)
 }
 
-// A call without a list: its arguments stay unvisited, and its type is one without body. The table's bytes alone, as nothing is looked up.
-pub fn unlisted(
+// A call without a list: its arguments stay unvisited, and its type is that of a kind without body, each byte as it stands. The table's bytes alone, as nothing
+// is looked up.
+pub fn unlisted<const N: usize>(
     table: &[u8],
     q: &[u8],
-    kind: Kind,
+    kind: u8,
     n: u8,
     node: usize,
     s: State,
-    slots: &mut [Slot],
+    slots: &mut [Slot<N>],
 ) -> State
-    requires { (node < length slots.old) × ((passed_over q.now s n).node ≤ slot_count) }
-    ensures { FinishedSilently (passed_over q.now s n) node (plain_ty (kind_number kind)) slots.old slots.new result }
+    requires { (node < length slots.old) × (0 < N) × ((passed_over q.now s n).node ≤ slot_count) }
+    ensures { FinishedSilently (passed_over q.now s n) node (plain_ty kind) slots.old slots.new result }
 {
     let p = skip(q, s.at, n);
     let e = State {
@@ -128,16 +129,16 @@ pub fn unlisted(
 }
 
 // A call of a list of functions, once its arguments are judged.
-pub fn finish_call(
+pub fn finish_call<const N: usize>(
     table: &Table<'_>,
     owner: Option<u16>,
     id: u16,
     node: usize,
     row: &RowJudged,
-    slots: &mut [Slot],
+    slots: &mut [Slot<N>],
     reports: &mut Reports<'_>,
 ) -> State
-    requires { CallAsked slots.old node reports.old (verdict_at table.now slots.old (id_number owner) id node row.now) }
+    requires { CallAsked N slots.old node reports.old (verdict_at table.now slots.old (id_number owner) id node row.now) }
     ensures { FinishedCall row.now.state node (verdict_at table.now slots.old (id_number owner) id node row.now)
         slots.old slots.new reports.old reports.new result }
 {

@@ -29,7 +29,7 @@ pub fn inside(s: State, own: usize) -> State
 }
 
 // Behind a node that is finished: its type lies in its slot.
-pub fn finished(s: State, node: usize, slots: &[Slot]) -> State
+pub fn finished<const N: usize>(s: State, node: usize, slots: &[Slot<N>]) -> State
     ensures { result ≡ finished_as s (type_at slots.now node) }
 {
     let error = is_error(type_of(slots, node));

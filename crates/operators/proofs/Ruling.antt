@@ -1,16 +1,12 @@
 -- What the answers of the rules stand for: the type and the reports that the definitions give.
 use Prim.Native.Nat.{ℕ}
 use mathlib.Core.Bool.{Bool, true, false}
-use mathlib.Core.List.{List}
+use mathlib.Core.List.{List, []}
 use mathlib.Core.Path.{◌≡◌, refl, ◌∙◌}
 use Rattle.std.specs.Prelude.{Option, None, Some, option_map}
-use Rattle.area.specs.DiagnosticKind.{diagnostic_number}
+use Rattle.area.specs.DiagnosticKind.{logical_diag}
 use Rattle.area.specs.Source.{type_from}
-use Rattle.area.specs.declared.DiagnosticKind.TheVariants.{Logical}
-use Rattle.area.specs.declared.DiagnosticKind.{DiagnosticKind}
 use Rattle.area.specs.declared.Source.{Source}
-use Rattle.ty.specs.declared.Kind.{Kind}
-use Rattle.ty.specs.KindNumber.{kind_number}
 use Rattle.operators.proofs.Each.{each}
 use Rattle.operators.proofs.MethodLookups.{operator_placed}
 use Rattle.operators.specs.Binary.{add_out, arithmetic_out, equality_out, order_out, logical_out, bitwise_out, operator_out, builtin_binary, binary_out}
@@ -18,11 +14,11 @@ use Rattle.operators.specs.Inside.BinaryRule.{add_ruled, arithmetic_ruled, equal
 use Rattle.operators.specs.Inside.BinaryRule.{method_ruled, binary_ruled}
 use Rattle.operators.specs.Inside.Looked.{source_ty}
 use Rattle.operators.specs.Inside.MethodPlace.{operator_place}
-use Rattle.operators.specs.Inside.Ruled.{report_of, reports_of, out_of, one_out, BinaryRuled, UnaryRuled}
+use Rattle.operators.specs.Inside.Ruled.{reports_by, report_of, reports_of, out_of, one_out, fails_by, checked_by, BinaryRuled, UnaryRuled}
 use Rattle.operators.specs.Inside.RuledParts.{diagnostic, report_unless, clean_one, plain_one, fails_one, checked_one, ruled_before, ruled_alone}
 use Rattle.operators.specs.Inside.UnaryRule.{unary_one, unary_ruled}
 use Rattle.operators.specs.Operand.{is_logical}
-use Rattle.operators.specs.Out.{Out, report, clean, plain, fails, checked, unless, reports_before, found}
+use Rattle.operators.specs.Out.{Out, clean, plain, unless, reports_before, found}
 use Rattle.operators.specs.Unary.{unary_of, unary_out}
 use Rattle.operators.specs.declared.ruled.Diagnostic.{Diagnostic}
 use Rattle.operators.specs.declared.ruled.OneReport.{OneReport}
@@ -34,13 +30,12 @@ use Rattle.ty.specs.Bytes.{Ty}
 use Rattle.ty.specs.Choose.{choose}
 
 -- ---- diagnostics
-pub reports_unless : (ok : Bool) (kind : DiagnosticKind) (number : ℕ)
-    → reports_of (report_unless ok kind number) ≡ unless ok (report (diagnostic_number kind) number)
-unfolding report_unless reports_of unless
+pub reports_unless : (ok : Bool) (kind number : ℕ) → reports_of (report_unless ok kind number) ≡ choose ok [] (reports_by kind number)
+unfolding report_unless reports_of
 reports_unless ok kind number = each reports_of ok refl refl
 
 -- a kind alone is reported with the number 0
-unnumbered : (o : Option DiagnosticKind) → reports_of (option_map (λ kind. diagnostic kind 0) o) ≡ report_of o
+unnumbered : (o : Option ℕ) → reports_of (option_map (λ kind. diagnostic kind 0) o) ≡ report_of o
 unfolding reports_of report_of
 unnumbered None = refl
 unnumbered (Some kind) = refl
@@ -51,17 +46,17 @@ module _ (table : List ℕ) (x y : Ty) where
   unfolding one_out clean_one report_of
   clean-gives source = refl
 
-  pub plain-gives : (kind : Kind) → one_out table x y (plain_one kind) ≡ plain (kind_number kind)
+  pub plain-gives : (kind : ℕ) → one_out table x y (plain_one kind) ≡ plain kind
   unfolding one_out plain_one clean_one report_of type_from
   plain-gives kind = refl
 
-  pub fails-gives : (kind : DiagnosticKind) → one_out table x y (fails_one kind) ≡ fails (diagnostic_number kind)
+  pub fails-gives : (kind : ℕ) → one_out table x y (fails_one kind) ≡ fails_by kind
   unfolding one_out fails_one report_of type_from
   fails-gives kind = refl
 
-  pub checked-gives : (ok : Bool) (source : Source) (kind : DiagnosticKind)
-      → one_out table x y (checked_one ok source kind) ≡ checked ok (type_from table x y source) (diagnostic_number kind)
-  unfolding one_out checked_one clean_one report_of choose unless
+  pub checked-gives : (ok : Bool) (source : Source) (kind : ℕ)
+      → one_out table x y (checked_one ok source kind) ≡ checked_by ok (type_from table x y source) kind
+  unfolding one_out checked_one clean_one report_of choose
   checked-gives true source kind = refl
   checked-gives false source kind = refl
 
@@ -80,29 +75,29 @@ module _ (table : List ℕ) (x y : Ty) where
   one s = one_out table x y s
 
   pub add_gives : (l r : Ty) → one_out table x y (add_ruled l r) ≡ add_out l r
-  unfolding add_ruled add_out
+  unfolding add_ruled add_out report_of reports_by
   add_gives l r =
       each one _ (plain-gives _) (each one _ (each one _ (plain-gives _) (plain-gives _)) (each one _ (plain-gives _) (fails-gives _)))
 
   pub arithmetic_gives : (l r : Ty) → one_out table x y (arithmetic_ruled l r) ≡ arithmetic_out l r
-  unfolding arithmetic_ruled arithmetic_out
+  unfolding arithmetic_ruled arithmetic_out report_of reports_by
   arithmetic_gives l r = each one _ (each one _ (plain-gives _) (each one _ (plain-gives _) (plain-gives _))) (fails-gives _)
 
   pub equality_gives : (S : Symbols) (l r : Ty) → one_out table x y (equality_ruled S l r) ≡ equality_out S l r
-  unfolding equality_ruled type_from
+  unfolding equality_ruled report_of reports_by type_from unless
   equality_gives S l r = checked-gives _ _ _
 
   pub order_gives : (l r : Ty) → one_out table x y (order_ruled l r) ≡ order_out l r
-  unfolding order_ruled type_from
+  unfolding order_ruled report_of reports_by type_from unless
   order_gives l r = checked-gives _ _ _
 
   pub logical_gives : (l r : Ty) → out_of table x y (logical_ruled l r) ≡ logical_out l r
-  unfolding logical_ruled out_of type_from
-  logical_gives l r = rw (reports_unless (is_logical l) Logical 1, reports_unless (is_logical r) Logical 2)
+  unfolding logical_ruled out_of reports_of reports_by type_from unless
+  logical_gives l r = rw (reports_unless (is_logical l) logical_diag 1, reports_unless (is_logical r) logical_diag 2)
 
 module _ (table : List ℕ) (l r : Ty) where
   pub bitwise_gives : one_out table l r (bitwise_ruled l r) ≡ bitwise_out l r
-  unfolding bitwise_ruled type_from
+  unfolding bitwise_ruled report_of reports_by type_from unless
   bitwise_gives = checked-gives table l r _ _ _
 
   abbrev whole : Ruled → Out
@@ -122,7 +117,7 @@ module _ (table : List ℕ) (l r : Ty) where
       (each whole _ (alone_gives _ _ _ _ ∙ plain-gives _ _ _ _) (alone_gives _ _ _ _ ∙ clean-gives _ _ _ _)))))))))
 
   pub builtin_gives : (S : Symbols) (op : ℕ) → out_of table l r (builtin_ruled S op l r) ≡ builtin_binary S op l r
-  unfolding builtin_ruled builtin_binary
+  unfolding builtin_ruled builtin_binary report_of reports_by
   builtin_gives S op = each whole _ (alone_gives _ _ _ _ ∙ fails-gives _ _ _ _) (operator_gives S op)
 
   -- ---- an operator method, or else another answer
@@ -143,7 +138,7 @@ binary_is table clean op l r a e = rw e (binary-gives table clean op l r)
 
 -- ---- a unary node
 one-unary : (table : List ℕ) (t y : Ty) (op : ℕ) → one_out table t y (unary_one op t) ≡ unary_out op t
-unfolding unary_one unary_out unary_of type_from
+unfolding unary_one unary_out unary_of report_of reports_by type_from unless
 one-unary table t y op =
     let one : OneReport → Out = one_out table t y in
     each one _ (fails-gives _ _ _ _)

@@ -20,7 +20,7 @@ use ty::{Kind, NameId, is_kind};
 fn fractional(lt: &[u8], rt: &[u8]) -> bool
     ensures { result ≡ fractional_of lt.now rt.now }
 {
-    either(Kind::Float, lt, rt) | either(Kind::Double, lt, rt)
+    either(Kind::Float as u8, lt, rt) | either(Kind::Double as u8, lt, rt)
 }
 
 // Add.
@@ -29,18 +29,18 @@ fn add(lt: &[u8], rt: &[u8]) -> OneReport
     ensures { result ≡ add_ruled lt.now rt.now }
 {
     if ty::is_string(lt) & (ty::is_string(rt) | is_kind(rt, Kind::Any)) {
-        return plain(Kind::String);
+        return plain(Kind::String as u8);
     }
     if numbers(lt, rt) {
         if fractional(lt, rt) {
-            return plain(Kind::Float);
+            return plain(Kind::Float as u8);
         }
-        return plain(Kind::Int); // of two Longs too
+        return plain(Kind::Int as u8); // of two Longs too
     }
-    if either(Kind::String, lt, rt) | either(Kind::Any, lt, rt) {
-        return plain(Kind::String);
+    if either(Kind::String as u8, lt, rt) | either(Kind::Any as u8, lt, rt) {
+        return plain(Kind::String as u8);
     }
-    fails(DiagnosticKind::Plus)
+    fails(DiagnosticKind::Plus as u8)
 }
 
 // Sub, Mul, Div, Mod.
@@ -50,14 +50,14 @@ fn arithmetic(lt: &[u8], rt: &[u8]) -> OneReport
 {
     if numbers(lt, rt) {
         if fractional(lt, rt) {
-            return plain(Kind::Float);
+            return plain(Kind::Float as u8);
         }
-        if either(Kind::Long, lt, rt) {
-            return plain(Kind::Long);
+        if either(Kind::Long as u8, lt, rt) {
+            return plain(Kind::Long as u8);
         }
-        return plain(Kind::Int);
+        return plain(Kind::Int as u8);
     }
-    fails(DiagnosticKind::Numeric)
+    fails(DiagnosticKind::Numeric as u8)
 }
 
 // Eq, Ne.
@@ -68,9 +68,9 @@ fn equality(table: &Table<'_>, lt: &[u8], rt: &[u8]) -> OneReport
     let above = Above::none(table);
     checked(
         (can_assign_to(&above, lt, rt) || can_assign_to(&above, rt, lt))
-            || (either(Kind::Any, lt, rt) || char_string(lt, rt)),
-        Source::Kind(Kind::Boolean),
-        DiagnosticKind::Unrelated,
+            || (either(Kind::Any as u8, lt, rt) || char_string(lt, rt)),
+        Source::Kind(Kind::Boolean as u8),
+        DiagnosticKind::Unrelated as u8,
     )
 }
 
@@ -81,9 +81,9 @@ fn order(lt: &[u8], rt: &[u8]) -> OneReport
 {
     checked(
         numbers(lt, rt)
-            | (either(Kind::Any, lt, rt) | (ty::same_bytes(lt, rt) | char_string(lt, rt))),
-        Source::Kind(Kind::Boolean),
-        DiagnosticKind::NotComparable,
+            | (either(Kind::Any as u8, lt, rt) | (ty::same_bytes(lt, rt) | char_string(lt, rt))),
+        Source::Kind(Kind::Boolean as u8),
+        DiagnosticKind::NotComparable as u8,
     )
 }
 
@@ -93,9 +93,9 @@ fn logical(lt: &[u8], rt: &[u8]) -> Ruled
     ensures { result ≡ logical_ruled lt.now rt.now }
 {
     Ruled {
-        source: Source::Kind(Kind::Boolean),
-        first: unless(is_logical(lt), DiagnosticKind::Logical, 1),
-        second: unless(is_logical(rt), DiagnosticKind::Logical, 2),
+        source: Source::Kind(Kind::Boolean as u8),
+        first: unless(is_logical(lt), DiagnosticKind::Logical as u8, 1),
+        second: unless(is_logical(rt), DiagnosticKind::Logical as u8, 2),
     }
 }
 
@@ -105,9 +105,9 @@ fn bitwise(lt: &[u8], rt: &[u8]) -> OneReport
     ensures { result ≡ bitwise_ruled lt.now rt.now }
 {
     checked(
-        (ty::is_integer(lt) & ty::is_integer(rt)) | either(Kind::Any, lt, rt),
+        (ty::is_integer(lt) & ty::is_integer(rt)) | either(Kind::Any as u8, lt, rt),
         Source::First,
-        DiagnosticKind::Bitwise,
+        DiagnosticKind::Bitwise as u8,
     )
 }
 
@@ -134,7 +134,7 @@ fn operator(table: &Table<'_>, op: BinOp, lt: &[u8], rt: &[u8]) -> Ruled
             bitwise(lt, rt).into(),
         BinOp::Assign | BinOp::As => clean(Source::Second).into(),
         BinOp::To => clean(Source::Name(NameId::PAIR)).into(),
-        BinOp::Is => plain(Kind::Boolean).into(),
+        BinOp::Is => plain(Kind::Boolean as u8).into(),
     }
 }
 
@@ -142,8 +142,8 @@ fn operator(table: &Table<'_>, op: BinOp, lt: &[u8], rt: &[u8]) -> Ruled
 fn builtin_binary(table: &Table<'_>, op: BinOp, lt: &[u8], rt: &[u8]) -> Ruled
     ensures { result ≡ builtin_ruled (symbols_of table.now) (binary_number op) lt.now rt.now }
 {
-    if (!takes_nullable(op)) & either(Kind::Nullable, lt, rt) {
-        return fails(DiagnosticKind::NullableOperands).into();
+    if (!takes_nullable(op)) & either(Kind::Nullable as u8, lt, rt) {
+        return fails(DiagnosticKind::NullableOperands as u8).into();
     }
     operator(table, op, lt, rt)
 }
@@ -153,8 +153,8 @@ fn builtin_binary(table: &Table<'_>, op: BinOp, lt: &[u8], rt: &[u8]) -> Ruled
 fn binary(table: &Table<'_>, op: BinOp, lt: &[u8], rt: &[u8]) -> Ruled
     ensures { result ≡ binary_ruled table.now (binary_number op) lt.now rt.now }
 {
-    if either(Kind::Error, lt, rt) {
-        return plain(Kind::Error).into();
+    if either(Kind::Error as u8, lt, rt) {
+        return plain(Kind::Error as u8).into();
     }
     let method = method_return(table, op, lt);
     match method {

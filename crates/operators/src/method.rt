@@ -25,7 +25,7 @@ fn first_result(table: &Table<'_>, class: u16, name: u16) -> Source
     ensures { result ≡ first_result_place table.now class name }
 {
     match first_function(table, Some(class), name) {
-        None => Source::Kind(Kind::Any),
+        None => Source::Kind(Kind::Any as u8),
         Some(place) => Source::Part(read_function(table.bytes(), place).result),
     }
 }

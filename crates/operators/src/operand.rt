@@ -1,7 +1,6 @@
 // Tests on operands' types. Each is the definition of its name, in a line: one function with a kind as parameter would take these names from the rules.
 // Two operands are lt and rt here and in the rules, as in checker.rs: a struct of both would be made at each call and taken apart in each test.
 ghost use Rattle.std.specs.Prelude.{◌≡◌};
-ghost use Rattle.ty.specs.KindNumber.{kind_number};
 ghost use Rattle.operators.specs.Operand.{is_number, is_logical, numbers as numbers_of, either as either_of, char_string};
 
 use ty::{Kind, is_kind};
@@ -27,11 +26,11 @@ pub fn numbers(lt: &[u8], rt: &[u8]) -> bool
     ty::is_numeric(lt) & ty::is_numeric(rt)
 }
 
-// One of them is of a kind.
-pub fn either(kind: Kind, lt: &[u8], rt: &[u8]) -> bool
-    ensures { result ≡ either_of (kind_number kind) lt.now rt.now }
+// One of them is of the kind that a byte stands for.
+pub fn either(kind: u8, lt: &[u8], rt: &[u8]) -> bool
+    ensures { result ≡ either_of kind lt.now rt.now }
 {
-    is_kind(lt, kind) | is_kind(rt, kind)
+    (ty::kind_of(lt) == kind) | (ty::kind_of(rt) == kind)
 }
 
 // A Char and a String, in either order.

@@ -2,13 +2,13 @@
 ghost use Rattle.std.specs.Prelude.{◌≡◌};
 ghost use Rattle.operators.specs.Inside.RuledParts.{report_unless, clean_one, plain_one, fails_one, checked_one, ruled_before, ruled_alone};
 
-use area::{DiagnosticKind, Source};
+use area::Source;
 use ty::Kind;
 
-// A diagnostic at the node itself: its kind and its number, 0 for none as in a record (docs/FORMAT.md).
+// A diagnostic at the node itself: the byte of its kind, where 0 is no report, and its number, 0 for none as in a record (docs/FORMAT.md).
 #[derive(Clone, Copy)]
 pub struct Diagnostic {
-    pub kind: DiagnosticKind,
+    pub kind: u8,
     pub number: u8,
 }
 
@@ -21,11 +21,11 @@ pub struct Ruled {
     pub second: Option<Diagnostic>,
 }
 
-// The same where at most one diagnostic is reported, which has no number.
+// The same where at most one diagnostic is reported, of the kind that a byte stands for, where 0 is no report; it has no number.
 #[derive(Clone, Copy)]
 pub struct OneReport {
     pub source: Source,
-    pub kind: Option<DiagnosticKind>,
+    pub kind: Option<u8>,
 }
 
 // A type, and nothing is reported.
@@ -36,28 +36,28 @@ pub fn clean(source: Source) -> OneReport
     OneReport { source, kind: None }
 }
 
-// The type of a kind without body, and nothing is reported.
+// The type of the kind without body that a byte stands for, and nothing is reported.
 #[tactic(auto, unfolding(crate::specs::Inside::RuledParts::plain_one))]
-pub fn plain(kind: Kind) -> OneReport
+pub fn plain(kind: u8) -> OneReport
     ensures { result ≡ plain_one kind }
 {
     clean(Source::Kind(kind))
 }
 
-// Error, and a report.
+// Error, and a report; a kind of 0 is no report.
 #[tactic(auto, unfolding(crate::specs::Inside::RuledParts::fails_one))]
-pub fn fails(kind: DiagnosticKind) -> OneReport
+pub fn fails(kind: u8) -> OneReport
     ensures { result ≡ fails_one kind }
 {
     OneReport {
-        source: Source::Kind(Kind::Error),
+        source: Source::Kind(Kind::Error as u8),
         kind: Some(kind),
     }
 }
 
-// A type, and a report unless a test holds.
+// A type, and a report unless a test holds; a kind of 0 is no report.
 #[tactic(auto, unfolding(crate::specs::Inside::RuledParts::checked_one, crate::specs::Inside::RuledParts::clean_one, ty::specs::Choose::choose))]
-pub fn checked(ok: bool, source: Source, kind: DiagnosticKind) -> OneReport
+pub fn checked(ok: bool, source: Source, kind: u8) -> OneReport
     ensures { result ≡ checked_one ok source kind }
 {
     OneReport {
@@ -66,9 +66,9 @@ pub fn checked(ok: bool, source: Source, kind: DiagnosticKind) -> OneReport
     }
 }
 
-// A report unless a test holds.
+// A report unless a test holds; a kind of 0 is no report.
 #[tactic(auto, unfolding(crate::specs::Inside::RuledParts::report_unless, ty::specs::Choose::choose))]
-pub fn unless(ok: bool, kind: DiagnosticKind, number: u8) -> Option<Diagnostic>
+pub fn unless(ok: bool, kind: u8, number: u8) -> Option<Diagnostic>
     ensures { result ≡ report_unless ok kind number }
 {
     (!ok).then_some(Diagnostic { kind, number })

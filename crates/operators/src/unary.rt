@@ -14,26 +14,26 @@ fn unary(op: UnOp, t: &[u8]) -> OneReport
     ensures { result ≡ unary_one (unary_number op) t.now }
 {
     if is_kind(t, Kind::Nullable) {
-        return fails(DiagnosticKind::NullableUnary);
+        return fails(DiagnosticKind::NullableUnary as u8);
     }
     match op {
-        UnOp::Minus => checked(is_number(t), Source::First, DiagnosticKind::Minus),
+        UnOp::Minus => checked(is_number(t), Source::First, DiagnosticKind::Minus as u8),
         UnOp::Not => checked(
             is_logical(t),
-            Source::Kind(Kind::Boolean),
-            DiagnosticKind::Not,
+            Source::Kind(Kind::Boolean as u8),
+            DiagnosticKind::Not as u8,
         ),
         UnOp::Increment | UnOp::Decrement => {
-            checked(is_number(t), Source::First, DiagnosticKind::Step)
+            checked(is_number(t), Source::First, DiagnosticKind::Step as u8)
         }
         UnOp::AddrOf => clean(Source::Pointer),
         UnOp::Dereference => {
             if is_kind(t, Kind::Pointer) {
                 return clean(Source::Inner);
             }
-            fails(DiagnosticKind::Dereference)
+            fails(DiagnosticKind::Dereference as u8)
         }
-        UnOp::NotNull => fails(DiagnosticKind::NotNull),
+        UnOp::NotNull => fails(DiagnosticKind::NotNull as u8),
     }
 }
 

@@ -3,7 +3,6 @@ ghost use Rattle.std.specs.Prelude.{◌+◌, ◌≤◌, ◌<◌, ◌≡◌, not}
 ghost use Rattle.area.specs.Diagnostic.{count_limit};
 ghost use Rattle.area.specs.Reported.{reported};
 ghost use Rattle.symbol.specs.Lookup.{symbols_of};
-ghost use Rattle.symbol.specs.Visibility.{visibility_number};
 ghost use Rattle.ty.specs.Name.{id_number};
 ghost use Rattle.operators.specs.Diag.{reported_at as at_node};
 ghost use Rattle.overload.specs.Before.{suspend_allowed, suspend_report, call_reports, method_reports};
@@ -15,7 +14,6 @@ use index::table::Table;
 use question::Header;
 use rules::access::check_access;
 use symbol::lookups::is_suspend;
-use symbol::visibility::Visibility;
 
 // Whether a suspend function is called from outside of one.
 fn suspends(table: &Table<'_>, header: Header, owner: Option<u16>, id: u16) -> bool
@@ -57,22 +55,21 @@ pub fn before_call(
     report_suspend(table, header, None, id, node, reports);
 }
 
-// What a method call reports before its arguments are visited, `vis` being the visibility of the list's first function. It stands apart from before_call:
+// What a method call reports before its arguments are visited, `vis` being the visibility byte of the list's first function. It stands apart from before_call:
 // there is an owner, and access is looked at too.
 #[tactic(auto, using(crate::proofs::SingleReports::method_reported))]
 pub fn before_method(
     table: &Table<'_>,
     header: Header,
-    vis: Visibility,
+    vis: u8,
     owner: u16,
     id: u16,
     node: usize,
     reports: &mut Reports<'_>,
 )
     requires { reports.old.count + 2 ≤ count_limit }
-    ensures { reports.new ≡ reported reports.old (at_node node (method_reports (symbols_of table.now) header (visibility_number vis) owner id)) }
+    ensures { reports.new ≡ reported reports.old (at_node node (method_reports (symbols_of table.now) header vis owner id)) }
 {
-    let vis = vis.number();
     let blocked = check_access(table, header, vis, owner);
     report_if(blocked, DiagnosticKind::Access, node, vis as usize, reports);
     report_suspend(table, header, Some(owner), id, node, reports);

@@ -98,11 +98,11 @@ fn higher(h: Option<Highest>, found: Part, s: Option<Score>) -> Option<Highest>
 // function.
 
 // One more overload, which fits: its unknown names are reported, and it is scored.
-fn take_one(
+fn take_one<const N: usize>(
     above: &Above<'_>,
     p: Place,
     f: &Function,
-    slots: &[Slot],
+    slots: &[Slot<N>],
     args: &Args,
     w: Tally,
     reports: &mut Reports<'_>,
@@ -122,12 +122,12 @@ fn take_one(
 
 // One more function of the list. own: builtins drop out; a flag, as walk says below.
 #[tactic(auto, using(crate::proofs::Tallies::turned))]
-fn turn(
+fn turn<const N: usize>(
     above: &Above<'_>,
     own: bool,
     p: Place,
     f: &Function,
-    slots: &[Slot],
+    slots: &[Slot<N>],
     args: &Args,
     w: Tally,
     reports: &mut Reports<'_>,
@@ -146,12 +146,12 @@ fn turn(
 // The walk over the list. own goes down the walk as a flag: a test handed on as a closure would hold it too.
 // That there are at most 16 arguments is asked, as only a call of `len` tells it. clean: Table's own invariant, which the caller knows by no other call.
 #[tactic(auto, using(crate::proofs::FunctionListWalk::walk_start, crate::proofs::FunctionListWalk::walk_on))]
-fn walk(
+fn walk<const N: usize>(
     above: &Above<'_>,
     own: bool,
     owner: Option<u16>,
     id: u16,
-    slots: &[Slot],
+    slots: &[Slot<N>],
     args: &Args,
     reports: &mut Reports<'_>,
 ) -> Tally
@@ -186,16 +186,16 @@ fn none_fits(own: bool, node: usize, n: usize, reports: &mut Reports<'_>) -> Sou
     ensures reports { reports.new ≡ reported reports.old (none_fits own node n).diags }
 {
     report_if(own, DiagnosticKind::ArgumentCount, node, n, reports);
-    Source::Kind(Kind::Error)
+    Source::Kind(Kind::Error as u8)
 }
 
 // A call of functions of which at least one fits in number, the first of them being at p.
 #[tactic(auto, using(crate::proofs::CallAnswers::settled), unfolding(crate::specs::Inside::DiagIf::diag_if, crate::specs::Resolve::tie_report))]
-fn settle(
+fn settle<const N: usize>(
     above: &Above<'_>,
     p: Place,
     node: usize,
-    slots: &[Slot],
+    slots: &[Slot<N>],
     args: &Args,
     w: Tally,
     reports: &mut Reports<'_>,
@@ -215,16 +215,16 @@ fn settle(
     }
     // Every diagnostic of an answer has a number: 0 where its kind has nothing to count.
     reports.report(DiagnosticKind::NoMatch.number(), node, 0);
-    Source::Kind(Kind::Error)
+    Source::Kind(Kind::Error as u8)
 }
 
 // A call with what is above some classes.
-fn resolve(
+fn resolve<const N: usize>(
     above: &Above<'_>,
     owner: Option<u16>,
     id: u16,
     node: usize,
-    slots: &[Slot],
+    slots: &[Slot<N>],
     args: &Args,
     reports: &mut Reports<'_>,
 ) -> Source
@@ -243,13 +243,13 @@ fn resolve(
 
 // The same where what is above the arguments' classes is marked first, once for all overloads. Not inlined, as the judge recurses: the marks have 4.7 KB.
 #[inline(never)]
-fn resolve_marked(
+fn resolve_marked<const N: usize>(
     table: &Table<'_>,
     classes: &[u16],
     owner: Option<u16>,
     id: u16,
     node: usize,
-    slots: &[Slot],
+    slots: &[Slot<N>],
     args: &Args,
     reports: &mut Reports<'_>,
 ) -> Source
@@ -265,12 +265,12 @@ fn resolve_marked(
 
 // The call at a node of the functions of an owner, if there is one, and a name, once its arguments are judged: where its type comes from. The types of the
 // arguments lie in their slots. Above a class without parents there is nothing, so that where none has one there is nothing to mark.
-pub fn check_call_args(
+pub fn check_call_args<const N: usize>(
     table: &Table<'_>,
     owner: Option<u16>,
     id: u16,
     node: usize,
-    slots: &[Slot],
+    slots: &[Slot<N>],
     args: &Args,
     reports: &mut Reports<'_>,
 ) -> Source

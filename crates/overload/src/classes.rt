@@ -72,7 +72,7 @@ fn gather(x: &[u8], classes: &mut Classes)
 }
 
 // The classes that assignability from the arguments asks about.
-pub fn classes_of(slots: &[Slot], args: &Args) -> Classes
+pub fn classes_of<const N: usize>(slots: &[Slot<N>], args: &Args) -> Classes
     ensures { result ≡ classes_of (args_in slots.now args.now) }
 {
     let mut classes = Classes::new();

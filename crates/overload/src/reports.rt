@@ -83,10 +83,10 @@ fn suits_param(above: &Above<'_>, param: Option<Param>, x: &[u8]) -> bool
 
 // The check of a single overload that does not match, in argument order: each argument against the parameter that it gets. For above, slots and args apart see
 // calls.rt.
-pub fn mismatches(
+pub fn mismatches<const N: usize>(
     above: &Above<'_>,
     params: &Params,
-    slots: &[Slot],
+    slots: &[Slot<N>],
     args: &Args,
     reports: &mut Reports<'_>,
 )

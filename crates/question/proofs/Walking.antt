@@ -6,7 +6,7 @@ use mathlib.Core.List.{List}
 use mathlib.Core.Path.{◌≡◌, refl, sym, ap, ◌∙◌}
 use native.Mathlib.Omega.{arith}
 use Rattle.question.proofs.NodeReading.{step_small, step_few}
-use Rattle.question.proofs.QuestionFaults.{failed, some_number, unread_bytes, unread_children}
+use Rattle.question.proofs.QuestionFaults.{failed, some_number}
 use Rattle.question.proofs.NodeIds.{same_fault}
 use Rattle.question.specs.Inside.Skip.{skip_from}
 use Rattle.question.specs.Inside.Top.{read_fault}
@@ -125,4 +125,4 @@ pub ruleset check_steps = (none_fault, more_fault_at, stop_fault, turn_fault, fe
 
 pub ruleset skip_steps = (none_skip, turn_skip, few_more, skip_stop)
 
-pub ruleset step_bounds = (step_small, step_few, unread_bytes, unread_children)
+pub ruleset step_bounds = (step_small, step_few)

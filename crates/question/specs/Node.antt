@@ -1,7 +1,6 @@
--- A node as the code has it, and as reading has it: operators are enums there and numbers here.
+-- A node as the code has it, and as reading has it: where none was read there is a fault there, and a case of its own here.
 use Rattle.std.specs.Prelude.{Result, Ok, Err}
 use Rattle.question.specs.NodeRead.{NodeRead, Bad, Leaf, Endless, Binary, Unary, Named, Member, Call, Method}
-use Rattle.question.specs.OperatorNumber.{binary_number, unary_number}
 use Rattle.question.specs.declared.node.Node.TheVariants.{Leaf as LeafNode, Binary as BinaryNode, Unary as UnaryNode, Named as NamedNode}
 use Rattle.question.specs.declared.node.Node.TheVariants.{Member as MemberNode, Call as CallNode, Method as MethodNode}
 use Rattle.question.specs.declared.node.Node.{Node}
@@ -12,8 +11,8 @@ use Rattle.ty.specs.declared.read.TypeFault.{TypeFault}
 
 abbrev pub node_read : Node → NodeRead
 node_read (LeafNode len top) = Leaf len top
-node_read (BinaryNode op) = Binary (binary_number op)
-node_read (UnaryNode op) = Unary (unary_number op)
+node_read (BinaryNode op) = Binary op
+node_read (UnaryNode op) = Unary op
 node_read (NamedNode id) = Named id
 node_read (MemberNode id) = Member id
 node_read (CallNode id n) = Call id n

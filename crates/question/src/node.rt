@@ -59,8 +59,9 @@ pub enum Node {
     // A type of len bytes stands behind the kind; top is the highest id in it, 0 for none: an
     // Option is no plainer, as 0 is the id of a name that each table defines.
     Leaf { len: u16, top: u16 },
-    Binary { op: BinOp },
-    Unary { op: UnOp },
+    // The byte of an operator.
+    Binary { op: u8 },
+    Unary { op: u8 },
     Named { id: u16 },
     Member { id: u16 },
     Call { id: u16, count: u8 },
@@ -144,11 +145,11 @@ fn node_of(kind: NodeKind, there: usize, op: u8, id: u16, count: u8) -> Result<N
     match kind {
         NodeKind::Leaf => Err(NodeFault::Bad),
         NodeKind::Binary => {
-            let op = BinOp::try_from(op)?;
+            BinOp::try_from(op)?; // a byte past the last operator is no node
             if_there(2 <= there, Node::Binary { op })
         }
         NodeKind::Unary => {
-            let op = UnOp::try_from(op)?;
+            UnOp::try_from(op)?;
             if_there(2 <= there, Node::Unary { op })
         }
         NodeKind::Named => if_there(3 <= there, Node::Named { id }),
@@ -178,11 +179,14 @@ pub fn node_at(q: &[u8], at: usize) -> Result<Node, NodeFault>
     node_in(tail(q, at))
 }
 
-// How many bytes of its own a node has.
-#[tactic(auto, unfolding(crate::specs::NodeRead::own_bytes))]
-pub fn own_bytes(node: Node) -> usize
-    ensures { result ≡ own_bytes (node_read node) }
+// How many bytes of its own a node has: 0 where none was read.
+#[tactic(auto, using(crate::proofs::QuestionFaults::unread_bytes), unfolding(crate::specs::NodeRead::own_bytes))]
+pub fn own_bytes(read: Result<Node, NodeFault>) -> usize
+    ensures { result ≡ own_bytes (read_of read) }
 {
+    let Ok(node) = read else {
+        return 0; // the walk stays where it is
+    };
     match node {
         Node::Leaf { len, top: _ } => len as usize + 1,
         Node::Binary { op: _ } | Node::Unary { op: _ } => 2,
@@ -191,11 +195,14 @@ pub fn own_bytes(node: Node) -> usize
     }
 }
 
-// How many children it has.
-#[tactic(auto, unfolding(crate::specs::NodeRead::children))]
-pub fn children(node: Node) -> usize
-    ensures { result ≡ children_of (node_read node) }
+// How many children it has: 0 where none was read.
+#[tactic(auto, using(crate::proofs::QuestionFaults::unread_children), unfolding(crate::specs::NodeRead::children))]
+pub fn children(read: Result<Node, NodeFault>) -> usize
+    ensures { result ≡ children_of (read_of read) }
 {
+    let Ok(node) = read else {
+        return 0; // none is to come
+    };
     match node {
         Node::Leaf { len: _, top: _ } => 0,
         Node::Binary { op: _ } => 2,
@@ -224,10 +231,8 @@ impl Walk {
         }
         let read = node_at(q, self.at);
         self.pending -= 1;
-        if let Ok(node) = read {
-            self.at += own_bytes(node);
-            self.pending += children(node);
-        }
+        self.at += own_bytes(read);
+        self.pending += children(read);
         Some(read)
     }
 }

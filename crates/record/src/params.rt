@@ -2,7 +2,7 @@
 ghost use Rattle.std.specs.Prelude.{◌≡◌, ◌≤◌, ◌<◌, length, get_or, drop};
 ghost use Rattle.ty.specs.Read.{read_type, longest_type};
 ghost use Rattle.record.specs.RecordKind.{record_kind_number};
-ghost use Rattle.record.specs.Inside.Front.{front_at, run_of, reading_answer, unread, name_passed, type_passed, param_step};
+ghost use Rattle.record.specs.Inside.Front.{front_at, run_of, reading_answer, answered_run, unread, name_passed, type_passed, param_step, stepped};
 ghost use Rattle.record.specs.Inside.Front.{first_reading, params_read, typed_answer, function_head};
 
 use crate::front::{Head, LONGEST, RecordKind, or_none};
@@ -23,11 +23,18 @@ pub struct Reading {
 
 // How a reading ends early.
 #[derive(Clone, Copy)]
-pub enum ReadFault {
-    // Malformed or cut.
-    Broken,
-    // A type without end: the highest id, and whether a name was repeated until there.
-    Endless { top: u16, repeated: bool },
+pub enum Ending {
+    // Malformed or cut: what was read before stands.
+    Broken = 1,
+    // A type without end: its parameter's name and the ids that were examined count.
+    Endless,
+}
+
+// A reading that ended early, as it stands then, with the byte of its ending.
+#[derive(Clone, Copy)]
+pub struct ReadFault {
+    pub read: Reading,
+    pub state: u8,
 }
 
 // Inlined: a Reading has 32 bytes of names, which each call would copy.
@@ -47,6 +54,17 @@ impl Reading {
         }
     }
 
+    // It ends here, as what follows is malformed or cut.
+    #[inline(always)]
+    fn broken(self) -> ReadFault
+        ensures { result ≡ record { read = self; state = 1 } }
+    {
+        ReadFault {
+            read: self,
+            state: Ending::Broken as u8,
+        }
+    }
+
     // Behind the type at byte `at`.
     #[tactic(auto, unfolding(crate::specs::Inside::Front::reading_answer, ty::specs::Choose::choose))]
     #[inline(always)]
@@ -61,11 +79,15 @@ impl Reading {
                 error: self.error | found.error,
                 ..self
             }),
-            Err(TypeFault::Endless { top, error: _ }) => Err(ReadFault::Endless {
-                top: self.top.max(top),
-                repeated: self.repeated,
+            Err(TypeFault::Endless { top, error: _ }) => Err(ReadFault {
+                read: Reading {
+                    top: self.top.max(top),
+                    error: true,
+                    ..self
+                },
+                state: Ending::Endless as u8,
             }),
-            Err(TypeFault::Cut | TypeFault::Malformed) => Err(ReadFault::Broken),
+            Err(TypeFault::Cut | TypeFault::Malformed) => Err(self.broken()),
         }
     }
 
@@ -88,20 +110,41 @@ impl Reading {
         }
     }
 
-    // One parameter further.
+    // One parameter further. A parameter whose type is malformed or cut is not among what was read.
     #[inline(always)]
-    pub fn step(self, s: &[u8]) -> Result<Reading, ReadFault>
+    fn next_param(self, s: &[u8]) -> Result<Reading, ReadFault>
         requires { (self.len ≤ length s.now) × (self.count < 16) }
         ensures { result ≡ reading_answer (param_step s.now (run_of self)) }
     {
         let at = self.len;
         if s.len() - at < 3 {
-            return Err(ReadFault::Broken);
+            return Err(self.broken());
         }
         if 3 < byte_at(s, at + 2) {
-            return Err(ReadFault::Broken);
+            return Err(self.broken());
         }
-        self.named(id_at(s, at)).typed(s, at + 3)
+        match self.named(id_at(s, at)).typed(s, at + 3) {
+            Ok(read) => Ok(read),
+            Err(f) => {
+                if f.state == Ending::Endless as u8 {
+                    return Err(f);
+                }
+                Err(self.broken())
+            }
+        }
+    }
+
+    // One parameter further; a reading that ended stays as it is, whatever its state is.
+    #[tactic(auto, unfolding(crate::specs::Inside::Front::stepped))]
+    #[inline(always)]
+    pub fn step(read: Result<Reading, ReadFault>, s: &[u8]) -> Result<Reading, ReadFault>
+        requires { ((answered_run read).len ≤ length s.now) × ((answered_run read).count < 16) }
+        ensures { result ≡ stepped s.now read }
+    {
+        match read {
+            Ok(c) => c.next_param(s),
+            Err(_) => read,
+        }
     }
 }
 
@@ -110,14 +153,19 @@ fn read_params(s: &[u8], count: usize) -> Result<Reading, ReadFault>
     ensures { result ≡ reading_answer (params_read s.now) }
 {
     let high = or_none(id_at(s, 1)).max(id_at(s, 3));
-    let mut c = Reading::new(high).typed(s, 8)?;
+    let start = Reading {
+        len: 8,
+        ..Reading::new(high)
+    };
+    let mut c = start.typed(s, 8)?;
     for _n in 0..count {
-        c = c.step(s)?;
+        c = Reading::step(Ok(c), s)?;
     }
     Ok(c)
 }
 
 // A record whose types were read so.
+#[tactic(auto, unfolding(ty::specs::Choose::choose))]
 #[inline(always)]
 pub fn typed_record(s: &[u8], kind: RecordKind, read: Result<Reading, ReadFault>) -> Option<Head>
     ensures { front_at s.now result ≡ typed_answer s.now (record_kind_number kind) read }
@@ -132,16 +180,20 @@ pub fn typed_record(s: &[u8], kind: RecordKind, read: Result<Reading, ReadFault>
             repeated: c.repeated,
             error: c.error,
         }),
-        Err(ReadFault::Endless { top, repeated }) => Some(Head {
-            kind,
-            one: id_at(s, 1),
-            two: id_at(s, 3),
-            len: s.len(),
-            top,
-            repeated,
-            error: true,
-        }),
-        Err(ReadFault::Broken) => None,
+        Err(f) => {
+            if f.state != Ending::Endless as u8 {
+                return None;
+            }
+            Some(Head {
+                kind,
+                one: id_at(s, 1),
+                two: id_at(s, 3),
+                len: s.len(),
+                top: f.read.top,
+                repeated: f.read.repeated,
+                error: true,
+            })
+        }
     }
 }
 

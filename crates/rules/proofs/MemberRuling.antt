@@ -4,17 +4,13 @@ use mathlib.Core.List.{List}
 use mathlib.Core.Option as maybe
 use Rattle.std.specs.Prelude.{Option, None, Some}
 use mathlib.Core.Path.{◌≡◌, refl, ap, ◌∙◌}
-use Rattle.ty.specs.KindNumber.{kind_number}
 use Rattle.area.specs.Source.{type_from}
-use Rattle.area.specs.declared.DiagnosticKind.TheVariants.{Unresolved}
-use Rattle.ty.specs.declared.Kind.TheVariants.{Error}
-use Rattle.ty.specs.declared.Kind.{Kind}
 use Rattle.area.specs.declared.Source.TheVariants.{Name}
 use Rattle.area.specs.declared.Source.{Source}
 use Rattle.operators.proofs.Each.{each, each_by}
 use Rattle.operators.proofs.Ruling.{clean-gives, plain-gives, fails-gives, alone_gives, before-gives}
 use Rattle.area.specs.DiagnosticKind.{unresolved_diag}
-use Rattle.operators.specs.Inside.Ruled.{reports_of, one_out, out_of}
+use Rattle.operators.specs.Inside.Ruled.{reports_by, report_of, reports_of, one_out, out_of}
 use Rattle.operators.specs.Inside.RuledParts.{plain_one, fails_one}
 use Rattle.operators.specs.Inside.Looked.{source_ty}
 use Rattle.operators.specs.Out.{Out, plain, fails, found, reports_before}
@@ -35,11 +31,12 @@ use Rattle.rules.specs.Member.{variable_member, pair_member, collection_member, 
 use Rattle.symbol.specs.Lookup.{symbols_of}
 use Rattle.symbol.specs.Symbols.{Symbols}
 use Rattle.ty.specs.Bytes.{Ty, inner_of, non_null}
+use Rattle.ty.specs.Kind.{error_kind}
 
 -- ---- access
 module _ (S : Symbols) (H : Header) where
   pub access_gives : (vis owner : ℕ) → reports_of (access_ruled S H vis owner) ≡ access_report S H vis owner
-  unfolding access_ruled access_report reports_of
+  unfolding access_ruled access_report reports_of reports_by
   access_gives vis owner = each reports_of _ refl refl
 
   pub visibility_gives : (owner : ℕ) (F : maybe.Option ℕ) → reports_of (visibility_ruled S H owner F) ≡ visibility_report S H owner F
@@ -48,7 +45,7 @@ module _ (S : Symbols) (H : Header) where
   visibility_gives owner (maybe.some vis) = access_gives vis owner
 
   pub base_gives : (base : Ty) (id : ℕ) → reports_of (base_ruled S H base id) ≡ member_report S H base id
-  unfolding base_ruled member_report reports_of
+  unfolding base_ruled member_report reports_of reports_by
   base_gives base id = each reports_of _ (visibility_gives _ _) refl
 
 -- ---- members that need no table
@@ -56,15 +53,16 @@ module _ (table : List ℕ) (x y : Ty) where
   abbrev one : OneReport → Out
   one s = one_out table x y s
 
-  p : (kind : Kind) → one_out table x y (plain_one kind) ≡ plain (kind_number kind)
+  p : (kind : ℕ) → one_out table x y (plain_one kind) ≡ plain kind
   p kind = plain-gives table x y kind
 
   pub variable_gives : (id : ℕ) → one_out table x y (variable_ruled id) ≡ variable_member id
   unfolding variable_ruled variable_member
   variable_gives id = each one _ (p _) (each one _ (p _) (each one _ (p _) (p _)))
 
-  unresolved : one_out table x y (fails_one Unresolved) ≡ fails unresolved_diag
-  unresolved = fails-gives table x y Unresolved
+  unresolved : one_out table x y (fails_one unresolved_diag) ≡ fails unresolved_diag
+  unfolding report_of reports_by
+  unresolved = fails-gives table x y unresolved_diag
 
   pub pair_gives : (id : ℕ) → one_out table x y (pair_ruled id) ≡ pair_member id
   unfolding pair_ruled pair_member
@@ -107,7 +105,7 @@ module _ (table : List ℕ) (clean : table_fault table ≡ 0) where
     class-gives owner id =
         variable_or_lem table x y (variable_place table owner id) _
         ∙ (λ i. found (variable_placed table x y clean owner id i)
-        (each gives (S.is_variant owner id) (clean-gives table x y (Name owner)) (each gives (S.in_types owner) (unresolved table x y) (plain-gives table x y Error)) i))
+        (each gives (S.is_variant owner id) (clean-gives table x y (Name owner)) (each gives (S.in_types owner) (unresolved table x y) (plain-gives table x y error_kind)) i))
 
     named-gives : (owner id : ℕ) → one_out table x y (named_ruled table owner id) ≡ named_member S owner id
     unfolding named_ruled named_member
@@ -116,7 +114,7 @@ module _ (table : List ℕ) (clean : table_fault table ≡ 0) where
         (each gives _ (pair_gives table x y _) (each gives _ (collection_gives table x y _) (class-gives owner id)))
 
     kind_gives : (base : Ty) (id : ℕ) → HoldsSame x base → one_out table x y (kind_ruled table base id) ≡ kind_member S base id
-    unfolding kind_ruled kind_member
+    unfolding kind_ruled kind_member report_of reports_by
     kind_gives base id h =
         each gives _ (named-gives _ _)
         (each gives _ (string-gives table x y _)
@@ -125,7 +123,7 @@ module _ (table : List ℕ) (clean : table_fault table ≡ 0) where
 
   -- A MEMBER NODE'S ANSWER is what the definition gives
   pub member_gives : (H : Header) (id : ℕ) (t : Ty) → MemberRuled table H id t (member_ruled table H id t)
-  unfolding member_ruled member_out base_member
+  unfolding member_ruled member_out base_member report_of reports_by
   member_gives H id t y =
       let whole : Ruled → Out = out_of table t y in
       each_by whole _ (λ _. alone_gives table t y _ ∙ fails-gives table t y _) λ e.

@@ -60,7 +60,7 @@ pub fn access_report(table: &Table<'_>, header: Header, vis: u8, owner: u16) -> 
     ensures { result ≡ access_ruled (symbols_of table.now) header vis owner }
 {
     check_access(table, header, vis, owner).then_some(Diagnostic {
-        kind: DiagnosticKind::Access,
+        kind: DiagnosticKind::Access as u8,
         number: vis,
     })
 }

@@ -27,10 +27,10 @@ fn variable_member(id: u16) -> OneReport
     ensures { result ≡ variable_ruled id }
 {
     match id {
-        NameId::TO_STRING => plain(Kind::String),
-        NameId::HASH_CODE => plain(Kind::Int),
-        NameId::EQUALS => plain(Kind::Boolean),
-        _ => plain(Kind::Any),
+        NameId::TO_STRING => plain(Kind::String as u8),
+        NameId::HASH_CODE => plain(Kind::Int as u8),
+        NameId::EQUALS => plain(Kind::Boolean as u8),
+        _ => plain(Kind::Any as u8),
     }
 }
 
@@ -40,9 +40,9 @@ fn pair_member(id: u16) -> OneReport
     ensures { result ≡ pair_ruled id }
 {
     match id {
-        NameId::FIRST | NameId::SECOND => plain(Kind::Any),
-        NameId::TO_STRING => plain(Kind::String),
-        _ => fails(DiagnosticKind::Unresolved),
+        NameId::FIRST | NameId::SECOND => plain(Kind::Any as u8),
+        NameId::TO_STRING => plain(Kind::String as u8),
+        _ => fails(DiagnosticKind::Unresolved as u8),
     }
 }
 
@@ -52,11 +52,11 @@ fn collection_member(id: u16) -> OneReport
     ensures { result ≡ collection_ruled id }
 {
     match id {
-        NameId::SIZE | NameId::COUNT | NameId::INDEX_OF => plain(Kind::Int),
-        NameId::IS_EMPTY | NameId::CONTAINS => plain(Kind::Boolean),
-        NameId::FIRST | NameId::LAST | NameId::GET | NameId::GET_AT => plain(Kind::Any),
-        NameId::SET | NameId::ADD | NameId::PUSH | NameId::APPEND => plain(Kind::Unit),
-        _ => fails(DiagnosticKind::Unresolved),
+        NameId::SIZE | NameId::COUNT | NameId::INDEX_OF => plain(Kind::Int as u8),
+        NameId::IS_EMPTY | NameId::CONTAINS => plain(Kind::Boolean as u8),
+        NameId::FIRST | NameId::LAST | NameId::GET | NameId::GET_AT => plain(Kind::Any as u8),
+        NameId::SET | NameId::ADD | NameId::PUSH | NameId::APPEND => plain(Kind::Unit as u8),
+        _ => fails(DiagnosticKind::Unresolved as u8),
     }
 }
 
@@ -66,10 +66,10 @@ fn string_member(id: u16) -> OneReport
     ensures { result ≡ string_ruled id }
 {
     match id {
-        NameId::LENGTH | NameId::SIZE => plain(Kind::Int),
-        NameId::IS_EMPTY | NameId::IS_NOT_EMPTY => plain(Kind::Boolean),
-        NameId::TRIM | NameId::LOWERCASE | NameId::UPPERCASE => plain(Kind::String),
-        _ => fails(DiagnosticKind::Unresolved),
+        NameId::LENGTH | NameId::SIZE => plain(Kind::Int as u8),
+        NameId::IS_EMPTY | NameId::IS_NOT_EMPTY => plain(Kind::Boolean as u8),
+        NameId::TRIM | NameId::LOWERCASE | NameId::UPPERCASE => plain(Kind::String as u8),
+        _ => fails(DiagnosticKind::Unresolved as u8),
     }
 }
 
@@ -79,11 +79,11 @@ fn element_member(id: u16) -> OneReport
     ensures { result ≡ element_ruled id }
 {
     match id {
-        NameId::SIZE | NameId::COUNT => plain(Kind::Int),
-        NameId::IS_EMPTY => plain(Kind::Boolean),
+        NameId::SIZE | NameId::COUNT => plain(Kind::Int as u8),
+        NameId::IS_EMPTY => plain(Kind::Boolean as u8),
         NameId::FIRST | NameId::LAST | NameId::GET | NameId::GET_AT => clean(Source::Inner),
-        NameId::SET => plain(Kind::Unit),
-        _ => fails(DiagnosticKind::Unresolved),
+        NameId::SET => plain(Kind::Unit as u8),
+        _ => fails(DiagnosticKind::Unresolved as u8),
     }
 }
 
@@ -93,9 +93,9 @@ fn map_member(id: u16) -> OneReport
     ensures { result ≡ map_ruled id }
 {
     match id {
-        NameId::SIZE => plain(Kind::Int),
-        NameId::KEYS => clean(Source::ListOf(Kind::Any)),
-        _ => fails(DiagnosticKind::Unresolved),
+        NameId::SIZE => plain(Kind::Int as u8),
+        NameId::KEYS => clean(Source::ListOf(Kind::Any as u8)),
+        _ => fails(DiagnosticKind::Unresolved as u8),
     }
 }
 
@@ -133,9 +133,9 @@ fn class_member(table: &Table<'_>, owner: u16, id: u16) -> OneReport
         return clean(Source::Name(owner));
     }
     if in_types(table, owner) {
-        return fails(DiagnosticKind::Unresolved);
+        return fails(DiagnosticKind::Unresolved as u8);
     }
-    plain(Kind::Error)
+    plain(Kind::Error as u8)
 }
 
 // A Named base's, by its name.
@@ -173,9 +173,9 @@ fn kind_member(table: &Table<'_>, base: &[u8], id: u16) -> OneReport
         return map_member(id);
     }
     if kind == Kind::Any.number() {
-        return plain(Kind::Any);
+        return plain(Kind::Any as u8);
     }
-    fails(DiagnosticKind::NoMembers)
+    fails(DiagnosticKind::NoMembers as u8)
 }
 
 // The access check of a member that has a visibility.
@@ -212,11 +212,11 @@ pub fn check_member(table: &Table<'_>, header: Header, id: u16, object: &[u8]) -
     ensures { result ≡ member_ruled table.now header id object.now }
 {
     if is_nullable_object(object) {
-        return fails(DiagnosticKind::NullableMember).into();
+        return fails(DiagnosticKind::NullableMember as u8).into();
     }
     let base = ty::non_null(object);
     if is_kind(base, Kind::Module) {
-        return plain(Kind::Any).into();
+        return plain(Kind::Any as u8).into();
     }
     let first = member_report(table, header, base, id);
     report_before(first, kind_member(table, base, id))

@@ -93,7 +93,12 @@ fn named_turn(
 
 // The named pass. What is above, slots and arguments apart, here and below: a struct of the three would be taken apart in each function that it comes to.
 #[tactic(auto, using(crate::proofs::Scores::named_whole))]
-pub fn named_pass(above: &Above<'_>, params: &[Param], slots: &[Slot], args: &Args) -> NamedPass
+pub fn named_pass<const N: usize>(
+    above: &Above<'_>,
+    params: &[Param],
+    slots: &[Slot<N>],
+    args: &Args,
+) -> NamedPass
     ensures is { result ≡ named_in above.now params.now (args_in slots.now args.now) }
     ensures few { points_of result.score ≤ 64 }
 {
@@ -132,11 +137,11 @@ fn unnamed_turn(
 
 // The positional pass.
 #[tactic(auto, using(crate::proofs::Scores::unnamed_whole))]
-fn positional_pass(
+fn positional_pass<const N: usize>(
     above: &Above<'_>,
     params: &[Param],
     marks: [bool; 16],
-    slots: &[Slot],
+    slots: &[Slot<N>],
     args: &Args,
 ) -> Option<Score>
     ensures is { result ≡ as_score (positional_in above.now params.now marks (args_in slots.now args.now)) }
@@ -153,7 +158,12 @@ fn positional_pass(
 }
 
 // The score of an overload, and none where an argument does not match.
-pub fn score_function(above: &Above<'_>, f: &Function, slots: &[Slot], args: &Args) -> Option<Score>
+pub fn score_function<const N: usize>(
+    above: &Above<'_>,
+    f: &Function,
+    slots: &[Slot<N>],
+    args: &Args,
+) -> Option<Score>
     ensures { result ≡ as_score (score_in above.now f.now (args_in slots.now args.now)) }
 {
     let params = f.params.as_slice();

@@ -21,9 +21,6 @@ use Rattle.symbol.specs.Inside.FunctionFields.{params_laid, function_until, func
 use Rattle.symbol.specs.Inside.ParamsRow.{part, ParamsAt, ParamsAre}
 use Rattle.symbol.specs.Lookup.{overload_of}
 use Rattle.symbol.specs.Symbols.{Overload}
-use Rattle.symbol.proofs.VisibilityBytes.{visibility_kept}
-use Rattle.symbol.specs.Visibility.{visibility_number, visibility_from}
-use Rattle.symbol.specs.declared.visibility.Visibility.{Visibility}
 use Rattle.record.specs.Inside.Walk.{behind}
 use Rattle.record.specs.Inside.Front.{Front}
 use Rattle.symbol.specs.declared.functions.Function.{Function}
@@ -93,11 +90,10 @@ module _ (t : List ℕ) (p : Place) (f : FunctionAt t p) (end : ℕ) (is-end : e
       function_read_lem : (v b : ℕ) → v ≡ get_or t (p.at + 5) 0 → b ≡ get_or t (p.at + 6) 0 → (ps : List Param)
           → ParamsAre t (params_from n (part t (p.at + 8 + len) end)) n ps
           → FunctionRead t (overload_at t p)
-          (record { builtin = eqb b 1; visibility = visibility_from v; result = record { start = p.at + 8; len = len }; params = ps })
+          (record { builtin = eqb b 1; visibility = v; result = record { start = p.at + 8; len = len }; params = ps })
       unfolding overload_found
       function_read_lem v b ev eb ps h =
-          let five : v ≡ get_or r 5 0 = ev ∙ sym (byte 5 (omega arith)) in
-          let pv : visibility_number (visibility_from v) ≡ get_or r 5 0 = visibility_kept v (omega (arith, function_is.fields.visibility, five)) ∙ five in
+          let pv : v ≡ get_or r 5 0 = ev ∙ sym (byte 5 (omega arith)) in
           let pb : b ≡ get_or r 6 0 = eb ∙ sym (byte 6 (omega arith)) in
           let pp : params_in t ps ≡ params_from (get_or r 7 0) (drop (8 + type_length (drop 8 r)) r) = h.same ∙ rw (many, rest) in
           let pr : take len (drop (p.at + 8) t) ≡ take (type_length (drop 8 r)) (drop 8 r)
@@ -109,7 +105,7 @@ module _ (t : List ℕ) (p : Place) (f : FunctionAt t p) (end : ℕ) (is-end : e
             types = h.types;
           }
 
-      pub function-fields : (v : Visibility) (b : ℕ) → v ≡ visibility_from (get_or t (p.at + 5) 0) → b ≡ get_or t (p.at + 6) 0 → (ps : List Param)
+      pub function-fields : (v b : ℕ) → v ≡ get_or t (p.at + 5) 0 → b ≡ get_or t (p.at + 6) 0 → (ps : List Param)
           → ps ≡ params_laid t end n (p.at + 8 + len)
           → record { builtin = eqb b 1; visibility = v; result = record { start = p.at + 8; len = len }; params = ps } ≡ function_at t p
       unfolding function_at

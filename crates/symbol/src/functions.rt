@@ -7,7 +7,6 @@ ghost use Rattle.record.specs.Inside.Keyed.{whole_length, type_length};
 ghost use Rattle.symbol.specs.Inside.ParamsRow.{part, ParamsAt};
 ghost use Rattle.record.specs.Inside.Walk.{behind};
 
-use crate::visibility::Visibility;
 use index::index::Place;
 use record::front::{LONGEST, read_record, record_len};
 use std::marker::Model;
@@ -85,11 +84,11 @@ impl Params {
     }
 }
 
-// A function; its result type lies in the table.
+// A function; its visibility is the record's byte, and its result type lies in the table.
 #[derive(Clone, Copy)]
 pub struct Function {
     pub builtin: bool,
-    pub visibility: Visibility,
+    pub visibility: u8,
     pub result: Part,
     pub params: Params,
 }
@@ -145,7 +144,7 @@ fn read_whole(t: &[u8], p: Place, end: usize) -> Function
     let params = read_params(t, start + len, end, byte_at(t, at + 7) as usize);
     Function {
         builtin: byte_at(t, at + 6) == 1,
-        visibility: Visibility::of_byte(byte_at(t, at + 5)),
+        visibility: byte_at(t, at + 5),
         result: Part { start, len },
         params,
     }

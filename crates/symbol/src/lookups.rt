@@ -24,7 +24,7 @@ pub fn superclass_of(table: &Table<'_>, class: u16) -> Option<u16>
 {
     let t = table.bytes();
     // 0, here and below: of a class the key is the first id alone.
-    let p = table.seek(RecordKind::Class, class, 0)?;
+    let p = table.seek(RecordKind::Class as u8, class, 0)?;
     known_id(id_at(t, p.at + 3))
 }
 
@@ -33,7 +33,7 @@ pub fn class_number(table: &Table<'_>, class: u16) -> Option<usize>
     ensures { result ≡ number_by (rank_of table.now class) }
 {
     let first = NAME_BYTES * table.name_count();
-    let p = table.seek(RecordKind::Class, class, 0)?;
+    let p = table.seek(RecordKind::Class as u8, class, 0)?;
     Some((p.at - first) / CLASS_BYTES)
 }
 
@@ -41,7 +41,7 @@ pub fn class_number(table: &Table<'_>, class: u16) -> Option<usize>
 pub fn package_of(table: &Table<'_>, class: u16) -> Option<u16>
     ensures { result ≡ known_id ((symbols_of table.now).package_of class) }
 {
-    let p = table.seek(RecordKind::Class, class, 0)?;
+    let p = table.seek(RecordKind::Class as u8, class, 0)?;
     known_id(id_at(table.bytes(), p.at + 9))
 }
 
@@ -50,7 +50,7 @@ pub fn in_types(table: &Table<'_>, class: u16) -> bool
     ensures { result ≡ (symbols_of table.now).in_types class }
 {
     let t = table.bytes();
-    let p = table.seek(RecordKind::Class, class, 0);
+    let p = table.seek(RecordKind::Class as u8, class, 0);
     p.is_some_and(|p| byte_at(t, p.at + 11) == 1)
 }
 
@@ -59,7 +59,7 @@ pub fn operators_of(table: &Table<'_>, class: u16) -> Option<u16>
     ensures { optional result ≡ (symbols_of table.now).operators_of class }
 {
     // 0: of an operator set the key is the class alone.
-    let p = table.seek(RecordKind::Operators, class, 0)?;
+    let p = table.seek(RecordKind::Operators as u8, class, 0)?;
     Some(id_at(table.bytes(), p.at + 3))
 }
 
@@ -68,7 +68,7 @@ pub fn field_of(table: &Table<'_>, owner: u16, name: u16) -> Option<Part>
     ensures { result ≡ field_part table.now owner name }
 {
     let t = table.bytes();
-    let p = table.seek(RecordKind::Field, owner, name)?;
+    let p = table.seek(RecordKind::Field as u8, owner, name)?;
     let start = p.at + 5;
     let len = end_of(t, p) - start;
     Some(Part { start, len })
@@ -78,7 +78,7 @@ pub fn field_of(table: &Table<'_>, owner: u16, name: u16) -> Option<Part>
 pub fn visibility_of(table: &Table<'_>, owner: u16, name: u16) -> Option<Visibility>
     ensures { optional_level result ≡ (symbols_of table.now).visibility_of owner name }
 {
-    let p = table.seek(RecordKind::Visibility, owner, name)?;
+    let p = table.seek(RecordKind::Visibility as u8, owner, name)?;
     Some(Visibility::of_byte(byte_at(table.bytes(), p.at + 5)))
 }
 
@@ -88,7 +88,7 @@ pub fn is_suspend(table: &Table<'_>, owner: Option<u16>, name: u16) -> bool
     ensures { result ≡ (symbols_of table.now).is_suspend (id_number owner) name }
 {
     table
-        .seek(RecordKind::Suspend, id_number(owner), name)
+        .seek(RecordKind::Suspend as u8, id_number(owner), name)
         .is_some()
 }
 
@@ -97,7 +97,7 @@ pub fn is_suspend(table: &Table<'_>, owner: Option<u16>, name: u16) -> bool
 pub fn is_variant(table: &Table<'_>, owner: u16, name: u16) -> bool
     ensures { result ≡ (symbols_of table.now).is_variant owner name }
 {
-    table.seek(RecordKind::Variant, owner, name).is_some()
+    table.seek(RecordKind::Variant as u8, owner, name).is_some()
 }
 
 // A place in the list of functions of an owner and a name: at one of them, or at the list's end. A cursor of its own over the index's: that one speaks of the

@@ -42,9 +42,9 @@ pub fn put_two(n: usize, out: &mut [u8], at: usize)
     copy_in(out, at, &n.to_le_bytes()[..2]);
 }
 
-// Refuses: nothing is written.
+// Refuses with a fault of any type, a byte too: nothing is written.
 #[tactic(auto, unfolding(crate::specs::Output::written_of, crate::specs::Output::lent_after))]
-pub fn refuse(out: &mut [u8], fault: WriteFault) -> Result<usize, WriteFault>
+pub fn refuse<F>(out: &mut [u8], fault: F) -> Result<usize, F>
     ensures { Writes (refused fault) result out.old out.new }
 {
     out.fill(0);

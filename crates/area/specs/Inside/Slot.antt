@@ -1,4 +1,4 @@
--- Where the types of a question's nodes are kept while it is judged: a slot of 256 bytes for each, seen as the list of the types that they hold.
+-- Where the types of a question's nodes are kept while it is judged: a slot for each, of 256 bytes in the judge, seen as the list of the types that they hold.
 -- Node n's type is in slot n. Document 01: at most 64 nodes ("Table and question"), a type in 256 bytes ("Answer").
 use Rattle.std.specs.Prelude.{ℕ, ◌≤◌, ◌<◌, ◌≡◌, List, [], ◌∷◌, length, get_or}
 use Rattle.ty.specs.Bytes.{Ty}

@@ -1,6 +1,6 @@
 -- What the node judge and the argument-row judge ask, and what they leave.
 use Rattle.std.specs.Prelude.{ℕ, ◌+◌, ◌*◌, ◌≤◌, leb, length, List, [], ◌++◌, ◌≡◌}
-use Rattle.area.specs.Inside.Slot.{slot_count}
+use Rattle.area.specs.Inside.Slot.{slot_count, slot_size}
 use Rattle.area.specs.declared.reports.Reports.{Reports}
 use Rattle.overload.specs.Inside.Tally.{most_diagnostics}
 use Rattle.nodes.specs.Inside.SlotsFilled.{SlotsFilled}
@@ -108,7 +108,7 @@ JudgesRow table q H s n ts ts' b b' r = (x : RowAsked q s b 0 n) → RowIs table
 abbrev pub CallFits : Slice → Slice → Header → ℕ → ℕ → ℕ → State → ℕ → List Ty → Reports → Type 0
 CallFits table q H owner id node s n ts b =
     (row : RowJudged) (ts' : List Ty) (b' : Reports) → Space q ts' → JudgesRow table q H s n ts ts' b b' row
-    → CallAsked ts' node b' (verdict_at table ts' owner id node row)
+    → CallAsked slot_size ts' node b' (verdict_at table ts' owner id node row)
 
 -- The n trees at s are judged, and then the call at `node`: in between the slots hold `held`, and the lent buffer is `told`.
 pub record CallIs (t q : List ℕ) (H : Header) (owner id node : ℕ) (s : State) (n : ℕ) (ts ts' : List Ty) (b b' : Reports) (r : State) : Type 0 where

@@ -5,7 +5,6 @@ use Rattle.std.proofs.Math.Option.{Option, none, some}
 use Rattle.area.specs.Diagnostic.{Diag, count_limit}
 use Rattle.area.specs.Reported.{reported}
 use Rattle.area.specs.declared.reports.Reports.{Reports}
-use Rattle.area.specs.Inside.Slot.{slot_size}
 use Rattle.nodes.specs.Inside.Progress.{Finished}
 use Rattle.nodes.specs.Inside.Row.{id_of}
 use Rattle.ty.specs.Slice.{Slice}
@@ -56,11 +55,11 @@ pub record Begun (owner node : ℕ) (found : Option Callee) (b b' : Reports) (r 
   pub list : r ≡ list_found owner found
   pub reports : b' ≡ reported b (before_at node found)
 
--- there is room for what a call gives and reports
-pub record CallAsked (ts : List Ty) (node : ℕ) (b : Reports) (v : Verdict) : Type 0 where
+-- there is room for what a call gives, n bytes of type, and reports
+pub record CallAsked (n : ℕ) (ts : List Ty) (node : ℕ) (b : Reports) (v : Verdict) : Type 0 where
   pub room : node < length ts
   pub few : b.count + most_diagnostics ≤ count_limit
-  pub short : length v.ty ≤ slot_size
+  pub short : length v.ty ≤ n
   pub most : length v.diags ≤ most_diagnostics
 
 -- what a call, a method call on an owner, and one on an object of the type t find in a table

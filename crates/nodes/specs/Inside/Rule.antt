@@ -1,7 +1,7 @@
 -- What the work at a leaf, an operator or a member asks, and what it gives.
 use Rattle.std.specs.Prelude.{ℕ, ◌+◌, ◌≤◌, ◌<◌, length, take, drop, List}
 use Rattle.area.specs.Diagnostic.{count_limit}
-use Rattle.area.specs.Inside.Slot.{Child, slot_count, slot_size, type_at}
+use Rattle.area.specs.Inside.Slot.{Child, slot_count, type_at}
 use Rattle.area.specs.declared.reports.Reports.{Reports}
 use Rattle.nodes.specs.Inside.Progress.{Finished}
 use Rattle.ty.specs.Slice.{Slice}
@@ -17,21 +17,20 @@ use Rattle.operators.specs.Unary.{unary_out}
 use Rattle.operators.specs.declared.ruled.Ruled.{Ruled}
 use Rattle.symbol.specs.Lookup.{symbols_of}
 use Rattle.ty.specs.Bytes.{Ty}
-use Rattle.ty.specs.Read.{longest_type}
 
--- a leaf whose type has so many bytes stands at s, and there is a slot for it
-pub record LeafAsked (q : List ℕ) (ts : List Ty) (len : ℕ) (s : State) : Type 0 where
+-- a leaf whose type has so many bytes stands at s, and there is a slot for it, of n bytes
+pub record LeafAsked (n : ℕ) (q : List ℕ) (ts : List Ty) (len : ℕ) (s : State) : Type 0 where
   pub room : s.node < length ts
   pub number : s.node < slot_count
-  pub short : len ≤ longest_type
+  pub short : len ≤ n
   pub there : s.at + 1 + len ≤ length q
   pub long : length q ≤ longest_question
 
--- the operands of `node` lie in slots that can be read, and there is room for what a rule gives and reports
-pub record RuleAsked (ts : List Ty) (node second : ℕ) (b : Reports) (o : Out) : Type 0 where
+-- the operands of `node` lie in slots that can be read, and there is room for what a rule gives, n bytes of type, and reports
+pub record RuleAsked (n : ℕ) (ts : List Ty) (node second : ℕ) (b : Reports) (o : Out) : Type 0 where
   pub left : Child ts node (node + 1)
   pub right : Child ts node second
-  pub short : length o.ty ≤ slot_size
+  pub short : length o.ty ≤ n
   pub few : b.count + 2 ≤ count_limit
 
 -- the type of len bytes of the leaf that stands at s

@@ -6,7 +6,6 @@ use Rattle.index.specs.Inside.Found.{Found}
 use Rattle.operators.specs.Operand.{is_kind}
 use Rattle.operators.specs.Operator.{ge_op}
 use Rattle.operators.specs.OperatorMethod.{method_id, has_operator}
-use Rattle.ty.specs.declared.Kind.TheVariants.{Any}
 use Rattle.area.specs.declared.Source.TheVariants.{Kind, Part}
 use Rattle.area.specs.declared.Source.{Source}
 use Rattle.symbol.specs.Inside.FunctionFields.{function_at}
@@ -14,13 +13,13 @@ use Rattle.symbol.specs.Inside.Places.{first_place, function_places}
 use Rattle.symbol.specs.Lookup.{symbols_of}
 use Rattle.ty.specs.Bytes.{Ty, name_of}
 use Rattle.ty.specs.Choose.{choose}
-use Rattle.ty.specs.Kind.{named_kind}
+use Rattle.ty.specs.Kind.{any_kind, named_kind}
 use Rattle.ty.specs.Name.{no_id}
 
 module _ (t : List ℕ) where
   -- the result type of a function that was looked for, and Any where there is none
   abbrev pub result_place : Found → Source
-  result_place None = Kind Any
+  result_place None = Kind any_kind
   result_place (Some p) = Part (function_at t p).result
 
   -- of the first function of a class and a name

@@ -1,28 +1,26 @@
 -- The structs of a rule's answer, field by field. A lone report stands in the second place, but where a rule says otherwise.
 use Rattle.std.specs.Prelude.{ℕ, Bool, Option, None, Some, option_map}
-use Rattle.area.specs.declared.DiagnosticKind.{DiagnosticKind}
-use Rattle.ty.specs.declared.Kind.TheVariants.{Error}
-use Rattle.ty.specs.declared.Kind.{Kind}
 use Rattle.area.specs.declared.Source.TheVariants as source
 use Rattle.area.specs.declared.Source.{Source}
 use Rattle.operators.specs.declared.ruled.Diagnostic.{Diagnostic}
 use Rattle.operators.specs.declared.ruled.OneReport.{OneReport}
 use Rattle.operators.specs.declared.ruled.Ruled.{Ruled}
 use Rattle.ty.specs.Choose.{choose}
+use Rattle.ty.specs.Kind.{error_kind}
 
 -- ---- a diagnostic
-abbrev pub diagnostic : DiagnosticKind → ℕ → Diagnostic
+abbrev pub diagnostic : ℕ → ℕ → Diagnostic
 diagnostic kind number = record { kind = kind; number = number }
 
-abbrev pub some_report : DiagnosticKind → ℕ → Option Diagnostic
+abbrev pub some_report : ℕ → ℕ → Option Diagnostic
 some_report kind number = Some (diagnostic kind number)
 
 -- a report unless a test holds
-unfoldable pub report_unless : Bool → DiagnosticKind → ℕ → Option Diagnostic
+unfoldable pub report_unless : Bool → ℕ → ℕ → Option Diagnostic
 report_unless ok kind number = choose ok None (some_report kind number)
 
 -- ---- where the type comes from, and at most one report, without a number
-abbrev pub one_report : Source → Option DiagnosticKind → OneReport
+abbrev pub one_report : Source → Option ℕ → OneReport
 one_report source kind = record { source = source; kind = kind }
 
 -- nothing is reported
@@ -30,15 +28,15 @@ unfoldable pub clean_one : Source → OneReport
 clean_one source = one_report source None
 
 -- the type of a kind without body, and nothing is reported
-unfoldable pub plain_one : Kind → OneReport
+unfoldable pub plain_one : ℕ → OneReport
 plain_one kind = clean_one (source.Kind kind)
 
 -- Error, and a report
-unfoldable pub fails_one : DiagnosticKind → OneReport
-fails_one kind = one_report (source.Kind Error) (Some kind)
+unfoldable pub fails_one : ℕ → OneReport
+fails_one kind = one_report (source.Kind error_kind) (Some kind)
 
 -- a report unless a test holds
-unfoldable pub checked_one : Bool → Source → DiagnosticKind → OneReport
+unfoldable pub checked_one : Bool → Source → ℕ → OneReport
 checked_one ok source kind = choose ok (clean_one source) (one_report source (Some kind))
 
 -- ---- a rule's answer

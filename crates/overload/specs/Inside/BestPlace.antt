@@ -2,7 +2,7 @@
 use Rattle.std.specs.Prelude.{ℕ, suc, List, [], ◌∷◌, eqb, ltb}
 use Rattle.std.proofs.Math.Option.{Option, none, some}
 use Rattle.ty.specs.Choose.{choose}
-use Rattle.ty.specs.declared.Kind.TheVariants.{Error}
+use Rattle.ty.specs.Kind.{error_kind}
 use Rattle.symbol.specs.Lookup.{symbols_of}
 use Rattle.symbol.specs.Inside.LookupAnswer.{overload_at}
 use Rattle.symbol.specs.Inside.FunctionFields.{function_at}
@@ -37,7 +37,7 @@ result_at t p = Part (function_at t p).result
 
 -- Error
 abbrev pub error_source : Source
-error_source = Kind Error
+error_source = Kind error_kind
 
 -- where the type of a call comes from, whose overloads that fit stand at some places, the best of them being known
 unfoldable pub source_of : List ℕ → List Place → BestPlace → Source

@@ -14,7 +14,6 @@ use Rattle.record.specs.RecordKind.{record_kind_number}
 use Rattle.record.specs.declared.front.Head.{Head}
 use Rattle.record.specs.declared.params.Reading.{Reading}
 use Rattle.record.specs.declared.params.ReadFault.{ReadFault}
-use Rattle.record.specs.declared.params.ReadFault.TheVariants.{Broken, Endless as without_end}
 
 pub record Front : Type 0 where
   pub kind : ℕ  -- of a malformed or cut record 0
@@ -116,15 +115,31 @@ pub record Run : Type 0 where
 abbrev pub run_of : Reading → Run
 run_of c = record { len = c.len; top = c.top; repeated = c.repeated; error = c.error; state = 0; count = c.count; names = c.names }
 
--- what it answers
+-- what it keeps of a reading, the state aside
+abbrev pub reading_of : Run → Reading
+reading_of c = record { len = c.len; top = c.top; repeated = c.repeated; error = c.error; count = c.count; names = c.names }
+
+-- what it answers: the reading, and where it has ended its state
 unfoldable pub reading_answer : Run → Result Reading ReadFault
-reading_answer c =
-    choose (eqb c.state 0) (Ok (record { len = c.len; top = c.top; repeated = c.repeated; error = c.error; count = c.count; names = c.names }))
-    (choose (eqb c.state 2) (Err (without_end c.top c.repeated)) (Err Broken))
+reading_answer c = choose (eqb c.state 0) (Ok (reading_of c)) (Err (record { read = reading_of c; state = c.state }))
 
 -- a reading that meets malformed or cut bytes
 abbrev pub stopped : Run → Run
 stopped c = record { len = c.len; top = c.top; repeated = c.repeated; error = c.error; state = 1; count = c.count; names = c.names }
+
+-- the reading that an answer tells
+abbrev pub answered_run : Result Reading ReadFault → Run
+answered_run (Ok c) = run_of c
+answered_run (Err f) =
+    record {
+      len = f.read.len;
+      top = f.read.top;
+      repeated = f.read.repeated;
+      error = f.read.error;
+      state = f.state;
+      count = f.read.count;
+      names = f.read.names;
+    }
 
 -- one parameter more, of the name id, whose type was read so, and ends len bytes from the record's first
 abbrev pub param_read : Run → ℕ → ℕ → ℕ → Bool → ℕ → Run
@@ -187,6 +202,11 @@ param_step s c =
     (choose (ltb (length s - c.len) 3) (stopped c)
     (choose (ltb 3 (get_or s (c.len + 2) 0)) (stopped c) (param_with c (id_at s c.len) (read_type (drop (c.len + 3) s) longest_type))))
 
+-- what the code answers for that; it takes a reading that has ended whatever its state is
+unfoldable pub stepped : List ℕ → Result Reading ReadFault → Result Reading ReadFault
+stepped s (Ok c) = reading_answer (param_step s (run_of c))
+stepped s (Err f) = Err f
+
 unfoldable pub run_params : ℕ → List ℕ → Run → Run
 run_params zero s c = c
 run_params (suc n) s c = run_params n s (param_step s c)
@@ -222,9 +242,10 @@ function_with s c =
 abbrev pub typed_answer : List ℕ → ℕ → Result Reading ReadFault → Front
 typed_answer s kind (Ok c) =
     record { kind = kind; one = id_at s 1; two = id_at s 3; len = c.len; top = c.top; malformed = false; repeated = c.repeated; error = c.error }
-typed_answer s kind (Err (without_end top repeated)) =
-    record { kind = kind; one = id_at s 1; two = id_at s 3; len = length s; top = top; malformed = false; repeated = repeated; error = true }
-typed_answer s kind (Err Broken) = broken_head s
+typed_answer s kind (Err f) =
+    choose (eqb f.state 2)
+    (record { kind = kind; one = id_at s 1; two = id_at s 3; len = length s; top = f.read.top; malformed = false; repeated = f.read.repeated; error = true })
+    (broken_head s)
 
 unfoldable pub function_head : List ℕ → Front
 function_head s =

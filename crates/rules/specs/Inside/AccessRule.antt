@@ -1,7 +1,7 @@
 -- What the code of the access check reports, as a struct: `Access` and `Member` say which reports that is, and the laws `MemberRuling` that it is the same.
 use Rattle.std.specs.Prelude.{ℕ, Option, None}
 use Rattle.std.proofs.Math.Option as maybe
-use Rattle.area.specs.declared.DiagnosticKind.TheVariants.{Access}
+use Rattle.area.specs.DiagnosticKind.{access_diag}
 use Rattle.operators.specs.Inside.RuledParts.{some_report}
 use Rattle.operators.specs.Operand.{is_kind}
 use Rattle.operators.specs.declared.ruled.Diagnostic.{Diagnostic}
@@ -15,7 +15,7 @@ use Rattle.ty.specs.Kind.{named_kind}
 module _ (S : Symbols) (H : Header) where
   -- of a member of an owner, of a visibility
   unfoldable pub access_ruled : ℕ → ℕ → Option Diagnostic
-  access_ruled vis owner = choose (blocked S H vis owner) (some_report Access vis) None
+  access_ruled vis owner = choose (blocked S H vis owner) (some_report access_diag vis) None
 
   -- of a member that has a visibility
   unfoldable pub visibility_ruled : ℕ → maybe.Option ℕ → Option Diagnostic

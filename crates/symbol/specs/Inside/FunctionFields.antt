@@ -5,7 +5,6 @@ use Rattle.record.specs.Layout.{record_size}
 use Rattle.record.specs.Inside.Keyed.{type_length}
 use Rattle.index.specs.declared.index.Place.{Place}
 use Rattle.symbol.specs.Inside.ParamsRow.{part}
-use Rattle.symbol.specs.Visibility.{visibility_from}
 use Rattle.symbol.specs.declared.functions.Param.{Param}
 use Rattle.symbol.specs.declared.functions.Function.{Function}
 
@@ -29,7 +28,7 @@ abbrev pub function_sized : List ℕ → ℕ → ℕ → ℕ → Function
 function_sized t a e n =
     record {
       builtin = eqb (get_or t (a + 6) 0) 1;
-      visibility = visibility_from (get_or t (a + 5) 0);
+      visibility = get_or t (a + 5) 0;
       result = record { start = a + 8; len = n };
       params = params_laid t e (get_or t (a + 7) 0) (a + 8 + n);
     }

@@ -68,7 +68,7 @@ abbrev pub overload_in : List ℕ → Function → Overload
 overload_in t f =
     record {
       builtin = f.builtin;
-      visibility = visibility_number f.visibility;
+      visibility = f.visibility;
       params = params_in t f.params;
       result = take f.result.len (drop f.result.start t);
     }

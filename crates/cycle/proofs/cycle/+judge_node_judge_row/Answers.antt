@@ -10,7 +10,7 @@ use Rattle.cycle.proofs.cycle.+judge_node_judge_row.Goals as goal
 pub judge_node-judge_leaf-requires : goal.judge_node-judge_leaf-requires
 judge_node-judge_leaf-requires t c =
     let h = read_as _ _ c.in-Ok.ensures c.in-Leaf.is in
-    leaf_asked c.requires.1 c.requires.0 _ _ h
+    (omega arith, leaf_asked c.requires.1 c.requires.0 _ _ h)
 
 pub judge_node-inside-requires : goal.judge_node-inside-requires
 judge_node-inside-requires t c =
@@ -58,7 +58,7 @@ judge_node-judge_node-r-requires t c =
 pub judge_node-finish_binary-requires : goal.judge_node-finish_binary-requires
 judge_node-finish_binary-requires t c =
     let h = read_as _ _ c.in-Ok.ensures c.in-Binary.is in
-    binary_ready (record { clean = c.bytes-bytes.ensures.clean }) c.args.header c.requires.1 _ h c.inside.ensures c.judge_node-l.ensures (space_still (c.judge_node-r.auto.slots ∙ c.judge_node-l.auto.slots) c.requires.0) c.judge_node-r.ensures
+    (omega arith, binary_ready (record { clean = c.bytes-bytes.ensures.clean }) c.args.header c.requires.1 _ h c.inside.ensures c.judge_node-l.ensures (space_still (c.judge_node-r.auto.slots ∙ c.judge_node-l.auto.slots) c.requires.0) c.judge_node-r.ensures)
 
 pub judge_node-judge_node-x-requires : goal.judge_node-judge_node-x-requires
 judge_node-judge_node-x-requires t c =
@@ -69,7 +69,7 @@ judge_node-judge_node-x-requires t c =
 pub judge_node-finish_unary-requires : goal.judge_node-finish_unary-requires
 judge_node-finish_unary-requires t c =
     let h = read_as _ _ c.in-Ok.ensures c.in-Unary.is in
-    unary_ready (record { clean = c.bytes-bytes.ensures.clean }) c.args.header c.requires.1 _ h c.inside-in-Unary.ensures (space_still c.judge_node-x.auto.slots c.requires.0) c.judge_node-x.ensures
+    (omega arith, unary_ready (record { clean = c.bytes-bytes.ensures.clean }) c.args.header c.requires.1 _ h c.inside-in-Unary.ensures (space_still c.judge_node-x.auto.slots c.requires.0) c.judge_node-x.ensures)
 
 pub judge_node-judge_node-x-requires-in-Named : goal.judge_node-judge_node-x-requires-in-Named
 judge_node-judge_node-x-requires-in-Named t c =
@@ -80,7 +80,7 @@ judge_node-judge_node-x-requires-in-Named t c =
 pub judge_node-finish_named-requires : goal.judge_node-finish_named-requires
 judge_node-finish_named-requires t c =
     let h = read_as _ _ c.in-Ok.ensures c.in-Named.is in
-    named_ready (record { clean = c.bytes-bytes.ensures.clean }) c.args.header c.requires.1 _ h c.inside-in-Named.ensures (space_still c.judge_node-x-in-Named.auto.slots c.requires.0) c.judge_node-x-in-Named.ensures
+    (omega arith, named_ready (record { clean = c.bytes-bytes.ensures.clean }) c.args.header c.requires.1 _ h c.inside-in-Named.ensures (space_still c.judge_node-x-in-Named.auto.slots c.requires.0) c.judge_node-x-in-Named.ensures)
 
 pub judge_node-judge_node-x-requires-in-Member : goal.judge_node-judge_node-x-requires-in-Member
 judge_node-judge_node-x-requires-in-Member t c =
@@ -91,7 +91,7 @@ judge_node-judge_node-x-requires-in-Member t c =
 pub judge_node-finish_member-requires : goal.judge_node-finish_member-requires
 judge_node-finish_member-requires t c =
     let h = read_as _ _ c.in-Ok.ensures c.in-Member.is in
-    member_ready (record { clean = c.bytes-bytes.ensures.clean }) c.args.header c.requires.1 _ h c.inside-in-Member.ensures (space_still c.judge_node-x-in-Member.auto.slots c.requires.0) c.judge_node-x-in-Member.ensures
+    (omega arith, member_ready (record { clean = c.bytes-bytes.ensures.clean }) c.args.header c.requires.1 _ h c.inside-in-Member.ensures (space_still c.judge_node-x-in-Member.auto.slots c.requires.0) c.judge_node-x-in-Member.ensures)
 
 pub judge_node-begin_call-requires : goal.judge_node-begin_call-requires
 judge_node-begin_call-requires t c = few_reported c.requires.1
@@ -99,7 +99,7 @@ judge_node-begin_call-requires t c = few_reported c.requires.1
 pub judge_node-unlisted-requires : goal.judge_node-unlisted-requires
 judge_node-unlisted-requires t c =
     let h = read_as _ _ c.in-Ok.ensures c.in-Call.is in
-    (slot_room c.requires.1 c.requires.0, call_passed (record { clean = c.bytes-bytes.ensures.clean }) (calls_fit _ (record { clean = c.bytes-bytes.ensures.clean })) c.args.header c.requires.1 _ _ h c.inside-s.ensures c.begin_call.ensures c.if-not-begin_call.true)
+    (omega arith, (slot_room c.requires.1 c.requires.0, omega arith, call_passed (record { clean = c.bytes-bytes.ensures.clean }) (calls_fit _ (record { clean = c.bytes-bytes.ensures.clean })) c.args.header c.requires.1 _ _ h c.inside-s.ensures c.begin_call.ensures c.if-not-begin_call.true))
 
 pub judge_node-returns-then-not-begin_call : goal.judge_node-returns-then-not-begin_call
 judge_node-returns-then-not-begin_call t c =
@@ -132,12 +132,12 @@ judge_node-judge_node-x-requires-in-Method t c =
 pub judge_node-begin_method-requires : goal.judge_node-begin_method-requires
 judge_node-begin_method-requires t c =
     let h = read_as _ _ c.in-Ok.ensures c.in-Method.is in
-    (node_room c.requires.1, object_few (record { clean = c.bytes-bytes.ensures.clean }) (calls_fit _ (record { clean = c.bytes-bytes.ensures.clean })) c.args.header c.requires.1 _ _ h c.inside-in-Method.ensures c.judge_node-x-in-Method.ensures)
+    (omega arith, (node_room c.requires.1, object_few (record { clean = c.bytes-bytes.ensures.clean }) (calls_fit _ (record { clean = c.bytes-bytes.ensures.clean })) c.args.header c.requires.1 _ _ h c.inside-in-Method.ensures c.judge_node-x-in-Method.ensures))
 
 pub judge_node-unlisted-requires-in-None : goal.judge_node-unlisted-requires-in-None
 judge_node-unlisted-requires-in-None t c =
     let h = read_as _ _ c.in-Ok.ensures c.in-Method.is in
-    (slot_still c.requires.1 c.requires.0 c.judge_node-x-in-Method.auto.slots, method_passed (record { clean = c.bytes-bytes.ensures.clean }) (calls_fit _ (record { clean = c.bytes-bytes.ensures.clean })) c.args.header c.requires.1 _ _ h c.inside-in-Method.ensures c.judge_node-x-in-Method.ensures c.requires.0 c.begin_method.ensures c.in-None.is)
+    (omega arith, (slot_still c.requires.1 c.requires.0 c.judge_node-x-in-Method.auto.slots, omega arith, method_passed (record { clean = c.bytes-bytes.ensures.clean }) (calls_fit _ (record { clean = c.bytes-bytes.ensures.clean })) c.args.header c.requires.1 _ _ h c.inside-in-Method.ensures c.judge_node-x-in-Method.ensures c.requires.0 c.begin_method.ensures c.in-None.is))
 
 pub judge_node-returns-in-None : goal.judge_node-returns-in-None
 judge_node-returns-in-None t c =
@@ -212,4 +212,4 @@ judge_row-returns t c =
     λ x. rw c.new-args.ensures at (turn_last (c.loop-k.invariant.2 x) c.loop-k-test.false)
 
 pub judge_call-finish_call-requires : goal.judge_call-finish_call-requires
-judge_call-finish_call-requires t c = c.requires.2 _ _ _ (space_still c.judge_row-row.auto.slots c.requires.0) c.judge_row-row.ensures
+judge_call-finish_call-requires t c = (omega arith, c.requires.2 _ _ _ (space_still c.judge_row-row.auto.slots c.requires.0) c.judge_row-row.ensures)

@@ -10,7 +10,7 @@ use Rattle.symbol.specs.Symbols.{Overload}
 use Rattle.overload.proofs.calls.settle.Goals as goal
 
 pub returns-then-w-eq1-clause-reports : goal.returns-then-w-eq1-clause-reports
-returns-then-w-eq1-clause-reports c = let s = c.args in
+returns-then-w-eq1-clause-reports g c = let s = c.args in
     let xs = args_in s.slots.now s.args.now in
     let read = read_is _ _ c.requires.0 _ (rw (c.bytes.ensures.bytes, c.table.ensures) at c.read_function-f.ensures) in
     reported_as _

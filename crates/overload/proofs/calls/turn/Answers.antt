@@ -3,13 +3,13 @@ use Rattle.std.proofs.Common.{sym, ◌∙◌}
 use Rattle.overload.proofs.calls.turn.Goals as goal
 
 pub returns-clause-tally : goal.returns-clause-tally
-returns-clause-tally c = let s = c.args in
+returns-clause-tally g c = let s = c.args in
     tally_one _ _ _ _ s.reports.now _
     (turn_fits s.above.now _ _ s.p c.requires.0 s.f.now c.requires.1 c.if-own-f.false (sym (rw c.len.ensures.value at (c.viable.ensures s.above.now)) ∙ c.if-not-viable.false))
     _ c.take_one.ensures.tally
 
 pub returns-clause-reports : goal.returns-clause-reports
-returns-clause-reports c = let s = c.args in
+returns-clause-reports g c = let s = c.args in
     told_one _ _ s.w _ _ _
     (turn_fits s.above.now _ _ s.p c.requires.0 s.f.now c.requires.1 c.if-own-f.false (sym (rw c.len.ensures.value at (c.viable.ensures s.above.now)) ∙ c.if-not-viable.false))
     _ c.take_one.ensures.reports

@@ -3,4 +3,4 @@ use Rattle.symbol.specs.Lookup.{symbols_of}
 use Rattle.overload.proofs.reports.mismatches.Given as goal
 
 abbrev pub invariant-loop-i : goal.invariant-loop-i
-invariant-loop-i l = MismatchFrom (symbols_of l.above) l.above l.params l.marks l.slots l.x-items l.initial.reports l.reports l.next l.i
+invariant-loop-i g l = MismatchFrom (symbols_of l.above) l.above l.params l.marks l.slots l.x-items l.initial.reports l.reports l.next l.i

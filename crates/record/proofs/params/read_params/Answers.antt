@@ -7,7 +7,7 @@ use Rattle.std.proofs.Common.{Err}
 use Rattle.std.proofs.lemmas.Result.{err_from_is_err_and}
 use Rattle.record.proofs.Own.{run_ended}
 use Rattle.record.proofs.ParamSteps.{answer_whole, answer_first, answer_ok, answer_err, param_onward, first-inside, run_step, run_last}
-use Rattle.record.specs.Inside.Front.{Run, run_of, reading_answer, param_step, run_params, first_reading, params_read}
+use Rattle.record.specs.Inside.Front.{Run, run_of, reading_answer, param_step, stepped, run_params, first_reading, params_read}
 use Rattle.record.specs.declared.params.ReadFault.{ReadFault}
 use Rattle.record.proofs.params.read_params.Goals as goal
 
@@ -37,12 +37,14 @@ pub step-requires : goal.step-requires
 step-requires c = (c.loop-n.invariant.1, omega arith)
 
 pub returns-in_err-c-2 : goal.returns-in_err-c-2
+unfolding stepped
 returns-in_err-c-2 c =
     let p = err_from_is_err_and c.from_residual-in_err-c-2.result c.from_residual-in_err-c-2.ensures.1 in
     rw (p.1, p.2) (ended _ c.args.s.now (param_step c.args.s.now (run_of c.loop-n.c)) c.in_err-c-2.field-0.0 c.in_err-c-2.ensures
     ∙ ap reading_answer (sym (run_step _ _ _ _ c.loop-n-test.true) ∙ c.loop-n.invariant.0))
 
 pub loop-n-preserved : goal.loop-n-preserved
+unfolding stepped
 loop-n-preserved c =
     let e = answer_ok (param_step c.args.s.now (run_of c.loop-n.c)) c.in_ok-c-2.c (sym c.in_ok-c-2.ensures) in
     let o = rw (← e) at (param_onward c.args.s.now (run_of c.loop-n.c) c.loop-n.invariant.1) in (

@@ -2,5 +2,5 @@ use Rattle.scoring.proofs.Scores.{named_next}
 use Rattle.scoring.proofs.score.named_pass.Goals as goal
 
 pub loop-a-preserved : goal.loop-a-preserved
-loop-a-preserved c = let e = c.as_slice-a-items.ensures.value in
+loop-a-preserved g c = let e = c.as_slice-a-items.ensures.value in
     named_next _ _ _ _ _ _ c.loop-a.invariant _ _ _ (rw e at c.loop-a-test.true) (rw e at c.type_of.ensures) (rw e at c.named_turn-m.ensures)

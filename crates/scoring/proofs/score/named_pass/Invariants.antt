@@ -2,4 +2,4 @@ use Rattle.scoring.proofs.Scores.{NamedFrom}
 use Rattle.scoring.proofs.score.named_pass.Given as goal
 
 abbrev pub invariant-loop-a : goal.invariant-loop-a
-invariant-loop-a l = NamedFrom l.above l.params l.slots l.args l.m l.a-index
+invariant-loop-a g l = NamedFrom l.above l.params l.slots l.args l.m l.a-index

@@ -1,7 +1,5 @@
-use mathlib.Core.Path.{ap, ◌∙◌}
 use native.Mathlib.Omega.{arith}
 use Rattle.symbol.proofs.FunctionsRead.{function-long, function-inside, function_room, function-count, function_row, function-fields}
-use Rattle.symbol.specs.Visibility.{visibility_from}
 use Rattle.symbol.proofs.functions.read_whole.Goals as goal
 
 pub type_length-len-requires : goal.type_length-len-requires
@@ -31,5 +29,5 @@ read_params-params-requires c = (
 
 pub returns : goal.returns
 returns c = function-fields c.args.t.now c.args.p c.requires.0 c.args.end c.requires.1 c.type_length-len.result c.type_length-len.ensures
-    c.byte_at.result c.byte_at.ensures c.of_byte.result c.byte_at-2.result (c.of_byte.ensures ∙ ap visibility_from c.byte_at-3.ensures) c.byte_at-2.ensures
-    c.read_params-params.result c.read_params-params.ensures
+    c.byte_at.result c.byte_at.ensures c.byte_at-3.result c.byte_at-2.result c.byte_at-3.ensures c.byte_at-2.ensures c.read_params-params.result
+    c.read_params-params.ensures
